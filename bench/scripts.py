@@ -9,7 +9,9 @@ import sys
 from dataclasses import dataclass
 
 # The environment of counted runs: a frame is zeroed and copied by vectors, as valgrind counts each byte of `rep stosb`.
-BY_VECTORS = {"GLIBC_TUNABLES": "glibc.cpu.x86_rep_stosb_threshold=2147483647:glibc.cpu.x86_rep_movsb_threshold=2147483647"}
+BY_VECTORS = {
+    "GLIBC_TUNABLES": "glibc.cpu.x86_rep_stosb_threshold=2147483647:glibc.cpu.x86_rep_movsb_threshold=2147483647"
+}
 LIMIT = 16_777_216
 FIRST_PAGE = 0x40000
 REGION = 1024
@@ -34,6 +36,7 @@ def accesses():
 
 def maps():
     """Pages of three regions are mapped and unmapped, eight of them mapped at a time."""
+
     def page(i):
         return FIRST_PAGE + i % 3 * REGION + i * 7 % 500
 
@@ -156,7 +159,9 @@ def exits_beside(others):
 def loads(processes):
     """Each process but 0 loads from a page of its own in turn."""
     first = family(processes) + "".join(store(1 + i, FIRST_PAGE, i) for i in range(processes))
-    return Round(MOST_FRAMES, first, "".join(call(1 + i, f"load {FIRST_PAGE * 4096:x} 4") for i in range(processes)), processes)
+    return Round(
+        MOST_FRAMES, first, "".join(call(1 + i, f"load {FIRST_PAGE * 4096:x} 4") for i in range(processes)), processes
+    )
 
 
 def held(holders):

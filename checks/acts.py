@@ -66,22 +66,27 @@ def peeked(state, number, address, count):
 
 
 def loaded(state, number, address, data, write):
-    """Puts bytes into a process's pages, all or none: of each page the process's Map or Protect, the stores, and a Protect
-    if the page is to be read-only."""
+    """Puts bytes into a process's pages, all or none: of each page the process's Map or Protect, the stores,
+    and a Protect if the page is to be read-only."""
     if number >= machine.PROCESSES:
         return Reply("no event")
     process = state.live.get(number)
     pages = sorted({(address + place) >> 12 for place in range(len(data))})
     cells = {page: process.cell(page) for page in pages} if process else {}
     fresh = {page for page, cell in cells.items() if not cell}
-    for applies, cause in ((not process, "NoProcess"), (any(map(machine.bad, pages)), "BadPage"),
-                           (any(cell and not cell.may for cell in cells.values()), "Rights"),
-                           (process and process.cost_of(fresh) > state.room(number), "Quota")):
+    for applies, cause in (
+        (not process, "NoProcess"),
+        (any(map(machine.bad, pages)), "BadPage"),
+        (any(cell and not cell.may for cell in cells.values()), "Rights"),
+        (process and process.cost_of(fresh) > state.room(number), "Quota"),
+    ):
         if applies:
             return Reply("refused", (cause,))
     for page in pages:
         run = [] if cells[page] and cells[page].write else [("map" if page in fresh else "protect", [page, 1])]
-        run += [("store", [address + place, 1, byte]) for place, byte in enumerate(data) if (address + place) >> 12 == page]
+        run += [
+            ("store", [address + place, 1, byte]) for place, byte in enumerate(data) if (address + place) >> 12 == page
+        ]
         run += [] if write else [("protect", [page, 0])]
         if any(machine.step(state, Event(0, number, *event)) != DONE for event in run):
             return Reply("stopped", (page,))

@@ -6,7 +6,14 @@ import shutil
 import subprocess
 import tempfile
 
-WORDS = ["chromium", "--headless=new", "--no-sandbox", "--disable-gpu", "--remote-debugging-pipe", "--window-size=1400,1000"]
+WORDS = [
+    "chromium",
+    "--headless=new",
+    "--no-sandbox",
+    "--disable-gpu",
+    "--remote-debugging-pipe",
+    "--window-size=1400,1000",
+]
 
 
 class Browser:
@@ -16,9 +23,13 @@ class Browser:
         self.profile = tempfile.mkdtemp()
         read, self.to = os.pipe()
         self.back, write = os.pipe()
-        self.run = subprocess.Popen([*WORDS, f"--user-data-dir={self.profile}", "about:blank"], close_fds=False,
-                                    preexec_fn=lambda: to_3_and_4(read, write), stdout=subprocess.DEVNULL,
-                                    stderr=subprocess.DEVNULL)
+        self.run = subprocess.Popen(
+            [*WORDS, f"--user-data-dir={self.profile}", "about:blank"],
+            close_fds=False,
+            preexec_fn=lambda: to_3_and_4(read, write),
+            stdout=subprocess.DEVNULL,
+            stderr=subprocess.DEVNULL,
+        )
         os.close(read)
         os.close(write)
         self.asked, self.rest, self.session = 0, b"", {}
@@ -51,7 +62,7 @@ class Browser:
         self.asked += 1
         request = json.dumps({"id": self.asked, "method": method, "params": params, **self.session}).encode() + b"\0"
         while request:
-            request = request[os.write(self.to, request):]
+            request = request[os.write(self.to, request) :]
         while (answer := self.told()).get("id") != self.asked:
             pass
         if "error" in answer:
@@ -81,7 +92,10 @@ class Browser:
         self.ask("Emulation.setDeviceMetricsOverride", width=width, height=height, deviceScaleFactor=1, mobile=False)
 
     def dark(self, on):
-        self.ask("Emulation.setEmulatedMedia", features=[{"name": "prefers-color-scheme", "value": "dark" if on else "light"}])
+        self.ask(
+            "Emulation.setEmulatedMedia",
+            features=[{"name": "prefers-color-scheme", "value": "dark" if on else "light"}],
+        )
 
     def shot(self):
         """A picture of the page, as PNG."""

@@ -8,9 +8,15 @@ SECONDS = 3600
 
 def blocks(text):
     """For each block of code that has a command or is a script: the text of the comment before it, and its lines."""
-    fenced = re.finditer(r"(?:<!-- (.*?) -->\n+)?^```\w*\n(.*?)^```$|(?:<!-- (.*?) -->\n+)?((?:^    [^\n]*\n|^\n(?=    ))+)", text, re.S | re.M)
+    fenced = re.finditer(
+        r"(?:<!-- (.*?) -->\n+)?^```\w*\n(.*?)^```$|(?:<!-- (.*?) -->\n+)?((?:^    [^\n]*\n|^\n(?=    ))+)",
+        text,
+        re.S | re.M,
+    )
     for found in fenced:
-        said, lines = (found[1], found[2]) if found[2] is not None else (found[3], re.sub(r"^    ", "", found[4], flags=re.M))
+        said, lines = (
+            (found[1], found[2]) if found[2] is not None else (found[3], re.sub(r"^    ", "", found[4], flags=re.M))
+        )
         if said == "script" or re.search(r"^\$ ", lines, re.M):
             yield said or "", lines
 
@@ -46,8 +52,10 @@ def ran(folder, asked, environment=None):
     how = {"cwd": folder, "env": environment, "stdin": subprocess.DEVNULL, "stdout": subprocess.PIPE}
     how |= {"stderr": subprocess.STDOUT, "text": True, "errors": "replace"}
     said = subprocess.run(["bash", "-c", script], timeout=SECONDS, **how).stdout
-    return [(text[:-1] if text.endswith("\n\n") or text == "\n" else text, int(status), int(at))
-            for text, status, at in re.findall(rf"(.*?){MARK} (\d+) (\d+)\n", said, re.S)]
+    return [
+        (text[:-1] if text.endswith("\n\n") or text == "\n" else text, int(status), int(at))
+        for text, status, at in re.findall(rf"(.*?){MARK} (\d+) (\d+)\n", said, re.S)
+    ]
 
 
 def without_which(text):

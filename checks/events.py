@@ -17,8 +17,18 @@ STYLES = {
     "full": {"map": 50, "store": 20, "unmap": 3, "spawn": 3, "exit": 1},
     "churn": {"map": 20, "unmap": 20, "exit": 8, "spawn": 8, "protect": 12, "info": 12},
 }
-EDGES = [FIRST_PAGE, FIRST_PAGE + 1, FIRST_PAGE + 1023, FIRST_PAGE + 1024, FIRST_PAGE + 2048, 0x80000,
-         LAST_PAGE - 1024, LAST_PAGE - 1023, LAST_PAGE - 1, LAST_PAGE]
+EDGES = [
+    FIRST_PAGE,
+    FIRST_PAGE + 1,
+    FIRST_PAGE + 1023,
+    FIRST_PAGE + 1024,
+    FIRST_PAGE + 2048,
+    0x80000,
+    LAST_PAGE - 1024,
+    LAST_PAGE - 1023,
+    LAST_PAGE - 1,
+    LAST_PAGE,
+]
 BEYOND = [FIRST_PAGE - 1, LAST_PAGE + 1, 0, 1, 0x3FC00, 0xF0400, 0xFFFFF]
 OFFSETS = [0, 0, 1, 2, 3, 4, 4092, 4093, 4094, 4095, 4095]
 ENDS = [0, 0xFFFFFFFF, 0xFFFFFFFE, 0xFFFFFFFD, 0x3FFFFFFD, 0x3FFFFFFF, 0xEFFFFFFE, 0xEFFFFFFD, 0xF0000000]
@@ -202,7 +212,7 @@ def without_pieces(items, size, fails, ends):
     """The items without each piece of that size that isn't needed for the failure."""
     place = 0
     while place < len(items) and time.time() < ends:
-        fewer = items[:place] + items[place + size:]
+        fewer = items[:place] + items[place + size :]
         if fewer and fails(fewer):
             items = fewer
         else:

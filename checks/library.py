@@ -12,16 +12,44 @@ from machine import Reply
 
 ROOT = Path(__file__).resolve().parent.parent
 sys.path.append(str(ROOT / "tools"))
-from wants import wants  # noqa: E402
+from wants import wants  # noqa: E402, F401 (for the checks that import this module)
 
 PROVED = ROOT / "crates" / "tower_c" / "out" / "libtower_c.a"
 IMAGES = ROOT / "crates" / "tower_images" / "out" / "libtower_images.a"
 HEADER = ROOT / "c" / "include" / "tower.h"
-NUMBERS = {"load": 0, "store": 1, "map": 2, "unmap": 3, "protect": 4, "info": 5, "offer": 6, "withdraw": 7,
-           "accept": 8, "spawn": 9, "exit": 10, "quota": 11, "fork": 12}
-CAUSES = {1: "NoProcess", 2: "BadPage", 4: "NotMapped", 5: "Mapped", 6: "Quota", 7: "Rights", 8: "SelfOffer",
-          9: "NoTarget", 10: "OfferPending", 11: "TooManyOffers", 12: "NoOffer", 13: "TableFull", 14: "BadQuota",
-          15: "HasChildren", 16: "RootExit", 17: "TooSmall"}
+NUMBERS = {
+    "load": 0,
+    "store": 1,
+    "map": 2,
+    "unmap": 3,
+    "protect": 4,
+    "info": 5,
+    "offer": 6,
+    "withdraw": 7,
+    "accept": 8,
+    "spawn": 9,
+    "exit": 10,
+    "quota": 11,
+    "fork": 12,
+}
+CAUSES = {
+    1: "NoProcess",
+    2: "BadPage",
+    4: "NotMapped",
+    5: "Mapped",
+    6: "Quota",
+    7: "Rights",
+    8: "SelfOffer",
+    9: "NoTarget",
+    10: "OfferPending",
+    11: "TooManyOffers",
+    12: "NoOffer",
+    13: "TableFull",
+    14: "BadQuota",
+    15: "HasChildren",
+    16: "RootExit",
+    17: "TooSmall",
+}
 KINDS = ["done", "value", "child", "info", "quota", "fault", "refused", "no event"]
 # How many numbers a reply of each kind has.
 TELLS = [0, 1, 1, 1, 3, 2, 1, 0]
@@ -34,37 +62,45 @@ class Tower(ctypes.Structure):
 
 class Numbers(ctypes.Structure):
     """The numbers of an event."""
-    _fields_ = [(name, ctypes.c_uint8) for name in ("cpu", "pid", "call", "flag")] + \
-               [(name, ctypes.c_uint32) for name in ("first", "second", "third")]
+
+    _fields_ = [(name, ctypes.c_uint8) for name in ("cpu", "pid", "call", "flag")] + [
+        (name, ctypes.c_uint32) for name in ("first", "second", "third")
+    ]
 
 
 class Answer(ctypes.Structure):
-    _fields_ = [(name, ctypes.c_uint32) for name in ("kind", "first", "second", "third")] + \
-               [(name, ctypes.c_bool) for name in ("write", "may", "accessed", "dirty")]
+    _fields_ = [(name, ctypes.c_uint32) for name in ("kind", "first", "second", "third")] + [
+        (name, ctypes.c_bool) for name in ("write", "may", "accessed", "dirty")
+    ]
 
 
 class End(ctypes.Structure):
     """How a walk ends."""
+
     _fields_ = [(name, ctypes.c_uint32) for name in ("kind", "frame", "code")]
 
 
 class Translations(ctypes.Structure):
     """The translations that an event ends."""
+
     _fields_ = [(name, ctypes.c_uint32) for name in ("kind", "pid", "first", "second")]
 
 
 class Page(ctypes.Structure):
     """The state of a page."""
-    _fields_ = [("holders", ctypes.c_uint32)] + \
-               [(name, ctypes.c_bool) for name in ("write", "may", "accessed", "dirty", "lazy")]
+
+    _fields_ = [("holders", ctypes.c_uint32)] + [
+        (name, ctypes.c_bool) for name in ("write", "may", "accessed", "dirty", "lazy")
+    ]
 
 
 class Processes(ctypes.Structure):
     """A list of processes."""
+
     _fields_ = [("count", ctypes.c_uint32), ("pids", ctypes.c_uint32 * machine.PROCESSES)]
 
     def listed(self):
-        return list(self.pids[:self.count])
+        return list(self.pids[: self.count])
 
 
 class Offer(ctypes.Structure):
@@ -81,18 +117,56 @@ class Block(ctypes.Structure):
 
 class Verdict(ctypes.Structure):
     """The verdict of a check."""
+
     _fields_ = [(name, ctypes.c_uint32) for name in ("number", "clause")]
 
 
 def built(folder, *archives):
     """The archives, and look.c with its heap, as one shared object, loaded."""
     made, c = os.path.join(folder, "library.so"), ROOT / "c"
-    subprocess.run(["gcc", "-shared", "-fPIC", "-O2", f"-I{c}/include", "-o", made, ROOT / "checks" / "look.c",
-                    "-Wl,--whole-archive", *archives, "-Wl,--no-whole-archive"], check=True)
+    subprocess.run(
+        [
+            "gcc",
+            "-shared",
+            "-fPIC",
+            "-O2",
+            f"-I{c}/include",
+            "-o",
+            made,
+            ROOT / "checks" / "look.c",
+            "-Wl,--whole-archive",
+            *archives,
+            "-Wl,--no-whole-archive",
+        ],
+        check=True,
+    )
     library = ctypes.CDLL(made)
-    for name in ("step", "step_ending", "ends", "run", "run_until", "read", "write", "next_page", "directory",
-                 "container", "role", "walk", "copy_frame", "memory", "children", "next_offer", "next_holder",
-                 "next_dirty", "peek", "clean", "end", "take_back", "load_bytes", "may_write"):
+    for name in (
+        "step",
+        "step_ending",
+        "ends",
+        "run",
+        "run_until",
+        "read",
+        "write",
+        "next_page",
+        "directory",
+        "container",
+        "role",
+        "walk",
+        "copy_frame",
+        "memory",
+        "children",
+        "next_offer",
+        "next_holder",
+        "next_dirty",
+        "peek",
+        "clean",
+        "end",
+        "take_back",
+        "load_bytes",
+        "may_write",
+    ):
         getattr(library, "tower_" + name).restype = ctypes.c_bool
     return library
 
@@ -112,7 +186,7 @@ def numbers_of(event):
 def operands_of(call, flag, first, second, third):
     """The operands that these numbers represent, or None if they are no event."""
     if call in ("load", "store"):
-        return [first, flag, second][:2 + (call == "store")] if flag in (1, 2, 4) else None
+        return [first, flag, second][: 2 + (call == "store")] if flag in (1, 2, 4) else None
     if call in ("offer", "accept", "withdraw") and second >= machine.PROCESSES:
         return None
     if call in ("map", "protect", "offer"):
@@ -132,13 +206,13 @@ def reply_of(answer):
     numbers = [answer.first, answer.second, answer.third]
     flags = [answer.write, answer.may, answer.accessed, answer.dirty]
     kind = KINDS[answer.kind] if answer.kind < len(KINDS) else None
-    if kind is None or any(numbers[TELLS[answer.kind]:]) or kind != "info" and any(flags):
+    if kind is None or any(numbers[TELLS[answer.kind] :]) or kind != "info" and any(flags):
         return Reply("no reply", (answer.kind, *numbers, *flags))
     if kind == "info":
         return Reply(kind, (*flags, numbers[0]))
     if kind == "refused":
         return Reply(kind, (CAUSES.get(numbers[0], numbers[0]),))
-    return Reply(kind, tuple(numbers[:TELLS[answer.kind]]))
+    return Reply(kind, tuple(numbers[: TELLS[answer.kind]]))
 
 
 def ended_of(told):
@@ -148,7 +222,7 @@ def ended_of(told):
         return machine.Ended("no ending", told.pid, (told.kind, told.first, told.second))
     if told.kind == 3:
         return machine.Ended("space", told.pid)
-    return machine.of_pages(told.pid, (told.first, told.second)[:told.kind])
+    return machine.of_pages(told.pid, (told.first, told.second)[: told.kind])
 
 
 def listed(array):
@@ -228,7 +302,7 @@ class Core:
         return self.words[1024 * frame + index]
 
     def page(self, frame):
-        return self.memory[4096 * frame:4096 * frame + 4096].tobytes()
+        return self.memory[4096 * frame : 4096 * frame + 4096].tobytes()
 
     def step(self, numbers):
         answer = Answer(99, 99, 99, 99, True, True, True, True)
@@ -259,7 +333,7 @@ class Core:
         count, carried = ctypes.c_size_t(len(events)), ctypes.c_size_t(99)
         asked, answers = (Numbers * len(events))(*map(numbers_of, events)), (Answer * len(events))()
         self.library.tower_run_until(ctypes.byref(self.handle), asked, count, answers, count, ctypes.byref(carried))
-        return [reply_of(answer) for answer in answers[:carried.value + 1]]
+        return [reply_of(answer) for answer in answers[: carried.value + 1]]
 
     def transfer(self, name, number, address, data):
         """Reads into these bytes, or writes them. Returns how many were copied, what stopped it, and the bytes."""
@@ -314,13 +388,15 @@ class Core:
     def peek(self, number, address, count):
         held, moved = (ctypes.c_uint8 * max(1, count))(), ctypes.c_size_t(99)
         self.acts("peek", number, address, held, ctypes.c_size_t(count), ctypes.byref(moved))
-        return bytes(held[:moved.value])
+        return bytes(held[: moved.value])
 
     def load_bytes(self, number, address, data, write):
         """The reply to a load of bytes into a process's pages."""
         told = Answer(99, 99, 99, 99, True, True, True, True)
         held = (ctypes.c_uint8 * max(1, len(data)))(*data)
-        self.acts("load_bytes", number, address, held, ctypes.c_size_t(len(data)), ctypes.c_bool(write), ctypes.byref(told))
+        self.acts(
+            "load_bytes", number, address, held, ctypes.c_size_t(len(data)), ctypes.c_bool(write), ctypes.byref(told)
+        )
         return reply_of(told)
 
     def may_write(self, numbers, frame):
@@ -344,7 +420,7 @@ class Core:
         lost, count = (Holder * max(1, places))(), ctypes.c_size_t(99)
         told = Answer(99, 99, 99, 99, True, True, True, True)
         self.acts("take_back", number, page, lost, ctypes.c_size_t(places), ctypes.byref(count), ctypes.byref(told))
-        return reply_of(told), [(it.pid, it.page) for it in lost[:count.value]]
+        return reply_of(told), [(it.pid, it.page) for it in lost[: count.value]]
 
     def walk(self, number, address, write):
         """The library's walk of a process, or None if it returns none."""

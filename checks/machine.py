@@ -21,6 +21,7 @@ class Event(NamedTuple):
 
 class Reply(NamedTuple):
     """A kind, as the first word of its line, and the values after it."""
+
     kind: str
     tells: tuple = ()
 
@@ -30,9 +31,11 @@ DONE = Reply("done")
 
 # Spaces and costs
 
+
 @dataclass(eq=False)
 class Group:
     """The slots that share a page, with its bytes. It is real if it has a frame of its own, otherwise lazy."""
+
     slots: set
     data: bytearray
     real: bool
@@ -50,6 +53,7 @@ class Cell:
 @dataclass
 class Process:
     """A live process. Its cells are keyed by region, and in each region by page."""
+
     parent: int
     quota: int
     regions: dict = field(default_factory=dict)
@@ -71,6 +75,7 @@ class Process:
 @dataclass
 class State:
     """The live processes by their numbers, and the right that goes with each offer (offerer, page, target)."""
+
     frames: int
     live: dict
     offers: dict = field(default_factory=dict)
@@ -114,6 +119,7 @@ def take(state, number, page):
 
 
 # Calls: one function each, of the state, the number of a live process, and the operands
+
 
 class Ends(Exception):
     """A refusal or a fault, with its reply."""
@@ -174,57 +180,56 @@ def store(state, number, address, size, value):
 
 def map_page(state, number, page, write):
     process = state.live[number]
-    refuse((bad(page), "BadPage"),
-           (process.cell(page), "Mapped"),
-           (process.cost_of({page}) > state.room(number), "Quota"))
+    refuse(
+        (bad(page), "BadPage"), (process.cell(page), "Mapped"), (process.cost_of({page}) > state.room(number), "Quota")
+    )
     put_zeros(state, number, page, write)
 
 
 def unmap(state, number, page):
-    refuse((bad(page), "BadPage"),
-           (not state.live[number].cell(page), "NotMapped"))
+    refuse((bad(page), "BadPage"), (not state.live[number].cell(page), "NotMapped"))
     take(state, number, page)
 
 
 def protect(state, number, page, write):
     cell = state.live[number].cell(page)
-    refuse((bad(page), "BadPage"),
-           (not cell, "NotMapped"),
-           (write and cell and not cell.may, "Rights"))
+    refuse((bad(page), "BadPage"), (not cell, "NotMapped"), (write and cell and not cell.may, "Rights"))
     cell.write = write
 
 
 def info(state, number, page):
     cell = state.live[number].cell(page)
-    refuse((bad(page), "BadPage"),
-           (not cell, "NotMapped"))
+    refuse((bad(page), "BadPage"), (not cell, "NotMapped"))
     return Reply("info", (cell.write, cell.may, cell.accessed, cell.dirty, len(cell.group.slots)))
 
 
 def offer(state, number, page, target, write):
     cell = state.live[number].cell(page)
-    refuse((bad(page), "BadPage"),
-           (not cell, "NotMapped"),
-           (target == number, "SelfOffer"),
-           (target not in state.live, "NoTarget"),
-           (write and cell and not cell.may, "Rights"),
-           ((number, page, target) in state.offers, "OfferPending"),
-           (sum(key[0] == number for key in state.offers) >= OFFERS, "TooManyOffers"))
+    refuse(
+        (bad(page), "BadPage"),
+        (not cell, "NotMapped"),
+        (target == number, "SelfOffer"),
+        (target not in state.live, "NoTarget"),
+        (write and cell and not cell.may, "Rights"),
+        ((number, page, target) in state.offers, "OfferPending"),
+        (sum(key[0] == number for key in state.offers) >= OFFERS, "TooManyOffers"),
+    )
     state.offers[number, page, target] = write
 
 
 def withdraw(state, number, page, target):
-    refuse((bad(page), "BadPage"),
-           ((number, page, target) not in state.offers, "NoOffer"))
+    refuse((bad(page), "BadPage"), ((number, page, target) not in state.offers, "NoOffer"))
     del state.offers[number, page, target]
 
 
 def accept(state, number, giver, its_page, page):
     process = state.live[number]
-    refuse((bad(page), "BadPage"),
-           ((giver, its_page, number) not in state.offers, "NoOffer"),
-           (process.cell(page), "Mapped"),
-           (process.cost_of({page}) > state.room(number), "Quota"))
+    refuse(
+        (bad(page), "BadPage"),
+        ((giver, its_page, number) not in state.offers, "NoOffer"),
+        (process.cell(page), "Mapped"),
+        (process.cost_of({page}) > state.room(number), "Quota"),
+    )
     write = state.offers.pop((giver, its_page, number))
     group = state.live[giver].cell(its_page).group
     group.real = True
@@ -232,10 +237,12 @@ def accept(state, number, giver, its_page, page):
 
 
 def spawn(state, number, quota_asked, least=0):
-    refuse((quota_asked == 0, "BadQuota"),
-           (len(state.live) == PROCESSES, "TableFull"),
-           (quota_asked < least, "TooSmall"),
-           (quota_asked > state.room(number), "Quota"))
+    refuse(
+        (quota_asked == 0, "BadQuota"),
+        (len(state.live) == PROCESSES, "TableFull"),
+        (quota_asked < least, "TooSmall"),
+        (quota_asked > state.room(number), "Quota"),
+    )
     child = min(set(range(PROCESSES)) - state.live.keys())
     state.live[child] = Process(number, quota_asked)
     return Reply("child", (child,))
@@ -250,8 +257,7 @@ def fork(state, number, quota_asked):
 
 
 def exit_process(state, number):
-    refuse((number == 0, "RootExit"),
-           (state.children(number), "HasChildren"))
+    refuse((number == 0, "RootExit"), (state.children(number), "HasChildren"))
     for page, cell in state.live[number].cells():
         cell.group.slots.discard((number, page))
     drop_offers(state, lambda giver, _, target: number in (giver, target))
@@ -263,9 +269,21 @@ def quota(state, number):
     return Reply("quota", (process.quota, process.cost(), state.given(number)))
 
 
-CALLS = {"load": load, "store": store, "map": map_page, "unmap": unmap, "protect": protect, "info": info,
-         "offer": offer, "withdraw": withdraw, "accept": accept, "spawn": spawn, "fork": fork,
-         "exit": exit_process, "quota": quota}
+CALLS = {
+    "load": load,
+    "store": store,
+    "map": map_page,
+    "unmap": unmap,
+    "protect": protect,
+    "info": info,
+    "offer": offer,
+    "withdraw": withdraw,
+    "accept": accept,
+    "spawn": spawn,
+    "fork": fork,
+    "exit": exit_process,
+    "quota": quota,
+}
 
 
 def step(state, event):
@@ -285,6 +303,7 @@ def way(event, reply):
 
 # Page words, and the walk
 
+
 def table_word(cell, frame):
     """The word of a cell. It has the frame of a real page; that of a lazy page is 0."""
     flags = 5 | cell.accessed << 5 | cell.may << 9 | cell.write << 11
@@ -293,6 +312,7 @@ def table_word(cell, frame):
 
 class Walk(NamedTuple):
     """How a walk ends: "frame" with its number, "fault" with its code, or "outside"."""
+
     kind: str
     number: int = 0
 
@@ -319,8 +339,10 @@ def walk(word, frames, directory, address, write):
 
 # Translations
 
+
 class Ended(NamedTuple):
     """The translations that an event ended: none, those of some pages of a process, or all of a process."""
+
     kind: str
     process: int = 0
     pages: tuple = ()
@@ -365,11 +387,30 @@ def step_ending(state, event):
 
 # Scripts
 
-KINDS = {"ADDR": rb"[0-9a-fA-F]{1,8}", "PAGE": rb"[0-9a-fA-F]{1,8}", "VALUE": rb"[0-9a-fA-F]{1,8}",
-         "SIZE": rb"[124]", "RIGHT": rb"rw|ro", "process": rb"[0-9]{1,10}", "N": rb"[0-9]{1,10}"}
-LINES = {"load": "ADDR SIZE", "store": "ADDR SIZE VALUE", "map": "PAGE RIGHT", "unmap": "PAGE",
-         "protect": "PAGE RIGHT", "info": "PAGE", "offer": "PAGE process RIGHT", "withdraw": "PAGE process",
-         "accept": "process PAGE PAGE", "spawn": "N", "fork": "N", "exit": "", "quota": ""}
+KINDS = {
+    "ADDR": rb"[0-9a-fA-F]{1,8}",
+    "PAGE": rb"[0-9a-fA-F]{1,8}",
+    "VALUE": rb"[0-9a-fA-F]{1,8}",
+    "SIZE": rb"[124]",
+    "RIGHT": rb"rw|ro",
+    "process": rb"[0-9]{1,10}",
+    "N": rb"[0-9]{1,10}",
+}
+LINES = {
+    "load": "ADDR SIZE",
+    "store": "ADDR SIZE VALUE",
+    "map": "PAGE RIGHT",
+    "unmap": "PAGE",
+    "protect": "PAGE RIGHT",
+    "info": "PAGE",
+    "offer": "PAGE process RIGHT",
+    "withdraw": "PAGE process",
+    "accept": "process PAGE PAGE",
+    "spawn": "N",
+    "fork": "N",
+    "exit": "",
+    "quota": "",
+}
 SKIPPED = object()
 
 
@@ -409,6 +450,7 @@ def reply_line(reply):
 class Run:
     """What a script's run writes, its line on standard error and its status, the state in which it ends, and how often
     each call ended in each way."""
+
     written: bytes
     told: str
     status: int

@@ -13,6 +13,7 @@ DIRECTORY_FLAGS, PRESENT_WRITABLE_USER = 0xFDF, 7
 
 class Role(NamedTuple):
     """The role of a frame, as an image has it: 0 reserved, 1 free, 2 directory, 3 table, 4 page."""
+
     kind: int
     process: int = 0
     slot: int = 0
@@ -43,6 +44,7 @@ class Comparison:
     """A state, and what is seen of a core. That has `containers` and `directories` (an entry or None for each number of
     a process), `roles` (one for each frame), `word(frame, index)` and `page(frame)`. The comparison's own `roles` are
     those found to be right so far, and its `frames` the frame of each group."""
+
     state: State
     seen: object
     roles: dict = field(default_factory=lambda: {0: RESERVED})

@@ -10,7 +10,7 @@ import memory
 
 ROOT = Path(__file__).resolve().parent.parent
 sys.path.append(str(ROOT / "tools"))
-from wants import wants  # noqa: E402
+from wants import wants  # noqa: E402, F401 (for the checks that import this module)
 
 PROVED = ROOT / "crates" / "tower" / "out" / "tower"
 RECORDS, HEAD = 12, 1548
@@ -34,7 +34,7 @@ class Image:
 
     def page(self, frame):
         place = self.begins + 4096 * frame
-        return self.image[place:place + 4096]
+        return self.image[place : place + 4096]
 
 
 def ran(program, words, script=b""):
@@ -82,4 +82,6 @@ def ran_on(program, words, image, script=b""):
 
 def check_differs(program, image):
     verdict, ended = ran_on(program, ["check"], image)
-    return None if (verdict, ended) == (b"sound\n", ("", 0)) else f"the check of the image answers {verdict} and {ended}"
+    return (
+        None if (verdict, ended) == (b"sound\n", ("", 0)) else f"the check of the image answers {verdict} and {ended}"
+    )

@@ -41,4 +41,7 @@ def functions():
 def kept_verdicts():
     """The last verdict of each mutant, with the checksum of all that the verdict rests on."""
     text = VERDICTS.read_text(encoding="utf-8") if VERDICTS.is_file() else ""
-    return {name: {"of": of, "verdict": verdict} for name, verdict, of in re.findall(r"^(\w+/[\w.-]+): (.*) of (\w+)$", text, re.M)}
+    return {
+        name: {"of": of, "verdict": verdict}
+        for name, verdict, of in re.findall(r"^(\w+/[\w.-]+): (.*) of (\w+)$", text, re.M)
+    }

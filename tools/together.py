@@ -16,6 +16,7 @@ NAMES_ALONE = re.compile(r"has no field|is not in scope|has no `|was not admitte
 
 class Pair(NamedTuple):
     """A pair of a mutant: the file, the old text, the new one, and the function in which the old one is; "" for any."""
+
     file: str
     old: str
     new: str
@@ -59,7 +60,7 @@ def marked(folder, edit):
         old, new = pair.old, pair.new
         if pair.inside:
             end = text.find("\n", at)
-            rest, mark = text[at + len(old):end].removesuffix(f" // in {pair.inside}."), f" // in {pair.inside}."
+            rest, mark = text[at + len(old) : end].removesuffix(f" // in {pair.inside}."), f" // in {pair.inside}."
             text = text[:at] + old + rest + mark + text[end:]
             old, new = old + rest + mark, new + rest
         texts[pair.file] = text
@@ -75,7 +76,7 @@ def function_at(lines, place):
         found = FUNCTION.match(lines[head])
         if found:
             margin = len(lines[head]) - len(lines[head].lstrip())
-            is_over = any(line.startswith(" " * margin + "}") for line in lines[head + 1:place])
+            is_over = any(line.startswith(" " * margin + "}") for line in lines[head + 1 : place])
             return None if is_over else (found[1], head)
     return None
 
@@ -87,7 +88,7 @@ def functions_of(folder, text):
     for pair in pairs_of(text):
         whole = (folder / pair.file).read_text(encoding="utf-8")
         at = place_of(whole, pair) if pair.inside else whole.find(pair.old)
-        place = whole[:at + len(pair.old) - len(pair.old.lstrip())].count("\n") if at >= 0 else -1
+        place = whole[: at + len(pair.old) - len(pair.old.lstrip())].count("\n") if at >= 0 else -1
         function = function_at(whole.split("\n"), place) if place >= 0 else None
         if function is None:
             return None
@@ -103,7 +104,7 @@ def put_in(folder, texts, edit):
         at = place_of(text, pair)
         if at < 0:
             return None
-        texts[pair.file] = text[:at] + pair.new + text[at + len(pair.old):]
+        texts[pair.file] = text[:at] + pair.new + text[at + len(pair.old) :]
     return texts
 
 
