@@ -1,12 +1,12 @@
 -- The table of digits says what std says of each byte.
-use Rattle.std.proofs.Common.{◌≡◌, ℕ, zero, suc, ◌<◌, ◌≤◌, ◌+◌, ◌*◌, ◌/◌, ◌%◌, ◌^◌, Bool, true, false, ◌&&◌, cond, eq-eqb, List, [], ◌∷◌, refl, ap, ◌∙◌, arith, inl, inr}
-use Rattle.std.specs.Prelude.{nat_le, slice_index, ◌==◌, if◌then◌else◌}
+use Rattle.std.proofs.Common.{◌≡◌, ℕ, zero, suc, ◌<◌, ◌≤◌, ◌+◌, ◌/◌, ◌%◌, ◌^◌, Bool, true, ◌&&◌, List, [], ◌∷◌, refl, ap, ◌∙◌, arith, inl, inr}
+use Rattle.std.specs.Prelude.{nat_le, slice_index}
 use Rattle.std.specs.Char.{digit_value, digit_char}
 use Rattle.std.specs.Int.{w32, to_be_bytes}
 use Rattle.hex.specs.Hex.{encode_lower, encode_with}
 use Rattle.script_run.specs.Operands.{worth}
 use Rattle.script_run.specs.Replies.{eight_digits}
-use Rattle.std.proofs.lemmas.Bool.{and_parts, leb-true, eqb-true, cases_eq, cases_Bool}
+use Rattle.std.proofs.lemmas.Bool.{and_parts, leb-true, cases_eq}
 
 -- whether p holds of each number below one
 abbrev pub all_below : (ℕ → Bool) → ℕ → Bool

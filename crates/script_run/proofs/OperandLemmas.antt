@@ -4,8 +4,8 @@ use Rattle.std.proofs.lemmas.Bool.{lt-ltb, le-ltb}
 use Rattle.kernel_calls.specs.declared.calls.Call.{Call}
 use Rattle.kernel_calls.specs.declared.calls.Call.TheVariants as call
 use Rattle.kernel_calls.specs.declared.calls.Event.{Event}
-use Rattle.script_run.specs.Lines.{◌>>=◌, is_blank, one, two, three, alone, cpu_of, process_of, size_of, right_of, quota_of, load_of, store_of, map_of, unmap_of, protect_of, info_of, offer_of, withdraw_of, accept_of, spawn_of, fork_of, call_of, event_of_words}
-use Rattle.script_run.specs.Numbers.{hexadecimal_number, decimal_number, below}
+use Rattle.script_run.specs.Lines.{◌>>=◌, is_blank, one, two, three, alone, cpu_of, process_of, size_of, right_of, quota_of, load_of, store_of, map_of, unmap_of, protect_of, info_of, offer_of, withdraw_of, accept_of, spawn_of, fork_of, event_of_words}
+use Rattle.script_run.specs.Numbers.{hexadecimal_number, below}
 use Rattle.script_run.specs.Operands.{first_by, one_by, two_by, three_by, caller_by, named_by, event_by}
 
 -- ---- Steps of a chain

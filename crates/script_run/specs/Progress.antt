@@ -1,5 +1,6 @@
 -- How far a session has come in a script, when some bytes of it were read.
 --     Reached      no line is malformed so far, and all of them were carried out
+--     FromReached      what follows from there
 --     Begins, Breaks      how the lines of any script that begins with these bytes begin;  that one of them is malformed
 --     Stops      why the session stopped at a line
 --     Finished, StopsAtLast      the last line, without a line feed, was carried out too;  why it was not
@@ -67,6 +68,10 @@ pub record Reached (begun : State) (read : List ℕ) (session : Session) (start 
   pub lines : session.lines ≡ length (closed_lines read)
   pub state : session.core.state ≡ end_of begun (events_in (closed_lines read))
   pub text : LeavesUnwritten start now (replies_text begun (events_in (closed_lines read))) session.output
+
+-- what holds of a session that has come so far, wherever it began, whatever it has read, and whatever the writer held then
+abbrev pub FromReached : Session → Option (List ℕ) → (State → List ℕ → Option (List ℕ) → Type 0) → Type 0
+FromReached session now Then = (begun : State) (read : List ℕ) (start : Option (List ℕ)) → Reached begun read session start now → Then begun read start
 
 -- each script that begins with these bytes begins with these lines, none of which is malformed
 pub record Begins (read : List ℕ) (good : List (List ℕ)) : Type 0 where

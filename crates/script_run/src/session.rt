@@ -6,7 +6,7 @@ ghost use Rattle.process_table.specs.State.{State, open_with};
 ghost use Rattle.script_run.specs.Lines.{line_of};
 ghost use Rattle.text_output.specs.Output.{LeavesUnwritten};
 ghost use Rattle.script_run.specs.Script.{is_malformed};
-ghost use Rattle.script_run.specs.Progress.{state_after, text_after, LineFails, IsOneLine, Reached, Stops, Finished, StopsAtLast, Ran, RanInto, EndsWhole, EndsBy, IsBeforeReading};
+ghost use Rattle.script_run.specs.Progress.{state_after, text_after, LineFails, IsOneLine, FromReached, Reached, Stops, Finished, StopsAtLast, Ran, RanInto, EndsWhole, EndsBy, IsBeforeReading};
 
 use super::faults::ScriptFault;
 use super::lines::{LINE, Line, line_of};
@@ -65,12 +65,12 @@ impl Session {
     fn keep(&mut self, piece: &[u8]) -> Result<(), ScriptFault>
         requires { self.old.lines + 1 < 2 ^ 32 }
         ensures lines { self.new.lines ≡ self.old.lines }
-        ensures ok { (begun : State) (read : List ℕ) (start now : Option (List ℕ)) → IsOneLine piece.now
-            → Reached begun read self.old start now
-            → OnOk result (Reached begun (read ++ piece.now) self.new start now) }
-        ensures err { (begun : State) (read : List ℕ) (start now : Option (List ℕ)) → IsOneLine piece.now
-            → Reached begun read self.old start now
-            → IfErr result (λ fault. Stops begun (read ++ piece.now) fault self.new.output start now) }
+        ensures ok { (now : Option (List ℕ)) → IsOneLine piece.now
+            → FromReached self.old now (λ begun read start. OnOk result
+            (Reached begun (read ++ piece.now) self.new start now)) }
+        ensures err { (now : Option (List ℕ)) → IsOneLine piece.now
+            → FromReached self.old now (λ begun read start. IfErr result
+            (λ fault. Stops begun (read ++ piece.now) fault self.new.output start now)) }
     {
         match self.line.try_extend_from_slice(piece) {
             Ok(()) => Ok(()),
@@ -84,13 +84,13 @@ impl Session {
     fn end_line<W: Write>(&mut self, piece: &[u8], writer: &mut W) -> Result<(), ScriptFault>
         requires { self.old.lines + 1 < 2 ^ 32 }
         ensures lines { OnOk result (self.new.lines ≡ self.old.lines + 1) }
-        ensures ok { (begun : State) (read : List ℕ) (start : Option (List ℕ)) → IsOneLine piece.now
-            → Reached begun read self.old start (W.contents writer.old)
-            → OnOk result (Reached begun (read ++ (piece.now ++ 10 ∷ [])) self.new start (W.contents writer.new)) }
-        ensures err { (begun : State) (read : List ℕ) (start : Option (List ℕ)) → IsOneLine piece.now
-            → Reached begun read self.old start (W.contents writer.old)
-            → IfErr result (λ fault. Stops begun (read ++ (piece.now ++ 10 ∷ [])) fault self.new.output start
-            (W.contents writer.new)) }
+        ensures ok { IsOneLine piece.now → FromReached self.old (W.contents writer.old)
+            (λ begun read start. OnOk result (Reached begun (read ++ (piece.now ++ 10 ∷ [])) self.new start
+            (W.contents writer.new))) }
+        ensures err { IsOneLine piece.now → FromReached self.old (W.contents writer.old)
+            (λ begun read start. IfErr result
+            (λ fault. Stops begun (read ++ (piece.now ++ 10 ∷ [])) fault self.new.output start
+            (W.contents writer.new))) }
     {
         let number = self.lines + 1;
         if self.line.is_empty() {
@@ -110,13 +110,12 @@ impl Session {
     fn take_lines<W: Write>(&mut self, bytes: &[u8], writer: &mut W) -> Result<(), ScriptFault>
         requires { self.old.lines + length bytes.now + 1 < 2 ^ 32 }
         ensures lines { OnOk result (self.new.lines ≤ self.old.lines + length bytes.now) }
-        ensures ok { (begun : State) (read : List ℕ) (start : Option (List ℕ))
-            → Reached begun read self.old start (W.contents writer.old)
-            → OnOk result (Reached begun (read ++ bytes.now) self.new start (W.contents writer.new)) }
-        ensures err { (begun : State) (read : List ℕ) (start : Option (List ℕ))
-            → Reached begun read self.old start (W.contents writer.old)
-            → IfErr result (λ fault. Stops begun (read ++ bytes.now) fault self.new.output start
-            (W.contents writer.new)) }
+        ensures ok { FromReached self.old (W.contents writer.old)
+            (λ begun read start. OnOk result (Reached begun (read ++ bytes.now) self.new start
+            (W.contents writer.new))) }
+        ensures err { FromReached self.old (W.contents writer.old)
+            (λ begun read start. IfErr result
+            (λ fault. Stops begun (read ++ bytes.now) fault self.new.output start (W.contents writer.new))) }
     {
         let mut rest = bytes;
         while let Some((line, after)) = split_line(rest) {
@@ -129,12 +128,11 @@ impl Session {
     /// Writes the replies that wait.
     fn write_out<W: Write>(&mut self, writer: &mut W) -> Result<(), ScriptFault>
         ensures lines { self.new.lines ≡ self.old.lines }
-        ensures ok { (begun : State) (read : List ℕ) (start : Option (List ℕ))
-            → Reached begun read self.old start (W.contents writer.old)
-            → OnOk result (Reached begun read self.new start (W.contents writer.new)) }
-        ensures err { (begun : State) (read : List ℕ) (start : Option (List ℕ))
-            → Reached begun read self.old start (W.contents writer.old)
-            → IfErr result (λ fault. Stops begun read fault self.new.output start (W.contents writer.new)) }
+        ensures ok { FromReached self.old (W.contents writer.old)
+            (λ begun read start. OnOk result (Reached begun read self.new start (W.contents writer.new))) }
+        ensures err { FromReached self.old (W.contents writer.old)
+            (λ begun read start. IfErr result
+            (λ fault. Stops begun read fault self.new.output start (W.contents writer.new))) }
     {
         self.output.flush(writer)?;
         Ok(())
@@ -145,13 +143,12 @@ impl Session {
     fn feed<W: Write>(&mut self, bytes: &[u8], writer: &mut W) -> Result<(), ScriptFault>
         requires { self.old.lines + length bytes.now + 1 < 2 ^ 32 }
         ensures lines { OnOk result (self.new.lines ≤ self.old.lines + length bytes.now) }
-        ensures ok { (begun : State) (read : List ℕ) (start : Option (List ℕ))
-            → Reached begun read self.old start (W.contents writer.old)
-            → OnOk result (Reached begun (read ++ bytes.now) self.new start (W.contents writer.new)) }
-        ensures err { (begun : State) (read : List ℕ) (start : Option (List ℕ))
-            → Reached begun read self.old start (W.contents writer.old)
-            → IfErr result (λ fault. Stops begun (read ++ bytes.now) fault self.new.output start
-            (W.contents writer.new)) }
+        ensures ok { FromReached self.old (W.contents writer.old)
+            (λ begun read start. OnOk result (Reached begun (read ++ bytes.now) self.new start
+            (W.contents writer.new))) }
+        ensures err { FromReached self.old (W.contents writer.old)
+            (λ begun read start. IfErr result
+            (λ fault. Stops begun (read ++ bytes.now) fault self.new.output start (W.contents writer.new))) }
     {
         self.take_lines(bytes, writer)?;
         self.write_out(writer)?;
@@ -161,12 +158,11 @@ impl Session {
     /// Carries out the last line, without a line feed, where the script has ended.
     fn finish<W: Write>(&mut self, writer: &mut W) -> Result<(), ScriptFault>
         requires { self.old.lines + 1 < 2 ^ 32 }
-        ensures ok { (begun : State) (read : List ℕ) (start : Option (List ℕ))
-            → Reached begun read self.old start (W.contents writer.old)
-            → OnOk result (Finished begun read self.new start (W.contents writer.new)) }
-        ensures err { (begun : State) (read : List ℕ) (start : Option (List ℕ))
-            → Reached begun read self.old start (W.contents writer.old)
-            → IfErr result (λ fault. StopsAtLast begun read fault self.new.output start (W.contents writer.new)) }
+        ensures ok { FromReached self.old (W.contents writer.old)
+            (λ begun read start. OnOk result (Finished begun read self.new start (W.contents writer.new))) }
+        ensures err { FromReached self.old (W.contents writer.old)
+            (λ begun read start. IfErr result
+            (λ fault. StopsAtLast begun read fault self.new.output start (W.contents writer.new))) }
     {
         let line = self.line.as_slice();
         carry_out(

@@ -1,5 +1,5 @@
-use Rattle.std.proofs.Common.{◌≡◌, ℕ, ◌+◌, ◌*◌, ◌^◌, ◌<◌, ◌≤◌, length, get_or, take, sym, subst, below_more, arith}
-use Rattle.script_run.specs.Operands.{IsWorth, worth}
+use Rattle.std.proofs.Common.{◌≡◌, ℕ, ◌+◌, ◌*◌, ◌<◌, ◌≤◌, length, get_or, take, sym, subst, below_more, arith}
+use Rattle.script_run.specs.Operands.{IsWorth}
 use Rattle.script_run.proofs.FirstNumbers.{worth_step, worth_fits, worth_grows}
 use Rattle.script_run.proofs.TokenLemmas.{token_ends, token_goes_on}
 use Rattle.script_run.proofs.numbers.short_token.Goals as goal

@@ -1,7 +1,7 @@
-use Rattle.std.proofs.Common.{◌≡◌, ◌<◌, [], length, sym, ap, ◌∙◌, arith, unwrap_or}
+use Rattle.std.proofs.Common.{◌≡◌, ◌<◌, length, sym, ap, ◌∙◌, arith, unwrap_or}
 use Rattle.std.proofs.lemmas.Bool.{eqb-true, eqb-false}
 use Rattle.std.specs.List.{position_or_len}
-use Rattle.script_run.specs.Tokens.{is_space, tokens_of}
+use Rattle.script_run.specs.Tokens.{is_space}
 use Rattle.script_run.proofs.TokenLemmas.{empty_front, front_token, place_or_length, some_front}
 use Rattle.script_run.proofs.tokens.first_token.Goals as goal
 

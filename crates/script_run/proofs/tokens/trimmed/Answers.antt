@@ -1,4 +1,4 @@
-use Rattle.std.proofs.Common.{◌≡◌, Some, None, position, length, take, drop, ◌-◌, ap, ◌∙◌, sym}
+use Rattle.std.proofs.Common.{◌≡◌, Some, None, position, ap, ◌∙◌, sym}
 use Rattle.std.proofs.lemmas.List.{take_rest}
 use Rattle.script_run.specs.Operands.{is_trimmed}
 use Rattle.script_run.specs.Tokens.{is_visible, tokens_of}

@@ -9,12 +9,12 @@ pub returns-in_err-carry_out-clause-err : goal.returns-in_err-carry_out-clause-e
 returns-in_err-carry_out-clause-err g c =
     let p = err_from_is_err_and c.from_residual.result c.from_residual.ensures.1 in
     let none : c.args.self.now.line.items ≡ [] = nil_from_length c.args.self.now.line.items (eqb-true _ 0 (sym c.is_empty.ensures ∙ c.if-is_empty.true)) in
-    rw (p.1, p.2) (λ frames read start one reached.
+    rw (p.1, p.2) (λ one frames read start reached.
     stops_at_line frames read c.args.piece.now c.args.piece.now c.args.self.now c.in_err-carry_out.field-0.0 c.carry_out.new.output start _ _ one reached
     (sym (ap (λ front. front ++ c.args.piece.now) none)) c.in_err-carry_out.ensures.fault)
 
 pub returns-then-is_empty-clause-ok : goal.returns-then-is_empty-clause-ok
-returns-then-is_empty-clause-ok g c = λ frames read start one reached.
+returns-then-is_empty-clause-ok g c = λ one frames read start reached.
     let none : c.args.self.now.line.items ≡ [] = nil_from_length c.args.self.now.line.items (eqb-true _ 0 (sym c.is_empty.ensures ∙ c.if-is_empty.true)) in
     ends_line frames read c.args.piece.now c.args.piece.now c.args.self.now _ start _ _ one reached (sym (ap (λ front. front ++ c.args.piece.now) none))
     c.in_ok-carry_out.ensures.sound c.in_ok-carry_out.ensures.state c.in_ok-carry_out.ensures.text none refl
@@ -22,19 +22,19 @@ returns-then-is_empty-clause-ok g c = λ frames read start one reached.
 pub returns-in_err-keep-clause-err : goal.returns-in_err-keep-clause-err
 returns-in_err-keep-clause-err g c =
     let p = err_from_is_err_and c.from_residual-in_err-keep.result c.from_residual-in_err-keep.ensures.1 in
-    rw (p.1, p.2) (λ frames read start one reached.
-    stops_in_line frames read c.args.piece.now c.in_err-keep.field-0.0 c.keep.new.self.output start _ (c.in_err-keep.ensures.err frames read start _ one reached))
+    rw (p.1, p.2) (λ one frames read start reached.
+    stops_in_line frames read c.args.piece.now c.in_err-keep.field-0.0 c.keep.new.self.output start _ (c.in_err-keep.ensures.err _ one frames read start reached))
 
 pub returns-in_err-carry_out-2-clause-err : goal.returns-in_err-carry_out-2-clause-err
 returns-in_err-carry_out-2-clause-err g c =
     let p = err_from_is_err_and c.from_residual-in_err-carry_out-2.result c.from_residual-in_err-carry_out-2.ensures.1 in
-    rw (p.1, p.2) (λ frames read start one reached.
-    let kept = c.in_ok-keep.ensures.ok frames read start _ one reached in
+    rw (p.1, p.2) (λ one frames read start reached.
+    let kept = c.in_ok-keep.ensures.ok _ one frames read start reached in
     stops_at_kept frames read c.args.piece.now c.as_slice-line.result.now c.keep.new.self c.in_err-carry_out-2.field-0.0 c.carry_out-2.new.output start _ _ kept c.as_slice-line.ensures.value
     (c.args.self.now.lines + 1) (ap (λ n. n + 1) (sym c.in_ok-keep.ensures.lines)) c.in_err-carry_out-2.ensures.fault)
 
 pub returns-clause-ok : goal.returns-clause-ok
-returns-clause-ok g c = λ frames read start one reached.
-    let kept = c.in_ok-keep.ensures.ok frames read start _ one reached in
+returns-clause-ok g c = λ one frames read start reached.
+    let kept = c.in_ok-keep.ensures.ok _ one frames read start reached in
     ends_kept frames read c.args.piece.now _ c.keep.new.self _ start _ _ kept c.as_slice-line.ensures.value
     c.in_ok-carry_out-2.ensures.sound c.in_ok-carry_out-2.ensures.state c.in_ok-carry_out-2.ensures.text c.clear.ensures (ap (λ n. n + 1) (sym c.in_ok-keep.ensures.lines))
