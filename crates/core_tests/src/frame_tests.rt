@@ -65,28 +65,34 @@ fn accept(rt: &impl Abort, giver_page: Page) -> Call {
     }
 }
 
+/// Of the frames 0 to 7, an Accept of a page of the root may write these.
+fn accept_writes(rt: &impl Abort, core: &Core, giver_page: Page, frames: [bool; 8]) {
+    writes(rt, core, 1, accept(rt, giver_page), frames);
+}
+
+/// Of the frames 0 to 7, a process's call that does nothing may write these.
+fn own(rt: &impl Abort, core: &Core, number: u8, frames: [bool; 8]) {
+    writes(rt, core, number, Call::Quota, frames);
+}
+
 /// Frame 1 is the root's directory, 2 its table, 3 the frame of LOW, and 4 the directory of process 1.
 #[test]
 fn an_event_may_write_free_frames_and_its_own(rt: HostRuntime) {
     let core = shared(&rt);
-    let [no, yes] = [false, true];
-    let call = Call::Quota;
-    writes(&rt, &core, 0, call, [no, yes, yes, yes, no, yes, yes, yes]);
-    writes(&rt, &core, 1, call, [no, no, no, no, yes, yes, yes, yes]);
-    writes(&rt, &core, 2, call, [no, no, no, no, no, yes, yes, yes]);
+    let (no, yes) = (false, true);
+    own(&rt, &core, 0, [no, yes, yes, yes, no, yes, yes, yes]);
+    own(&rt, &core, 1, [no, no, no, no, yes, yes, yes, yes]);
+    own(&rt, &core, 2, [no, no, no, no, no, yes, yes, yes]);
 }
 
 #[test]
 fn an_accept_of_a_lazy_page_may_write_what_leads_to_it(rt: HostRuntime) {
     let mut core = shared(&rt);
-    let [no, yes] = [false, true];
-    let high = accept(&rt, HIGH);
-    writes(&rt, &core, 1, high, [no, yes, yes, no, yes, yes, yes, yes]);
-    let low = accept(&rt, LOW);
-    writes(&rt, &core, 1, low, [no, no, no, no, yes, yes, yes, yes]);
-    let outside = accept(&rt, Page(0x3ffff));
-    writes(&rt, &core, 1, outside, [no, no, no, no, yes, yes, yes, yes]);
-    check(&rt, &mut core, 1, low, Reply::Done);
-    let call = Call::Quota;
-    writes(&rt, &core, 1, call, [no, no, no, yes, yes, yes, yes, yes]);
+    let (no, yes) = (false, true);
+    accept_writes(&rt, &core, HIGH, [no, yes, yes, no, yes, yes, yes, yes]);
+    accept_writes(&rt, &core, LOW, [no, no, no, no, yes, yes, yes, yes]);
+    let outside = Page(0x3ffff);
+    accept_writes(&rt, &core, outside, [no, no, no, no, yes, yes, yes, yes]);
+    check(&rt, &mut core, 1, accept(&rt, LOW), Reply::Done);
+    own(&rt, &core, 1, [no, no, no, yes, yes, yes, yes, yes]);
 }
