@@ -18,16 +18,8 @@ struct placing {
 static bool place(void *to, uint32_t address, const uint8_t *bytes, uint32_t count, uint32_t size, bool write) {
     struct placing *it = to;
     (void)size;
-    if (kernel_write(it->pid, address, bytes, count, &it->refused) != count) {
-        return false;
-    }
-    for (uint64_t page = address >> 12; !write && count && page <= ((uint64_t)address + count - 1) >> 12; page++) {
-        it->refused = kernel_event(tower_protect(it->pid, (uint32_t)page, TOWER_READ_ONLY));
-        if (it->refused.kind != TOWER_DONE) {
-            return false;
-        }
-    }
-    return true;
+    it->refused = kernel_load(it->pid, address, bytes, count, write);
+    return it->refused.kind == TOWER_DONE;
 }
 
 static bool loads(const char *path, struct placing *placing, uint32_t *entry) {
@@ -43,7 +35,6 @@ static bool loads(const char *path, struct placing *placing, uint32_t *entry) {
 static const char *why_of(const struct tower_reply *refused) {
     switch (refused->kind) {
     case TOWER_REFUSED: return tower_cause_name(refused->first);
-    case TOWER_FAULT: return "a segment outside the user range";
     default: return "it is no ELF program for 32-bit x86";
     }
 }

@@ -225,12 +225,12 @@ size_t kernel_read(uint32_t pid, uint32_t address, void *bytes, size_t count, st
     return moved;
 }
 
-/* Programs are loaded before their process has an engine, so there is nothing to take out. */
-size_t kernel_write(uint32_t pid, uint32_t address, const void *bytes, size_t count, struct tower_reply *stop) {
-    size_t moved = 0;
+/* There is nothing to take out of an engine. */
+struct tower_reply kernel_load(uint32_t pid, uint32_t address, const void *bytes, size_t count, bool write) {
+    struct tower_reply told = {0};
     need(!engine_is_open(&kernel.engines[pid]), "a process without an engine");
-    need(tower_write(&kernel.core, pid, address, bytes, count, &moved, stop), "a core writes");
-    return moved;
+    need(tower_load_bytes(&kernel.core, pid, address, bytes, count, write, &told), "a core loads bytes");
+    return told;
 }
 
 /* ---- What the engines have */

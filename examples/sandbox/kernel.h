@@ -39,9 +39,10 @@ struct tower_reply kernel_take_back(uint32_t pid, uint32_t page);
 /* Whether all others that share the page descend from the process. */
 bool kernel_descend(uint32_t pid, uint32_t page);
 
-/* Bytes of a process's, out and in. Return how many were moved; `stop` is what stopped them. */
+/* Copies a process's bytes out. Returns how many; `stop` is what stopped them. */
 size_t kernel_read(uint32_t pid, uint32_t address, void *bytes, size_t count, struct tower_reply *stop);
-size_t kernel_write(uint32_t pid, uint32_t address, const void *bytes, size_t count, struct tower_reply *stop);
+/* Loads bytes of a program into a process that has no engine yet, with that right for their pages: Done or Refused. */
+struct tower_reply kernel_load(uint32_t pid, uint32_t address, const void *bytes, size_t count, bool write);
 
 /* All that the engines have is what the walks read: a page that may be written is dirty, and the bytes are the frame's. */
 void kernel_check(void);
