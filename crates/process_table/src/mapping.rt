@@ -39,6 +39,7 @@ impl Processes {
 
     /// What a process would be charged for once it has mapped a page, or the first cause against it:
     /// NoProcess, BadPage, Mapped, Quota.
+    #[inline(never)]
     pub fn can_map(&self, pid: Pid, page: Page) -> Result<u32, Cause>
         ensures { result ≡ map_answer self.now.state pid page }
     {
@@ -124,6 +125,7 @@ impl Processes {
 
     /// What a process would be charged for once a page is unmapped, or the first cause against it:
     /// NoProcess, BadPage, NotMapped.
+    #[inline(never)]
     pub fn can_unmap(&self, pid: Pid, page: Page) -> Result<u32, Cause>
         ensures { result ≡ unmap_answer self.now.state pid page }
     {
@@ -202,6 +204,7 @@ impl Processes {
 
     /// Returns the charge of a process once a page's right is set, or the first cause against it: NoProcess, BadPage,
     /// NotMapped, Rights. Rights comes if the call requests the right to write, and the process may not have it.
+    #[inline(never)]
     pub fn can_protect(&self, pid: Pid, page: Page, write: bool) -> Result<u32, Cause>
         ensures { result ≡ protect_answer self.now.state pid page write }
     {

@@ -38,6 +38,7 @@ impl Processes {
     /// Returns the charge of a process once it has offered a page, or the first cause against it: NoProcess, BadPage,
     /// NotMapped, SelfOffer, NoTarget, Rights, OfferPending, TooManyOffers. Rights comes if the offer has the right to
     /// write, and the process may not have it.
+    #[inline(never)]
     pub fn can_offer(&self, pid: Pid, page: Page, target: Pid, write: bool) -> Result<u32, Cause>
         ensures { result ≡ offer_answer self.now.state pid page target write }
     {
@@ -171,6 +172,7 @@ impl Processes {
     /// What a process would be charged for once it has accepted an offer at a page of its own, or the
     /// first cause against it: NoProcess, BadPage (the own page), NoOffer, Mapped, Quota.
     #[tactic(auto, using(crate::proofs::Refusals::test_accept))]
+    #[inline(never)]
     pub fn can_accept(
         &self,
         pid: Pid,
