@@ -1,7 +1,7 @@
 """Checksums of what the verdict on a mutant rests on.
 
-Comments count for nothing, nor does where a line ends. Of a crate below another one the bodies of functions with
-clauses count for nothing either: the prover of the upper crate reads the clauses alone.
+Comments count for nothing, nor do where a line ends and what is to be inlined. Of a crate below another one the bodies
+of functions with clauses count for nothing either: the prover of the upper crate reads the clauses alone.
 """
 import hashlib
 import pathlib
@@ -14,7 +14,8 @@ CLAUSE = re.compile(rb"^\s*(?:requires|ensures)\b")
 
 def uncommented(text):
     """The lines of a text without comments, those at a line's end included."""
-    lines = (line for line in text.split(b"\n") if not line.lstrip().startswith((b"//", b"--")))
+    left_out = (b"//", b"--", b"#[inline")
+    lines = (line for line in text.split(b"\n") if not line.lstrip().startswith(left_out))
     # (what follows a quote may be part of a text)
     return [re.sub(rb"^([^\"]*[;{},)]) // .*$", rb"\1", line) for line in lines]
 
