@@ -32,9 +32,6 @@ use std::sync::{Mutex, MutexGuard, Wait};
 /// How often a lock that is held is looked at before a thread sleeps for it.
 const LOOKS: u32 = 16;
 
-// (no clause can limit how long a thread polls)
-const _: () = prove!(LOOKS <= 64);
-
 /// A kernel that has booted, and that no type names yet. Contracts see its sizes, and its names: which book its history
 /// is written in, which is empty, which ledger counts its calls, and which core it opens with. End it by `open`.
 pub struct Blank<G: Gate + Drop> {
@@ -151,6 +148,8 @@ impl<N: Name, G: Gate + Drop> Kernel<N, G> {
     /// Takes the lock. While another thread has it, it polls with back-off, so that many calls of one CPU continue
     /// undisturbed in a row, and their memory need not come from another processor. Then the thread sleeps for it.
     pub(crate) fn taken<R: Wait>(&self, rt: &R) -> MutexGuard<'_, Locked<N>> {
+        // (no clause can say how often a thread polls)
+        prove!(LOOKS <= 64);
         let backoff = Backoff::new();
         for _ in 0..LOOKS {
             if let Some(guard) = self.state.try_lock() {
