@@ -9,8 +9,11 @@ void tenant(uint32_t self, uint32_t argument) {
     uint32_t sum = 0;
     ring->head = ring->tail = 0;
     tell_reply("an offer to itself: ", offer(page_of(page), self, true));
+    /* (nobody accepts for process 0, so the replies don't depend on turns) */
+    tell_reply("an offer to process 0: ", offer(page_of(page), 0, true));
+    tell_reply("the offer again: ", offer(page_of(page), 0, true));
+    tell_reply("it is withdrawn: ", withdraw(page_of(page), 0));
     tell_reply("an offer: ", offer(page_of(page), argument, true));
-    tell_reply("the offer again: ", offer(page_of(page), argument, true));
     for (uint32_t i = 0; i < RING_COUNT; i++) {
         while (ring->head - ring->tail == RING_WORDS) {
             yield();
