@@ -32,6 +32,7 @@ ghost use Rattle.kernel_calls.specs.Gone.{gone_by};
 ghost use Rattle.kernel_calls.specs.Translations.{EndsInOrder, ended_by, EndAlong, Ends};
 ghost use Rattle.kernel_calls.specs.Walked.{finds_event, reply_found, bytes_accessed};
 ghost use Rattle.kernel_calls.specs.Kept.{ServesEvent, StoresMarked, bytes_kept};
+ghost use Rattle.kernel_calls.specs.Written.{WritesItsOwn};
 ghost use Rattle.kernel_calls.specs.declared.calls.Reply.TheVariants as reply;
 
 use crate::calls::{Decision, Event, Outcome, Reply};
@@ -198,7 +199,8 @@ impl Core {
         }
     }
 
-    /// Decides an event and carries it out.
+    /// Decides an event and carries it out. It writes in no frame but those that the event may write: a page of another
+    /// process keeps its bytes, and a table or a directory its words but for accessed.
     #[inline(always)]
     pub fn step(&mut self, event: &Event) -> Reply
         ensures reply { result ≡ answer self.old.state event.now }
@@ -207,8 +209,13 @@ impl Core {
         ensures ends { Ends (ended_by self.old event.now) self.old self.new }
         ensures kept { completes result ≡ false → self.new ≡ self.old }
         ensures lazy { LeavesLazy self.old event.now result self.new }
+        ensures stay { FramesStay (gone_by self.old.state event.now) (memory_of self.old) (memory_of self.new) }
+        ensures writes { WritesItsOwn self.old self.new event.now }
     {
-        self.reply_to(event)
+        self.stands();
+        let reply = self.reply_to(event);
+        self.stands();
+        reply
     }
 
     /// Carries out events in order, and writes each reply in its place. If no event completes, nothing changes, not
@@ -258,6 +265,8 @@ impl Core {
         ensures ends { Ends result.1 self.old self.new }
         ensures kept { completes result.0 ≡ false → self.new ≡ self.old }
         ensures lazy { LeavesLazy self.old event.now result.0 self.new }
+        ensures stay { FramesStay (gone_by self.old.state event.now) (memory_of self.old) (memory_of self.new) }
+        ensures writes { WritesItsOwn self.old self.new event.now }
     {
         let ended = self.ends(event);
         let reply = self.step(event);
