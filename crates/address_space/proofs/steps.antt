@@ -12,6 +12,7 @@ pub mod GonePages
 pub mod Joins
 pub mod LazyFilling
 pub mod Leaves
+pub mod LooseFrames
 pub mod Looks
 pub mod Neighbours
 pub mod NewPages

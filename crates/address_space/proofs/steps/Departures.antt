@@ -33,11 +33,11 @@ use Rattle.address_space.proofs.entries.Refinement.{get-spaces_of, leave_refines
 use Rattle.address_space.proofs.standing.TablesStand.{past_end}
 use Rattle.address_space.proofs.steps.Steps.{live_small, none_before, role_own, role_other}
 use borrow.Author.Tests.{eqb-true, eq-eqb}
-use Rattle.address_space.specs.Stays.{FramesStay, none_goes, of_page}
+use Rattle.address_space.specs.Stays.{FramesStay, LooseStay, none_goes, of_page}
 use Rattle.address_space.specs.Image.{image_of}
 use Rattle.address_space.specs.declared.Spaces.TheInside.{Inside as Inner}
 use Rattle.address_space.proofs.Insides.{AreCountedInside, spaces_at, view_of}
-use Rattle.address_space.proofs.standing.FramesStand.{stays_same, stays_then, stays_more}
+use Rattle.address_space.proofs.standing.FramesStand.{loose_same, loose_then, stays_same, stays_then, stays_more}
 use Rattle.address_space.proofs.entries.Staying.{stay_same, places_by}
 
 -- ---- Slots that leave
@@ -165,6 +165,7 @@ dropped_at_first inner p before = record {
   directories = refl;
   spaces = refl;
   stay = stays_same;
+  loose = loose_same;
   below = λ page l. no_cell_outside inner.directories inner.memory inner.frames p page before.spaces.sound (inl l);
   length = refl;
   low = omega arith;
@@ -180,6 +181,7 @@ dropped_past v inner p d from beyond so_far live up high none =
       directories = so_far.directories;
       spaces = so_far.spaces;
       stay = so_far.stay;
+      loose = so_far.loose;
       below = λ page l. elim (cases_lt page from) [
         | inl below ↦ so_far.below page below
         | inr above ↦ no_cell_unmapped inner.directories inner.memory p d page live (none page above l)
@@ -191,14 +193,15 @@ dropped_past v inner p d from beyond so_far live up high none =
 
 -- and one page more
 pub dropped_next : (v one two : View) (p page : ℕ) → DroppedBelow v p page one → page < 0xf0000
-    → two.spaces ≡ without one.spaces (is_slot p page) → FramesStay (of_page p page) (image_of one) (image_of two) → two.directories ≡ one.directories → length two.roles ≡ length one.roles
+    → two.spaces ≡ without one.spaces (is_slot p page) → FramesStay (of_page p page) (image_of one) (image_of two) → LooseStay (image_of one) (image_of two) → two.directories ≡ one.directories → length two.roles ≡ length one.roles
     → DroppedBelow v p (page + 1) two
-dropped_next v one two p page so_far high spaces stay directories long =
+dropped_next v one two p page so_far high spaces stay loose directories long =
     let low = so_far.low in
     record {
       directories = directories ∙ so_far.directories;
       spaces = ap (λ x. without x (is_of p)) spaces ∙ without-without one.spaces (is_slot p page) (is_of p) (slot_of_process p page) ∙ so_far.spaces;
       stay = stays_then so_far.stay (stays_more (λ q f stays. slot_of_process p page q stays) stay);
+      loose = loose_then so_far.loose loose;
       below = λ other l. ap (λ x. map.get x (at_page p other)) spaces ∙ get-without one.spaces (is_slot p page) (at_page p other) ∙ elim (cases_eq other page) [
         | inl same_page ↦ ap (λ b. cond (not b) (option_map (left (is_slot p page)) (map.get one.spaces (at_page p other))) None) (ap (λ n. same slot_order (at_page p page) (at_page p n)) same_page ∙ same_itself slot_order (at_page p page))
         | inr differ ↦ nothing_if (not (is_slot p page (at_page p other))) (left (is_slot p page)) (map.get one.spaces (at_page p other)) (so_far.below other (omega (arith, l, differ)))

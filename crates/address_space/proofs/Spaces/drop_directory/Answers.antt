@@ -8,6 +8,7 @@ use Rattle.address_space.proofs.entries.Staying.{places_more}
 use Rattle.address_space.proofs.standing.FramesStand.{frames_stay_by}
 use Rattle.address_space.proofs.steps.CountSteps.{counts_kept, alike_released}
 use Rattle.address_space.proofs.steps.Departures.{directory_removed}
+use Rattle.address_space.proofs.steps.LooseFrames.{loose_released}
 use borrow.Author.Tests.{eq-eqb}
 use Rattle.address_space.proofs.Spaces.drop_directory.Goals as goal
 
@@ -70,3 +71,8 @@ invariant_of-self c =
           (c.self.invariant.spaces.sound.tables.directory c.args.pid c.args.directory (rw (← c.self.view_is) at c.requires.live)) refl)
           c.self.inside.counts.items c.self.invariant.counted;
     }
+
+pub returns-clause-loose : goal.returns-clause-loose
+returns-clause-loose c =
+    rw (← c.self.view_is)
+    (loose_released c.self.inside.directories c.forget.new.directories c.self.inside.memory c.self.inside.frames c.release.new.self c.args.directory c.release.ensures.role)

@@ -54,3 +54,6 @@ returns-clause-empty c =
 
 pub returns-clause-stay : goal.returns-clause-stay
 returns-clause-stay c = c.loop-region.invariant.stay
+
+pub returns-clause-loose : goal.returns-clause-loose
+returns-clause-loose c = c.loop-region.invariant.loose

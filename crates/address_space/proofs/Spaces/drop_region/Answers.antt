@@ -68,7 +68,7 @@ loop-listed-preserved c =
           let next : 1024 * c.args.slot + c.in-Some.listed.index + 1 ≡ 1024 * c.args.slot + (c.in-Some.listed.index + 1) = omega arith in
           subst (λ n. DroppedBelow v c.args.pid n c.unmap_found.new.self) next
           (dropped_next v c.loop-listed.self c.unmap_found.new.self c.args.pid (1024 * c.args.slot + c.in-Some.listed.index) (subst (λ (w : View). DroppedBelow v c.args.pid (1024 * c.args.slot + c.in-Some.listed.index) w) c.self-in-loop-listed.view_is passed)
-          (omega (arith, c.requires.high, up.1)) c.unmap_found.ensures.spaces c.unmap_found.ensures.stay c.unmap_found.ensures.directories c.unmap_found.ensures.frames);
+          (omega (arith, c.requires.high, up.1)) c.unmap_found.ensures.spaces c.unmap_found.ensures.stay c.unmap_found.ensures.loose c.unmap_found.ensures.directories c.unmap_found.ensures.frames);
       same = c.unmap_found.ensures.directories ∙ c.loop-listed.invariant.same;
       left = left_next c.loop-listed.invariant.left up.1 some c.unmap_found.ensures.words;
       inside = subst (λ n. 4096 * c.args.table + 4096 ≤ n) (sym c.unmap_found.ensures.long) c.loop-listed.invariant.inside;

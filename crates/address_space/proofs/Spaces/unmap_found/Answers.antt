@@ -7,6 +7,7 @@ use Rattle.address_space.proofs.steps.RegionDrops.{entry_gone}
 use Rattle.address_space.proofs.Spaces.unmap_found.Goals as goal
 use Rattle.address_space.specs.Stays.{of_page}
 use Rattle.address_space.proofs.standing.FramesStand.{frames_stay}
+use Rattle.address_space.proofs.steps.LooseFrames.{loose_gone}
 
 pub uncount_page-mapped-requires-clause-inside : goal.uncount_page-mapped-requires-clause-inside
 uncount_page-mapped-requires-clause-inside c =
@@ -77,3 +78,11 @@ returns-clause-words c =
 
 pub returns-clause-long : goal.returns-clause-long
 returns-clause-long c = rw (← c.self.view_is) c.clear_found_entry-freed.ensures.length
+
+pub returns-clause-loose : goal.returns-clause-loose
+returns-clause-loose c =
+    rw (← c.self.view_is)
+    (loose_gone c.self.inside.directories c.self.inside.memory c.clear_found_entry-freed.new.memory c.self.inside.frames c.leave.new.frames c.free_table.new.frames c.args.pid c.args.directory c.args.page
+    c.args.found.now.table c.args.found.now.entry c.clear_found_entry-freed.result c.self.invariant.spaces.sound (rw (← c.self.view_is) at c.requires.home)
+    (home_table c.self.inside c.args.pid c.args.directory c.args.page c.args.found.now c.self.invariant c.requires.user (rw (← c.self.view_is) at c.requires.found) (rw (← c.self.view_is) at c.requires.home))
+    c.clear_found_entry-freed.ensures.cleared c.leave.ensures c.free_table.ensures)

@@ -14,7 +14,7 @@ use Rattle.process_table.proofs.Charged.{charged-one}
 use Rattle.process_table.proofs.Keeping.{whole}
 use Rattle.process_table.proofs.Refusals.{no_cause}
 use Rattle.address_space.specs.Image.{image_of}
-use Rattle.address_space.specs.Stays.{FramesStay, of_page}
+use Rattle.address_space.specs.Stays.{FramesStay, LooseStay, of_page}
 use Rattle.process_table.specs.Image.{memory_of}
 use Rattle.process_table.proofs.processes.Processes.unmap_at.Goals as goal
 
@@ -40,3 +40,6 @@ invariant_of-self c =
 pub returns-clause-stay : goal.returns-clause-stay
 returns-clause-stay c = subst (λ (v : View). FramesStay (of_page c.args.pid c.args.page) (memory_of v)
     (image_of c.unmap_at.new.self)) c.self.view_is c.unmap_at.ensures.stay
+
+pub returns-clause-loose : goal.returns-clause-loose
+returns-clause-loose c = subst (λ (v : View). LooseStay (memory_of v) (image_of c.unmap_at.new.self)) c.self.view_is c.unmap_at.ensures.loose
