@@ -31,7 +31,7 @@ use Rattle.shootdowns.proofs.Accesses.{frame_at, kept_answer, kept_next, kept_be
 use Rattle.shootdowns.proofs.Filled.{fill, filled_state, get_filled, answer_filled, next_filled}
 use Rattle.shootdowns.proofs.Kept.{spared, sparing, reading, none_left, left_more, left_fewer}
 use Rattle.shootdowns.proofs.Rewritten.{is_fixed, rewritten, names_same, read_same}
-use Rattle.shootdowns.proofs.Taking.{names_stay, filled_first, filled_after, long_stays}
+use Rattle.shootdowns.proofs.Taking.{pages_stand, names_stay, filled_first, filled_after, long_stays}
 
 -- An event under way only takes away. The order's state, and that after the event, are those when it began, with the
 -- bytes that memory has now; all that is kept was read then.
@@ -228,17 +228,18 @@ step (begun {v = v} {w = w} {keeps = keeps} {e = e} {r = r} b) good =
     is_none (settled end.Nothing v) (under_way (ended_by v e) e r v.state w) keeps refl
     (record {
       stands = (b.carried.core, λ i. left_read (ended_by v e) v w (keeps i) b.carried.ends (read i), b.carried.state, b.carried.reply);
-      taken = λ takes. (
+      taken = λ takes.
+          let stand = pages_stand v w good.stands.0 b.carried.core e b.carried.state b.stay b.loose takes in (
         v,
         record {
           before = good.stands.0;
           well = good.stands.0.well_formed;
           read = read;
-          state = filled_first v w good.stands.0 b.carried.core e takes b.carried.state b.stay (b.pages takes);
-          after = filled_after v w good.stands.0 b.carried.core e takes b.carried.state b.stay (b.pages takes);
-          names = names_stay v w good.stands.0 b.carried.core e takes b.carried.state b.stay (b.pages takes);
-          pages = λ f c is. (b.pages takes f c is).1;
-          long = long_stays v w good.stands.0 b.carried.core e takes b.carried.state b.stay (b.pages takes);
+          state = filled_first v w good.stands.0 b.carried.core e takes b.carried.state b.stay stand;
+          after = filled_after v w good.stands.0 b.carried.core e takes b.carried.state b.stay stand;
+          names = names_stay v w good.stands.0 b.carried.core e takes b.carried.state b.stay stand;
+          pages = λ f c is. (stand.each f c is).1;
+          long = long_stays v w good.stands.0 b.carried.core e takes b.carried.state b.stay stand;
         },
       );
     })

@@ -1,13 +1,11 @@
 -- Events whose end takes time: the core carries one out, and each processor goes on by what it keeps until it
 -- invalidates what was ended. Which events that is, in which order.
-use Rattle.std.specs.Prelude.{◌≡◌, ◌⊎◌, ℕ, Bool, true, false, not, List, [], ◌∷◌, ◌++◌, Some, slice_get}
-use Rattle.phys_memory.specs.Bytes.{frame_bytes}
-use Rattle.alloc_table.specs.declared.Role.TheVariants.{Free, Page}
-use Rattle.address_space.specs.Stays.{FramesStay}
+use Rattle.std.specs.Prelude.{◌≡◌, ℕ, Bool, true, false, not, List, [], ◌∷◌, ◌++◌, Some, slice_get}
+use Rattle.address_space.specs.Stays.{FramesStay, LooseStay}
 use Rattle.process_table.specs.Image.{memory_of}
 use Rattle.process_table.specs.State.{State}
 use Rattle.process_table.specs.View.{View}
-use Rattle.kernel_calls.specs.Gone.{gone_by}
+use Rattle.kernel_calls.specs.Gone.{gone_by, gives_back}
 use Rattle.kernel_calls.specs.Kept.{reply_kept, bytes_kept, IsStore}
 use Rattle.kernel_calls.specs.Machine.{answer, answers, next, end_of}
 use Rattle.kernel_calls.specs.Processors as base
@@ -29,16 +27,12 @@ only_takes (call.Protect page write) = not write
 only_takes call.Exit = true
 only_takes _ = false
 
--- each frame of a page keeps its bytes, and is a page's or free: it is cleared when it is given, not when it is freed
-abbrev pub PagesStand : View → View → Type 0
-PagesStand v w = (f c : ℕ) → slice_get v.roles f ≡ Some (Page c) → (frame_bytes w.bytes f ≡ frame_bytes v.bytes f)
-    × ((slice_get w.roles f ≡ Some Free) ⊎ ((d : ℕ) × (slice_get w.roles f ≡ Some (Page d))))
-
--- the core carries out an event, and its reply isn't told yet (`Core::step_ending`)
+-- The core carries out an event, and its reply isn't told yet (`Core::step_ending`). Each way that the event doesn't
+-- take leads where it led. One that gives frames back leaves their bytes: a frame is cleared when it is given.
 pub record Begins (v : View) (e : Event) (r : Reply) (w : View) : Type 0 where
   pub carried : IsCarried v e r w
   pub stay : FramesStay (gone_by v.state e) (memory_of v) (memory_of w)
-  pub pages : only_takes e.call ≡ true → PagesStand v w
+  pub loose : gives_back e.call ≡ true → LooseStay (memory_of v) (memory_of w)
 
 -- ---- Moments
 
