@@ -1,22 +1,13 @@
 -- How pages and their counts change with one entry, and what the bytes of pages give.
-use Rattle.std.proofs.Common.{Bool, ◌≡◌, ◌≢◌, ℕ, ◌+◌, true, false, cond, List, refl, ap, sym, ◌∙◌, subst, arith, inl, inr, Option, Some, None}
-use Rattle.std.specs.Prelude.{◌⊎◌}
-use Rattle.std.specs.Option.{option_map}
-use Rattle.std.proofs.lemmas.Bool.{cases_eq}
-use Rattle.alloc_table.specs.declared.Role.TheVariants.{Reserved, Free, Directory, Table, Page}
-use Rattle.page_map.specs.declared.PageEntry.{PageEntry}
-use Rattle.page_words.specs.FiniteMap as map
-use Rattle.page_words.specs.FiniteMap.{Map}
-use Rattle.page_words.specs.FiniteSet as set
-use Rattle.address_space.specs.Spaces.{Slot, slot_order}
-use Rattle.page_words.specs.FiniteMap.{same}
-use Rattle.page_words.proofs.MapLemmas.{same_or_not, same_itself, get-insert, same_map, same_set, len-insert}
-use Rattle.address_space.specs.Cells.{Entries, names, holders_of, group_of, lazy_count, cell_of, spaces_of}
-use Rattle.address_space.specs.View.{Roles}
-use Rattle.address_space.specs.Sound.{Pages, HoldsPage}
+use Rattle.address_space.proofs.Prelude
+use Prelude.{Bool, ◌≡◌, ◌≢◌, ℕ, ◌+◌, true, false, cond, List, refl, ap, sym, ◌∙◌, subst, arith, inl, inr, Option, Some}
+use Prelude.{None, ◌⊎◌, option_map, cases_eq, ne_eqb, Reserved, Free, Directory, Table, Page, PageEntry, Map, same}
+use Prelude.{Slot, slot_order, same_or_not, same_itself, get-insert, same_map, same_set, len-insert, Entries, names}
+use Prelude.{holders_of, group_of, lazy_count, cell_of, spaces_of, Roles, Pages, HoldsPage}
 use Rattle.address_space.proofs.entries.Removal.{put_back, removed, kept_other}
 use Rattle.address_space.proofs.entries.Refinement.{contains-holders_of, same_holders, names-insert_same, holders-insert, holders-other, get-spaces_of, Unused}
-use Rattle.std.proofs.lemmas.Bool.{ne_eqb}
+use Rattle.page_words.specs.FiniteMap as map
+use Rattle.page_words.specs.FiniteSet as set
 
 -- the entry at a slot after one was put in: the new one, or one from before
 inserted : (E : Entries) (slot : Slot) (e : PageEntry) (q : Slot) (d : PageEntry) → map.get (map.insert E slot e) q ≡ Some d → (d ≡ e) ⊎ (map.get E q ≡ Some d)

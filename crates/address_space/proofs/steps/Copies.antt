@@ -1,29 +1,17 @@
 -- What a copy of a page leaves, and then a copy of all pages of a process.
-use Rattle.std.proofs.Common.{◌≡◌, ◌≢◌, ℕ, ◌+◌, ◌*◌, ◌^◌, ◌<◌, ◌≤◌, true, false, cond, List, length, refl, ap, sym, ◌∙◌, subst, arith, inl, inr, Option, Some, None, length-set, unwrap_or}
-use Rattle.std.specs.Prelude.{◌⊎◌, is_some, slice_get, ◌==◌, if◌then◌else◌}
-use Rattle.std.specs.Option.{option_and_then, option_map}
-use Rattle.page_words.specs.Addresses.{slot_number}
-use Rattle.page_words.specs.Words.{frame_number}
-use Rattle.page_words.specs.FiniteMap as map
-use Rattle.page_words.specs.FiniteSet as set
-use Rattle.page_words.specs.FiniteMap.{Map}
-use Rattle.page_words.proofs.MapLemmas.{get-insert, same_itself, same_map}
-use Rattle.page_words.proofs.SetLemmas.{same_apart}
-use Rattle.page_words.proofs.OptionLemmas.{some_value}
-use Rattle.phys_memory.specs.Bytes.{frame_bytes, with_frame, with_frame_bytes}
-use Rattle.phys_memory.proofs.Frames.{with_frame-same, with_frame-other, length-frame, frames-with_frame_bytes}
-use Rattle.alloc_table.specs.declared.Role.{Role}
-use Rattle.alloc_table.specs.declared.Role.TheVariants.{Free, Table, Page}
-use Rattle.alloc_table.specs.Roles.{frames_weight, IsTaken}
-use Rattle.alloc_table.proofs.RoleLemmas.{weight-taken}
-use Rattle.page_map.specs.declared.PageEntry.{PageEntry}
-use Rattle.page_map.specs.Entries.{Frames, dir_word, table_of, entry_at, with_entry, entry_word, is_lazy_entry, IsKernelEntry}
-use Rattle.page_map.proofs.WordLaws.{entry_word-names, entry_word-lt, entry_word-present, word_entry-entry_word}
-use Rattle.address_space.specs.Spaces.{Slot, slot_order, Cell, Spaces, cell_or_fresh, copy_of, copied, copied_at, cost, cost_of, fresh, pages_of, regions_of, at_page}
-use Rattle.address_space.specs.Cells.{Entries, group_of, lazy_count, cell_of, spaces_of}
-use Rattle.address_space.specs.View.{Directories, Roles, directory_of, table_in, entry_in, entries_in, spaces_in, live_cost, total_cost}
-use Rattle.address_space.specs.Sound.{Tables, Pages, IsSound, IsSpaces, InUseAt}
-use Rattle.address_space.specs.Changes.{TableGiven, IsEmptySpace, SlotCopied, PageCopied, CopiedBelow, PagesCopied}
+use Rattle.address_space.proofs.Prelude
+use Prelude.{◌≡◌, ◌≢◌, ℕ, ◌+◌, ◌*◌, ◌^◌, ◌<◌, ◌≤◌, true, false, cond, List, length, refl, ap, sym, ◌∙◌, subst, arith}
+use Prelude.{inl, inr, Option, Some, None, length-set, unwrap_or, ◌⊎◌, is_some, slice_get, ◌==◌, if◌then◌else◌}
+use Prelude.{option_and_then, option_map, slot_number, IsUserPage, frame_number, Map, get-insert, same_itself, same_map}
+use Prelude.{same_apart, some_value, frame_bytes, with_frame, with_frame_bytes, with_frame-same, with_frame-other}
+use Prelude.{length-frame, frames-with_frame_bytes, Role, Free, Table, Page, frames_weight, IsTaken, weight-taken}
+use Prelude.{PageEntry, Frames, dir_word, table_of, entry_at, with_entry, entry_word, is_lazy_entry, IsKernelEntry}
+use Prelude.{entry_word-names, entry_word-lt, entry_word-present, word_entry-entry_word, Slot, slot_order, Cell, Spaces}
+use Prelude.{cell_or_fresh, copy_of, copied, copied_at, cost, cost_of, fresh, pages_of, regions_of, at_page, Entries}
+use Prelude.{group_of, lazy_count, cell_of, spaces_of, Directories, Roles, directory_of, table_in, entry_in, entries_in}
+use Prelude.{spaces_in, live_cost, total_cost, Tables, Pages, IsSound, IsSpaces, InUseAt, TableGiven, IsEmptySpace}
+use Prelude.{SlotCopied, PageCopied, CopiedBelow, PagesCopied, cases_eq, cases_lt, ne_eqb, eq-eqb, nat_eq_equiv}
+use Prelude.{none_goes}
 use Rattle.address_space.proofs.costs.Copied.{get-copied}
 use Rattle.address_space.proofs.costs.Costed.{Room, mapped}
 use Rattle.address_space.proofs.costs.Costs.{same_pages}
@@ -40,13 +28,9 @@ use Rattle.address_space.proofs.steps.Stores.{get_user, entry_rules}
 use Rattle.address_space.proofs.steps.Departures.{no_cell_outside, no_cell_unmapped}
 use Rattle.address_space.proofs.steps.Openings.{empty_cost}
 use Rattle.address_space.proofs.standing.Standing.{same_entry, read_entry}
-use Rattle.std.proofs.lemmas.Bool.{cases_eq, cases_lt}
-use borrow.Author.Tests.{eq-eqb}
-use Rattle.page_words.specs.Addresses.{IsUserPage}
-use Rattle.std.specs.Cmp.{nat_eq_equiv}
-use Rattle.std.proofs.lemmas.Bool.{ne_eqb}
-use Rattle.address_space.specs.Stays.{none_goes}
 use Rattle.address_space.proofs.entries.Staying.{stay_same, stay_then, stay_new, places_by, places_then}
+use Rattle.page_words.specs.FiniteMap as map
+use Rattle.page_words.specs.FiniteSet as set
 
 -- ---- One page
 

@@ -1,37 +1,20 @@
 -- What a slot that joins a group leaves.
-use Rattle.std.proofs.Common.{◌≡◌, ◌≢◌, ℕ, ◌+◌, ◌*◌, ◌<◌, ◌≤◌, Bool, true, false, List, length, ap, sym, ◌∙◌, subst, arith, inr, Option, Some, None, length-set}
-use Rattle.std.specs.Prelude.{is_some, slice_get, slice_set}
-use Rattle.std.specs.Option.{option_and_then}
-use Rattle.page_words.specs.Addresses.{slot_number}
-use Rattle.page_words.specs.Words.{frame_number}
-use Rattle.phys_memory.specs.Bytes.{frame_bytes}
-use Rattle.phys_memory.proofs.Frames.{with_frame-other}
-use Rattle.alloc_table.specs.declared.Role.{Role}
-use Rattle.alloc_table.specs.declared.Role.TheVariants.{Table, Page}
-use Rattle.alloc_table.specs.Roles.{frames_weight}
-use Rattle.alloc_table.proofs.RoleLemmas.{weight-set}
-use Rattle.page_map.specs.declared.PageEntry.{PageEntry}
-use Rattle.page_map.specs.Entries.{Frames, dir_word, table_of, with_entry, entry_word, IsKernelEntry}
-use Rattle.page_map.proofs.WordLaws.{entry_word-names, entry_word-lt, entry_word-present, word_entry-entry_word}
-use Rattle.page_words.specs.FiniteMap as map
-use Rattle.page_words.specs.FiniteMap.{change_each}
-use Rattle.address_space.specs.Spaces.{Slot, joined, at_page}
-use Rattle.page_words.specs.FiniteMap.{collect, put_some}
-use Rattle.page_words.specs.FiniteMap.{same}
-use Rattle.address_space.specs.Cells.{Entries, lazy_count, cell_of, spaces_of}
-use Rattle.address_space.specs.View.{Directories, Roles, directory_of, table_in, entries_in, spaces_in, total_cost}
-use Rattle.address_space.specs.Sound.{Tables, Pages, IsSound, InUseAt, Names}
-use Rattle.address_space.specs.Changes.{SlotJoined}
+use Rattle.address_space.proofs.Prelude
+use Prelude.{◌≡◌, ◌≢◌, ℕ, ◌+◌, ◌*◌, ◌<◌, ◌≤◌, Bool, true, false, List, length, ap, sym, ◌∙◌, subst, arith, inr, Option}
+use Prelude.{Some, None, length-set, is_some, slice_get, slice_set, option_and_then, slot_number, frame_number}
+use Prelude.{frame_bytes, with_frame-other, Role, Table, Page, frames_weight, weight-set, PageEntry, Frames, dir_word}
+use Prelude.{table_of, with_entry, entry_word, IsKernelEntry, entry_word-names, entry_word-lt, entry_word-present}
+use Prelude.{word_entry-entry_word, change_each, collect, put_some, same, Slot, joined, at_page, Entries, lazy_count}
+use Prelude.{cell_of, spaces_of, Directories, Roles, directory_of, table_in, entries_in, spaces_in, total_cost, Tables}
+use Prelude.{Pages, IsSound, InUseAt, Names, SlotJoined, some_value, ne_eqb, none_goes}
 use Rattle.address_space.proofs.costs.CostSteps.{total-entry}
 use Rattle.address_space.proofs.entries.EntrySteps.{entries-insert, tables-entry, tables_kept, use_own, use_kept}
 use Rattle.address_space.proofs.frames.FrameSteps.{tables-role}
 use Rattle.address_space.proofs.frames.PageSteps.{same_bytes, pages-join, no_table, lazy-real}
 use Rattle.address_space.proofs.entries.Refinement.{get-spaces_of, join_refines}
 use Rattle.address_space.proofs.steps.Steps.{inside, live_small, page_loose, none_before, table_by_word, role_own, role_other}
-use Rattle.page_words.proofs.OptionLemmas.{some_value}
-use Rattle.std.proofs.lemmas.Bool.{ne_eqb}
-use Rattle.address_space.specs.Stays.{none_goes}
 use Rattle.address_space.proofs.entries.Staying.{stay_same, stay_then, stay_new, places_by}
+use Rattle.page_words.specs.FiniteMap as map
 
 pub slot_joined : (directories : List (Option ℕ)) (bytes two : List ℕ) (roles roles' : List Role) (giver giver_page p d page f c : ℕ) (right : Bool) → IsSound directories bytes roles → directory_of directories p ≡ Some d
     → 0x40000 ≤ page → page < 0xf0000 → map.get (spaces_in directories bytes) (at_page p page) ≡ None → is_some (table_of (frame_bytes bytes) d (slot_number page)) ≡ true

@@ -1,40 +1,25 @@
 -- What a slot that leaves its group leaves.
-use Rattle.std.proofs.Common.{◌≡◌, ◌≢◌, ℕ, ◌+◌, ◌*◌, ◌<◌, ◌≤◌, Bool, true, false, List, length, refl, ap, sym, ◌∙◌, subst, arith, inl, inr, Option, Some, None, length-set}
-use Rattle.std.specs.Prelude.{◌⊎◌, slice_get, slice_set, if◌then◌else◌, nat_lt, ◌-◌}
-use Rattle.std.specs.Option.{option_and_then}
-use Rattle.std.proofs.lemmas.Bool.{cases_eq}
-use Rattle.std.proofs.lemmas.Bool.Decides.{nat_tests}
-use Rattle.page_words.specs.Addresses.{slot_number}
-use Rattle.page_words.specs.Words.{is_present, frame_number}
-use Rattle.phys_memory.specs.Bytes.{frame_bytes, word_in}
-use Rattle.phys_memory.proofs.Frames.{with_frame-other}
-use Rattle.alloc_table.specs.declared.Role.{Role}
-use Rattle.alloc_table.specs.declared.Role.TheVariants.{Reserved, Free, Table, Page}
-use Rattle.alloc_table.specs.Roles.{frames_weight, weight, IsReleased, released, IsInUse}
-use Rattle.alloc_table.proofs.RoleLemmas.{weight-set}
-use Rattle.page_map.specs.declared.PageEntry.{PageEntry}
-use Rattle.page_map.specs.Entries.{Frames, dir_word, table_of, entry_at, IsCleared, IsKernelEntry, without_table}
-use Rattle.page_words.specs.FiniteMap as map
-use Rattle.page_words.specs.FiniteMap.{change_each}
-use Rattle.page_words.specs.FiniteSet as set
-use Rattle.address_space.specs.Spaces.{Slot, need, is_slot, at_page}
-use Rattle.page_words.specs.FiniteMap.{collect, put_some}
-use Rattle.page_words.specs.FiniteMap.{same}
-use Rattle.address_space.specs.Cells.{Entries, lazy_count, cell_of, spaces_of, holders_of}
-use Rattle.address_space.specs.View.{Directories, Roles, directory_of, table_in, entries_in, spaces_in, total_cost}
-use Rattle.address_space.specs.Sound.{Tables, Pages, HoldsPage, IsSound, InUseAt, IsSpaces}
-use Rattle.address_space.specs.Changes.{TableFreed, EntryLeft, SlotRemoved}
+use Rattle.address_space.proofs.Prelude
+use Prelude.{◌≡◌, ◌≢◌, ℕ, ◌+◌, ◌*◌, ◌<◌, ◌≤◌, Bool, true, false, List, length, refl, ap, sym, ◌∙◌, subst, arith, inl}
+use Prelude.{inr, Option, Some, None, length-set, ◌⊎◌, slice_get, slice_set, if◌then◌else◌, nat_lt, ◌-◌}
+use Prelude.{option_and_then, cases_eq, nat_tests, slot_number, is_present, frame_number, frame_bytes, word_in}
+use Prelude.{with_frame-other, Role, Reserved, Free, Table, Page, frames_weight, weight, IsReleased, released, IsInUse}
+use Prelude.{weight-set, PageEntry, Frames, dir_word, table_of, entry_at, IsCleared, IsKernelEntry, without_table}
+use Prelude.{change_each, collect, put_some, same, Slot, need, is_slot, at_page, Entries, lazy_count, cell_of}
+use Prelude.{spaces_of, holders_of, Directories, Roles, directory_of, table_in, entries_in, spaces_in, total_cost}
+use Prelude.{Tables, Pages, HoldsPage, IsSound, InUseAt, IsSpaces, TableFreed, EntryLeft, SlotRemoved, of_page}
+use Prelude.{EntriesStay, PlacesStay}
 use Rattle.address_space.proofs.costs.CostSteps.{total-entry, need-one, need-most}
-use Rattle.address_space.proofs.entries.EntrySteps.{Loose, with_word_at, entries-remove, tables-entry, tables_kept}
+use Rattle.address_space.proofs.entries.EntrySteps.{Loose, with_word_at, entries-remove, tables-entry, tables_kept, same_entries}
 use Rattle.address_space.proofs.frames.FrameSteps.{here_or_not, tables-role, unlinked-own, unlinked-others, unlinked-table, unlinked-entry, tables-unlinked}
 use Rattle.address_space.proofs.frames.PageSteps.{same_bytes, pages-role, holders-less, no_table, no_directory}
 use Rattle.address_space.proofs.entries.Refinement.{leave_refines}
 use Rattle.address_space.proofs.steps.Steps.{live_small, page_loose, free_loose, table_by_word, role_own, role_other}
 use Rattle.address_space.proofs.steps.Stores.{Found, found, get_user, named_entry, page_of_name, page_held, entry_rules}
 use Rattle.address_space.proofs.entries.Removal.{put_back, removed, kept_other}
-use Rattle.address_space.proofs.entries.EntrySteps.{same_entries}
 use Rattle.address_space.proofs.entries.Staying.{stay_same, stay_then, stay_removed, places_by, entry_needs_table}
-use Rattle.address_space.specs.Stays.{of_page, EntriesStay, PlacesStay}
+use Rattle.page_words.specs.FiniteMap as map
+use Rattle.page_words.specs.FiniteSet as set
 
 -- the role after one holder less
 after_page : (c : ℕ) → (nat_lt 1 c ≡ true) ⊎ (nat_lt 1 c ≡ false)

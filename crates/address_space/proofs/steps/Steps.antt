@@ -1,34 +1,22 @@
 -- What each step of the code leaves.
-use Rattle.std.proofs.Common.{◌≡◌, ◌≢◌, ℕ, ◌+◌, ◌*◌, ◌^◌, ◌<◌, ◌≤◌, Bool, true, false, List, length, replicate, refl, ap, sym, ◌∙◌, subst, arith, inl, inr, Option, Some, None, length-set}
-use Rattle.std.specs.Prelude.{is_some, slice_get, slice_set, if◌then◌else◌}
-use Rattle.std.specs.Option.{option_and_then, unwrap_or}
-use Rattle.std.proofs.lemmas.Option.{slice_get_within}
-use Rattle.page_words.specs.Addresses.{slot_number}
-use Rattle.page_words.specs.Words.{is_present, frame_number}
-use Rattle.phys_memory.specs.Bytes.{frame_bytes, word_in, with_frame, with_frame_bytes}
-use Rattle.alloc_table.specs.declared.Role.{Role}
-use Rattle.alloc_table.specs.declared.Role.TheVariants.{Reserved, Free, Directory, Table, Page}
-use Rattle.alloc_table.specs.Roles.{IsTaken}
-use Rattle.alloc_table.proofs.RoleLemmas.{get-set_same, get-set_other, weight-taken}
-use Rattle.phys_memory.proofs.Frames.{length-frame, with_frame-other, frames-with_frame_bytes}
-use Rattle.page_map.proofs.WordLaws.{entry_word-names, entry_word-lt, entry_word-present, word_entry-entry_word}
-use Rattle.std.proofs.lemmas.List.{length-replicate}
+use Rattle.address_space.proofs.Prelude
+use Prelude.{◌≡◌, ◌≢◌, ℕ, ◌+◌, ◌*◌, ◌^◌, ◌<◌, ◌≤◌, Bool, true, false, List, length, replicate, refl, ap, sym, ◌∙◌}
+use Prelude.{subst, arith, inl, inr, Option, Some, None, length-set, is_some, slice_get, slice_set, if◌then◌else◌}
+use Prelude.{option_and_then, unwrap_or, option_map, slice_get_within, slot_number, is_present, frame_number}
+use Prelude.{frame_bytes, word_in, with_frame, with_frame_bytes, Role, Reserved, Free, Directory, Table, Page, IsTaken}
+use Prelude.{get-set_same, get-set_other, weight-taken, length-frame, with_frame-other, frames-with_frame_bytes}
+use Prelude.{entry_word-names, entry_word-lt, entry_word-present, word_entry-entry_word, length-replicate, PageEntry}
+use Prelude.{Frames, dir_word, word_table, table_of, with_table, with_entry, entry_word, IsKernelEntry, IsPageMap, Slot}
+use Prelude.{fresh, at_page, Entries, lazy_count, cell_of, spaces_of, Directories, Roles, directory_of, table_in}
+use Prelude.{entry_in, entries_in, spaces_in, total_cost, Tables, Pages, HoldsPage, IsSound, InUseAt, Inside}
+use Prelude.{TableGiven, PageAdded, table_need, none_goes}
 use Rattle.address_space.proofs.entries.Refinement.{lazy_refines, get-spaces_of}
-use Rattle.std.specs.Option.{option_map}
-use Rattle.page_map.specs.declared.PageEntry.{PageEntry}
-use Rattle.page_map.specs.Entries.{Frames, dir_word, word_table, table_of, with_table, with_entry, entry_word, IsKernelEntry, IsPageMap}
-use Rattle.page_words.specs.FiniteMap as map
-use Rattle.address_space.specs.Spaces.{Slot, fresh, at_page}
-use Rattle.address_space.specs.Cells.{Entries, lazy_count, cell_of, spaces_of}
-use Rattle.address_space.specs.View.{Directories, Roles, directory_of, table_in, entry_in, entries_in, spaces_in, total_cost}
-use Rattle.address_space.specs.Sound.{Tables, Pages, HoldsPage, IsSound, InUseAt, Inside}
-use Rattle.address_space.specs.Changes.{TableGiven, PageAdded, table_need}
 use Rattle.address_space.proofs.costs.CostSteps.{total-entry}
 use Rattle.address_space.proofs.entries.EntrySteps.{Loose, entries-insert, entry_own, tables-entry, tables_kept, use_own, use_kept}
 use Rattle.address_space.proofs.frames.FrameSteps.{tables-linked, linked-entries, linked-own, linked-others, linked-other, kept_table, loose-directory, tables-loose}
 use Rattle.address_space.proofs.frames.PageSteps.{same_bytes, pages-role, pages-lazy, lazy-more, no_free, no_table, no_directory}
-use Rattle.address_space.specs.Stays.{none_goes}
 use Rattle.address_space.proofs.entries.Staying.{stay_same, stay_then, stay_new, places_by}
+use Rattle.page_words.specs.FiniteMap as map
 
 -- a frame with a role lies in memory
 inside_by : (bytes : List ℕ) (roles : List Role) (f : ℕ) (r : Role) → length bytes ≡ 4096 * length roles → length roles ≤ 1048576 → slice_get roles f ≡ Some r → Inside bytes f

@@ -1,38 +1,24 @@
 -- What a walk that finds a frame, its mark, and a byte written where it leads come to.
-use Rattle.std.proofs.Common.{◌≡◌, ◌≢◌, ℕ, ◌+◌, ◌*◌, ◌%◌, ◌^◌, ◌<◌, ◌≤◌, Bool, true, false, not, List, [], ◌∷◌, length, refl, ap, sym, ◌∙◌, subst, arith, inl, inr, Option, Some, None}
-use Rattle.std.specs.Prelude.{◌&&◌, is_some, if◌then◌else◌, slice_get, slice_index, slice_set, IsOk, Result, Ok, Err, nat_le}
-use Rattle.std.specs.Option.{option_and_then}
-use Rattle.std.specs.Result.{is_ok}
-use Rattle.std.proofs.lemmas.Bool.Decides.{nat_tests}
-use Rattle.page_words.specs.Addresses.{IsUserPage, page_number, offset_number, slot_number, index_number}
-use Rattle.page_words.specs.Words.{frame_number, is_present, NamesPage, IsKernelTableWord}
+use Rattle.address_space.proofs.Prelude
+use Prelude.{◌≡◌, ◌≢◌, ℕ, ◌+◌, ◌*◌, ◌%◌, ◌^◌, ◌<◌, ◌≤◌, Bool, true, false, not, List, [], ◌∷◌, length, refl, ap, sym}
+use Prelude.{◌∙◌, subst, arith, inl, inr, Option, Some, None, ◌&&◌, is_some, if◌then◌else◌, slice_get, slice_index}
+use Prelude.{slice_set, IsOk, Result, Ok, Err, nat_le, option_and_then, is_ok, nat_tests, IsUserPage, page_number}
+use Prelude.{offset_number, slot_number, index_number, frame_number, is_present, NamesPage, IsKernelTableWord}
+use Prelude.{frame_bytes, word_at, word_place, with_word, word_in, with_word_in, with_frame, Role, Directory, Table}
+use Prelude.{Access, Read, Write, WalkEnd, Outside, PageEntry, Frames, dir_word, table_of, word_entry, entry_from}
+use Prelude.{entry_at, entry_word, with_entry, lets_writes, IsKernelEntry, walks_read_entries, user_cases, byte_place}
+use Prelude.{is_marked, and_parts, Slot, Spaces, Cell, cell_or_fresh, stored, write_at, byte_at, at_page, slot_at}
+use Prelude.{Directories, Roles, directory_of, table_in, spaces_in, Tables, IsSound, Inside, Touched, none_goes}
 use Rattle.page_words.proofs.Flags.{table_words_by_fields}
-use Rattle.phys_memory.specs.Bytes.{frame_bytes, word_at, word_place, with_word, word_in, with_word_in, with_frame}
 use Rattle.phys_memory.proofs.Words.{length-with_word}
 use Rattle.phys_memory.proofs.Frames.{by_frame, byte-frame, frames-with_word, frames-with_byte, word_in-frame}
-use Rattle.alloc_table.specs.declared.Role.{Role}
-use Rattle.alloc_table.specs.declared.Role.TheVariants.{Directory, Table}
-use Rattle.table_walk.specs.declared.Access.{Access}
-use Rattle.table_walk.specs.declared.Access.TheVariants.{Read, Write}
-use Rattle.table_walk.specs.declared.WalkEnd.{WalkEnd}
-use Rattle.table_walk.specs.declared.WalkEnd.TheVariants.{Outside}
 use Rattle.table_walk.specs.Walk.{walk_of, table_word, not_present, is_write, is_outside, not_allowed}
 use Rattle.table_walk.specs.Marks.{marked, accessed_word, touched_word}
 use Rattle.table_walk.proofs.Leads.{walks_find_what_leads}
-use Rattle.page_map.specs.declared.PageEntry.{PageEntry}
-use Rattle.page_map.specs.Entries.{Frames, dir_word, table_of, word_entry, entry_from, entry_at, entry_word, with_entry, lets_writes, IsKernelEntry}
 use Rattle.page_map.specs.Laws.{end_at_entry, touched_entry}
-use Rattle.page_map.proofs.LawProofs.{walks_read_entries}
-use Rattle.page_map.proofs.PageLemmas.{user_cases}
 use Rattle.page_map.proofs.MarkProofs.{touched_names, entry_from-touched}
 use Rattle.page_map.proofs.WordLaws.{entry_word-names, entry_from-entry_word, with_flag_lt}
-use Rattle.address_space.specs.ByWalk.{byte_place}
-use Rattle.address_space.specs.Kept.{is_marked}
-use Rattle.std.proofs.lemmas.Bool.{and_parts}
-use Rattle.address_space.specs.Spaces.{Slot, Spaces, Cell, cell_or_fresh, accessed as accessed_in, stored, write_at, byte_at, at_page, slot_at}
-use Rattle.address_space.specs.View.{Directories, Roles, directory_of, table_in, spaces_in}
-use Rattle.address_space.specs.Sound.{Tables, IsSound, Inside}
-use Rattle.address_space.specs.Changes.{Touched}
+use Rattle.address_space.specs.Spaces.{accessed as accessed_in}
 use Rattle.address_space.proofs.entries.EntrySteps.{entry_by_table}
 use Rattle.address_space.proofs.frames.PageSteps.{no_directory, no_table}
 use Rattle.address_space.proofs.steps.Steps.{inside, holds_inside, live_small, page_map_of, present_by_table, table_by_word}
@@ -40,7 +26,6 @@ use Rattle.address_space.proofs.steps.Stores.{found, get_user, entry_rules, page
 use Rattle.address_space.proofs.steps.Bytes.{write_at-nothing, stored-none, stored-flags}
 use Rattle.address_space.proofs.steps.Departures.{no_table_outside}
 use Rattle.address_space.proofs.steps.DirWords.{DirsAlike, flagged_alike, dirs_touched, one_dir_word, dirs-entry, dirs-table, dirs-tables}
-use Rattle.address_space.specs.Stays.{none_goes}
 use Rattle.address_space.proofs.entries.Staying.{places_then}
 
 -- ---- What a walk finds

@@ -1,36 +1,24 @@
 -- Accesses that a processor makes by its walk, on what is kept.
-use Rattle.std.proofs.Common.{◌≡◌, ◌+◌, ◌*◌, ◌/◌, ◌%◌, ◌^◌, ◌<◌, ℕ, Bool, true, false, cond, if◌then◌else◌, List, [], ◌∷◌, length, refl, ap, sym, ◌∙◌, subst, arith, inl, inr, Option, Some, None}
-use Rattle.std.specs.Prelude.{◌&&◌, IsOk, Ok, nat_lt, slice_set}
-use Rattle.std.specs.Option.{option_map, unwrap_or}
-use Rattle.std.specs.Result.{is_ok}
-use Rattle.std.proofs.lemmas.Bool.{and_parts}
-use Rattle.std.proofs.lemmas.Bool.Decides.{nat_tests}
-use Rattle.page_words.specs.Addresses.{page_number, offset_number, start_number, second_page}
-use Rattle.page_words.specs.declared.addresses.Size.{Size}
-use Rattle.table_walk.specs.declared.Access.{Access}
-use Rattle.table_walk.specs.declared.Access.TheVariants.{Read, Write}
-use Rattle.table_walk.specs.Walk.{walk_of}
-use Rattle.table_walk.specs.Marks.{marked}
+use Rattle.address_space.proofs.Prelude
+use Prelude.{◌≡◌, ◌+◌, ◌*◌, ◌/◌, ◌%◌, ◌^◌, ◌<◌, ℕ, Bool, true, false, cond, if◌then◌else◌, List, [], ◌∷◌, length, refl}
+use Prelude.{ap, sym, ◌∙◌, subst, arith, inl, inr, Option, Some, None, ◌&&◌, IsOk, Ok, nat_lt, slice_set, option_map}
+use Prelude.{unwrap_or, is_ok, and_parts, nat_tests, page_number, offset_number, start_number, second_page, Size}
+use Prelude.{Access, Read, Write, walk_of, marked, finds_at, finds, byte_place, Image, image_from, directory_at, Slot}
+use Prelude.{slot_order, Cell, Spaces, fresh, with_bytes, set_bytes, write_at, bytes_of, accessed, stored}
+use Prelude.{cell_or_fresh, slot_at, get-insert, get-map_values, same_or_not, directory_of, Touched, AreCountedSpaces}
+use Prelude.{FramesStay, none_goes}
 use Rattle.address_space.specs.declared.Spaces.TheInside.{Inside as Inner}
-use Rattle.address_space.specs.ByWalk.{finds_at, finds, byte_place}
-use Rattle.address_space.specs.Image.{Image, image_from, directory_at}
-use Rattle.address_space.specs.Spaces.{Slot, slot_order, Cell, Spaces, fresh, with_bytes, set_bytes, write_at, bytes_of, accessed, stored, cell_or_fresh, slot_at}
 use Rattle.address_space.specs.Kept.{is_marked, kept_place, written_at}
-use Rattle.page_words.specs.FiniteMap as map
-use Rattle.page_words.specs.FiniteSet as set
-use Rattle.page_words.proofs.MapLemmas.{get-insert, get-map_values, same_or_not}
-use Rattle.address_space.specs.View.{directory_of}
-use Rattle.address_space.specs.Changes.{Touched}
 use Rattle.address_space.proofs.Insides.{AreCountedInside, spaces_at, image_at}
-use Rattle.address_space.specs.Counts.{AreCountedSpaces}
 use Rattle.address_space.proofs.costs.AccessCosts.{kept, key-stored}
 use Rattle.address_space.proofs.standing.Standing.{lazy_kept}
 use Rattle.address_space.proofs.steps.Touches.{kept_touched}
 use Rattle.address_space.proofs.steps.Finding.{found_at, found_mapped}
 use Rattle.address_space.proofs.steps.FoundPages.{Left}
 use Rattle.address_space.proofs.steps.WalkSteps.{found_entry, load_marked, ByteParts, byte_written, byte_put, walk_named}
-use Rattle.address_space.specs.Stays.{FramesStay, none_goes}
 use Rattle.address_space.proofs.standing.FramesStand.{frames_stay}
+use Rattle.page_words.specs.FiniteMap as map
+use Rattle.page_words.specs.FiniteSet as set
 
 -- the walk of the first page, and that of the second where there is one
 pub finds_first : (image : Image) (p address : ℕ) (size : Size) (access : Access) → finds image p address size access ≡ true → finds_at image p access address ≡ true

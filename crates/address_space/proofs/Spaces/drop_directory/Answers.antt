@@ -1,14 +1,10 @@
-use Rattle.std.proofs.Common.{◌≡◌, ◌∙◌, sym, subst, refl, true, false}
-use Rattle.alloc_table.specs.declared.Role.TheVariants.{Directory}
-use Rattle.address_space.specs.Changes.{DirectoryDropped}
-use Rattle.phys_memory.specs.Bytes.{frame_bytes}
+use Rattle.address_space.proofs.Prelude.{◌≡◌, ◌∙◌, sym, subst, refl, true, false, Directory, DirectoryDropped}
+use Rattle.address_space.proofs.Prelude.{frame_bytes, directory_of, spaces_in, eq-eqb}
 use Rattle.address_space.specs.Stays.{none_goes, of_process}
-use Rattle.address_space.specs.View.{directory_of, spaces_in}
 use Rattle.address_space.proofs.entries.Staying.{places_more}
 use Rattle.address_space.proofs.standing.FramesStand.{frames_stay_by}
 use Rattle.address_space.proofs.steps.CountSteps.{counts_kept, alike_released}
 use Rattle.address_space.proofs.steps.Departures.{directory_removed}
-use borrow.Author.Tests.{eq-eqb}
 use Rattle.address_space.proofs.Spaces.drop_directory.Goals as goal
 
 pub release-requires : goal.release-requires

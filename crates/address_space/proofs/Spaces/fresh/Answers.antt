@@ -1,10 +1,5 @@
-use Rattle.std.proofs.Common.{◌≡◌, ◌<◌, ◌∙◌, ap, refl, sym, subst, None, Some, arith}
-use Rattle.std.specs.Prelude.{slice_set}
-use Rattle.alloc_table.specs.declared.Role.TheVariants.{Free, Directory}
-use Rattle.address_space.specs.Changes.{SpaceAdded}
-use Rattle.page_map.specs.Entries.{is_lazy_entry}
-use Rattle.address_space.specs.Stays.{none_goes}
-use Rattle.address_space.specs.View.{directory_of, spaces_in}
+use Rattle.address_space.proofs.Prelude.{◌≡◌, ◌<◌, ◌∙◌, ap, refl, sym, subst, None, Some, arith, slice_set, Free}
+use Rattle.address_space.proofs.Prelude.{Directory, SpaceAdded, is_lazy_entry, none_goes, directory_of, spaces_in}
 use Rattle.address_space.proofs.standing.FramesStand.{frames_stay_by}
 use Rattle.address_space.proofs.standing.Standing.{same_lazy}
 use Rattle.address_space.proofs.steps.CountSteps.{counts_kept, alike_taken}

@@ -1,20 +1,13 @@
-use Rattle.std.proofs.Common.{◌<◌, ◌^◌, ap, sym, ◌∙◌, subst}
-use Rattle.phys_memory.specs.Bytes.{frame_bytes}
-use Rattle.page_map.specs.declared.PageEntry.{PageEntry}
-use Rattle.page_map.specs.Entries.{with_entry}
-use Rattle.address_space.specs.Spaces.{Spaces, joined, at_page}
+use Rattle.address_space.proofs.Prelude.{◌<◌, ◌^◌, ap, sym, ◌∙◌, subst, frame_bytes, PageEntry, with_entry, Spaces}
+use Rattle.address_space.proofs.Prelude.{joined, at_page, table_of_place, found_of, is_some, none_goes, directory_of}
 use Rattle.address_space.proofs.steps.Steps.{page_map_of}
 use Rattle.address_space.proofs.steps.CountSteps.{alike_held}
 use Rattle.address_space.proofs.steps.FoundPages.{found_real, found_named, found_least, found_mapped}
 use Rattle.address_space.proofs.steps.NewPages.{table_room, ready_given, ready_inside, ready_count, ready_fits, ready_below, ready_small, holder_added, holder_more, added_kept}
-use Rattle.address_space.specs.Places.{table_of_place, found_of}
 use Rattle.address_space.proofs.steps.Placing.{place_table, place_found}
-use Rattle.std.specs.Prelude.{is_some}
-use Rattle.address_space.proofs.Spaces.join_at.Goals as goal
-use Rattle.address_space.specs.Stays.{none_goes}
 use Rattle.address_space.proofs.standing.FramesStand.{frames_stay}
-use Rattle.address_space.specs.View.{directory_of}
 use Rattle.address_space.proofs.entries.Staying.{places_ready}
+use Rattle.address_space.proofs.Spaces.join_at.Goals as goal
 
 pub unwrap-found-requires : goal.unwrap-found-requires
 unwrap-found-requires c =

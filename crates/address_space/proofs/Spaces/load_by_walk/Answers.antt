@@ -1,12 +1,8 @@
-use Rattle.std.proofs.Common.{◌≡◌, ◌^◌, ◌<◌, ap, sym, subst, ◌∙◌, Some, None, arith}
-use Rattle.std.specs.Prelude.{IsOk}
-use Rattle.std.specs.Result.{is_ok}
-use Rattle.page_words.specs.Addresses.{page_number, start_number, second_page, page_and}
-use Rattle.table_walk.specs.declared.Access.TheVariants.{Read}
-use Rattle.table_walk.specs.Walk.{walk_of}
+use Rattle.address_space.proofs.Prelude.{◌≡◌, ◌^◌, ◌<◌, ap, sym, subst, ◌∙◌, Some, None, arith, IsOk, is_ok}
+use Rattle.address_space.proofs.Prelude.{page_number, start_number, second_page, page_and, Read, walk_of, all_accessed}
+use Rattle.address_space.proofs.Prelude.{accessed, at_page}
 use Rattle.address_space.proofs.standing.FramesStand.{stays_then}
 use Rattle.address_space.specs.declared.Spaces.TheInside.{Inside as Inner}
-use Rattle.address_space.specs.Spaces.{all_accessed, accessed, at_page}
 use Rattle.address_space.proofs.Insides.{spaces_at, image_at}
 use Rattle.address_space.proofs.steps.WalkSteps.{found_apart}
 use Rattle.address_space.proofs.steps.Finding.{finds_live, found_at, found_each, found_fits, found_pages, number_is}

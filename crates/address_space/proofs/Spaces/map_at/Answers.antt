@@ -1,20 +1,14 @@
-use Rattle.std.proofs.Common.{◌^◌, ◌<◌, ap, sym, subst, arith, ◌∙◌, refl}
-use Rattle.phys_memory.specs.Bytes.{frame_bytes}
-use Rattle.page_words.specs.FiniteMap as map
-use Rattle.page_map.specs.declared.PageEntry.{PageEntry}
-use Rattle.page_map.specs.Entries.{with_entry, is_lazy_entry}
-use Rattle.address_space.specs.Spaces.{Spaces, fresh, at_page}
+use Rattle.address_space.proofs.Prelude.{◌^◌, ◌<◌, ap, sym, subst, arith, ◌∙◌, refl, frame_bytes, PageEntry, with_entry}
+use Rattle.address_space.proofs.Prelude.{is_lazy_entry, Spaces, fresh, at_page, table_of_place, none_goes, directory_of}
 use Rattle.address_space.proofs.standing.Standing.{same_lazy}
 use Rattle.address_space.proofs.steps.Steps.{page_map_of}
 use Rattle.address_space.proofs.steps.NewPages.{table_room, ready_given, ready_table, ready_inside, ready_count, ready_fits, zero_added, zero_more, added_kept}
 use Rattle.address_space.proofs.steps.FoundPages.{found_written}
-use Rattle.address_space.specs.Places.{table_of_place}
 use Rattle.address_space.proofs.steps.Placing.{place_table, place_mapped}
-use Rattle.address_space.proofs.Spaces.map_at.Goals as goal
-use Rattle.address_space.specs.Stays.{none_goes}
 use Rattle.address_space.proofs.standing.FramesStand.{frames_stay}
-use Rattle.address_space.specs.View.{directory_of}
 use Rattle.address_space.proofs.entries.Staying.{places_ready}
+use Rattle.page_words.specs.FiniteMap as map
+use Rattle.address_space.proofs.Spaces.map_at.Goals as goal
 
 pub give_table-table-requires-clause-map : goal.give_table-table-requires-clause-map
 give_table-table-requires-clause-map c =

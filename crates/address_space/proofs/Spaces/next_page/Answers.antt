@@ -1,13 +1,10 @@
-use Rattle.std.proofs.Common.{◌≡◌, ◌≤◌, ◌<◌, ◌∙◌, ℕ, Bool, true, false, ap, sym, Option, Some, None}
+use Rattle.address_space.proofs.Prelude.{◌≡◌, ◌≤◌, ◌<◌, ◌∙◌, ℕ, Bool, true, false, ap, sym, Option, Some, None}
+use Rattle.address_space.proofs.Prelude.{frame_bytes, is_mapped, at_page, View}
 use Rattle.std.specs.Prelude.{is_some, IfSome, IfNone}
-use Rattle.page_words.specs.FiniteMap as map
-use Rattle.phys_memory.specs.Bytes.{frame_bytes}
-use Rattle.page_map.specs.Pages.{is_mapped}
-use Rattle.address_space.specs.Spaces.{at_page}
-use Rattle.address_space.specs.View.{View}
 use Rattle.address_space.proofs.steps.NextPages.{next_read}
 use Rattle.address_space.proofs.steps.Openings.{no_cell}
 use Rattle.address_space.proofs.steps.Steps.{page_map_of}
+use Rattle.page_words.specs.FiniteMap as map
 use Rattle.address_space.proofs.Spaces.next_page.Goals as goal
 
 pub returns-in_default-clause-none : goal.returns-in_default-clause-none

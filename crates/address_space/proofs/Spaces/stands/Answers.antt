@@ -1,20 +1,14 @@
-use Rattle.std.proofs.Common.{◌≡◌, ℕ, ◌+◌, ◌≤◌, subst, arith, refl, true}
-use Rattle.std.specs.Prelude.{length, is_some}
+use Rattle.address_space.proofs.Prelude.{◌≡◌, ℕ, ◌+◌, ◌≤◌, subst, arith, refl, true, length, is_some, View, total_cost}
+use Rattle.address_space.proofs.Prelude.{directory_of, entries_in, spaces_in, lazy_count, holders_of, frame_bytes, cost}
+use Rattle.address_space.proofs.Prelude.{WalksAgree, PlacesTell, WaysAgree}
 use Rattle.alloc_table.proofs.RoleLemmas.{in-use-and-reserved}
 use Rattle.address_space.specs.Image.{StandsFor, LeavesRoom, image_of}
-use Rattle.address_space.specs.View.{View, total_cost, directory_of, entries_in, spaces_in}
-use Rattle.address_space.specs.Cells.{lazy_count, holders_of}
-use Rattle.phys_memory.specs.Bytes.{frame_bytes}
-use Rattle.address_space.specs.Spaces.{cost}
 use Rattle.address_space.proofs.steps.Openings.{cost_within}
-use Rattle.address_space.specs.Walks.{WalksAgree}
 use Rattle.address_space.proofs.standing.WalkEnds.{walks_agree}
 use Rattle.address_space.proofs.standing.Standing.{image_stands, lazy_slots}
-use Rattle.address_space.specs.Places.{PlacesTell}
 use Rattle.address_space.proofs.steps.Placing.{places_tell}
-use Rattle.address_space.proofs.Spaces.stands.Goals as goal
-use Rattle.address_space.specs.Stays.{WaysAgree}
 use Rattle.address_space.proofs.standing.WaysStand.{ways_agree}
+use Rattle.address_space.proofs.Spaces.stands.Goals as goal
 
 pub returns-clause-image : goal.returns-clause-image
 returns-clause-image c =

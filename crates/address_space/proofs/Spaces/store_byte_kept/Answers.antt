@@ -1,10 +1,5 @@
-use Rattle.std.proofs.Common.{◌≡◌, ◌∙◌, ap, sym, subst, Some}
-use Rattle.std.specs.Prelude.{◌%◌, [], ◌∷◌}
-use Rattle.page_words.specs.Addresses.{offset_number}
-use Rattle.table_walk.specs.declared.Access.TheVariants.{Write}
-use Rattle.table_walk.specs.Walk.{walk_of}
-use Rattle.address_space.specs.Kept.{is_marked}
-use Rattle.address_space.specs.Spaces.{slot_at}
+use Rattle.address_space.proofs.Prelude.{◌≡◌, ◌∙◌, ap, sym, subst, Some, ◌%◌, [], ◌∷◌, offset_number, Write, walk_of}
+use Rattle.address_space.proofs.Prelude.{is_marked, slot_at}
 use Rattle.address_space.proofs.Insides.{spaces_at, image_at}
 use Rattle.address_space.proofs.steps.Finding.{finds_live_at, found_at}
 use Rattle.address_space.proofs.steps.WalkedPages.{byte_kept, marked_stored}

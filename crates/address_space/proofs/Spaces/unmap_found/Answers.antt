@@ -1,12 +1,9 @@
-use Rattle.std.proofs.Common.{ap, arith}
-use Rattle.std.specs.Prelude.{is_some}
+use Rattle.address_space.proofs.Prelude.{ap, arith, is_some, frame_bytes, of_page}
 use Rattle.address_space.proofs.steps.Steps.{page_map_of}
 use Rattle.address_space.proofs.steps.GonePages.{home_table, home_entry, home_count, home_positive, home_counts, home_in_use, gone_table, gone_page, gone_kept}
-use Rattle.phys_memory.specs.Bytes.{frame_bytes}
 use Rattle.address_space.proofs.steps.RegionDrops.{entry_gone}
-use Rattle.address_space.proofs.Spaces.unmap_found.Goals as goal
-use Rattle.address_space.specs.Stays.{of_page}
 use Rattle.address_space.proofs.standing.FramesStand.{frames_stay}
+use Rattle.address_space.proofs.Spaces.unmap_found.Goals as goal
 
 pub uncount_page-mapped-requires-clause-inside : goal.uncount_page-mapped-requires-clause-inside
 uncount_page-mapped-requires-clause-inside c =

@@ -1,8 +1,5 @@
-use Rattle.std.proofs.Common.{ap, sym, ◌∙◌, is_some}
-use Rattle.std.specs.Option.{option_map}
-use Rattle.address_space.specs.Finds.{entry_found}
+use Rattle.process_table.proofs.Prelude.{ap, sym, ◌∙◌, is_some, option_map, entry_found, at_page}
 use Rattle.address_space.specs.Places.{found_of, lazy_place, takes_place, need_of, entry_flags}
-use Rattle.address_space.specs.Spaces.{at_page}
 use Rattle.process_table.proofs.Placed.{told_flags, told_write, told_may, few_needed, mapped_live}
 use Rattle.process_table.proofs.processes.Processes.tells.Goals as goal
 
