@@ -16,25 +16,18 @@ dropped c =
     subst (λ l. DirectoryDropped c.self.inside.directories c.args.pid c.self.inside.memory c.self.inside.frames l c.release.new.self) (sym c.forget.ensures)
     (directory_removed c.self.inside.directories c.self.inside.memory c.self.inside.frames c.release.new.self c.args.pid c.args.directory c.self.invariant.spaces (rw (← c.self.view_is) at c.requires.live) (rw (← c.self.view_is) at c.requires.empty) c.release.ensures.role)
 
-pub returns-clause-spaces : goal.returns-clause-spaces
-returns-clause-spaces c = rw (← c.self.view_is) ((dropped c).spaces)
-
-pub returns-clause-none : goal.returns-clause-none
-returns-clause-none c = (dropped c).none
-
-pub returns-clause-others : goal.returns-clause-others
-returns-clause-others c = rw (← c.self.view_is) ((dropped c).others)
-
-pub returns-clause-frames : goal.returns-clause-frames
-returns-clause-frames c = rw (← c.self.view_is) ((dropped c).length)
-
-pub returns-clause-stay : goal.returns-clause-stay
-returns-clause-stay c =
-    rw (← c.self.view_is)
-    (frames_stay_by (of_process c.args.pid) c.self.inside.directories c.forget.new.directories c.self.inside.memory c.self.inside.memory c.self.inside.frames c.release.new.self c.self.invariant.spaces.sound (dropped c).after.sound
-    (λ q d f stays live. (dropped c).others q.pid (λ e. let k : true ≡ false = sym (eq-eqb q.pid c.args.pid e) ∙ stays in cc) ∙ live)
-    (places_more (of_process c.args.pid) none_goes (directory_of c.self.inside.directories) (frame_bytes c.self.inside.memory)
-    (directory_of c.forget.new.directories) (frame_bytes c.self.inside.memory) (λ q f stays. refl) (dropped c).stay))
+pub returns : goal.returns
+returns c = record {
+  spaces = rw (← c.self.view_is) ((dropped c).spaces);
+  none = (dropped c).none;
+  others = rw (← c.self.view_is) ((dropped c).others);
+  frames = rw (← c.self.view_is) ((dropped c).length);
+  stay = rw (← c.self.view_is)
+      (frames_stay_by (of_process c.args.pid) c.self.inside.directories c.forget.new.directories c.self.inside.memory c.self.inside.memory c.self.inside.frames c.release.new.self c.self.invariant.spaces.sound (dropped c).after.sound
+      (λ q d f stays live. (dropped c).others q.pid (λ e. let k : true ≡ false = sym (eq-eqb q.pid c.args.pid e) ∙ stays in cc) ∙ live)
+      (places_more (of_process c.args.pid) none_goes (directory_of c.self.inside.directories) (frame_bytes c.self.inside.memory)
+      (directory_of c.forget.new.directories) (frame_bytes c.self.inside.memory) (λ q f stays. refl) (dropped c).stay));
+}
 
 pub invariant_of-self : goal.invariant_of-self
 invariant_of-self c =

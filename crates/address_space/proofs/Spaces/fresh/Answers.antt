@@ -25,21 +25,6 @@ added c =
     c.self.invariant.spaces (subst (λ k. k < 64) c.number.ensures.value c.number.ensures.bound) (rw (← c.self.view_is) at c.requires.none) (rw (← c.self.view_is) at c.requires.room) c.take-directory.ensures
     (zeroed c.self.inside.memory c.zero_frame.new.self c.take-directory.result at c.zero_frame.ensures.bytes) c.zero_frame.ensures.length)
 
-pub returns-clause-spaces : goal.returns-clause-spaces
-returns-clause-spaces c = rw (← c.self.view_is) ((added c).spaces)
-
-pub returns-clause-costs : goal.returns-clause-costs
-returns-clause-costs c = rw (← c.self.view_is) ((added c).cost)
-
-pub returns-clause-live : goal.returns-clause-live
-returns-clause-live c = (added c).live
-
-pub returns-clause-others : goal.returns-clause-others
-returns-clause-others c = rw (← c.self.view_is) ((added c).others)
-
-pub returns-clause-frames : goal.returns-clause-frames
-returns-clause-frames c = rw (← c.self.view_is) ((added c).length)
-
 pub invariant_of-self : goal.invariant_of-self
 invariant_of-self c =
     let after = slice_set c.self.inside.directories c.number.result (Some c.take-directory.result) in
@@ -51,15 +36,18 @@ invariant_of-self c =
           c.self.inside.counts.items c.self.invariant.counted;
     }
 
-pub returns-clause-lazy : goal.returns-clause-lazy
-returns-clause-lazy c =
-    rw (← c.self.view_is)
-    (λ slot. same_lazy (slice_set c.self.inside.directories c.number.result (Some c.take-directory.result)) c.zero_frame.new.self c.take-directory.new.frames (added c).after.sound slot
-    ∙ ap is_lazy_entry ((added c).entries slot)
-    ∙ sym (same_lazy c.self.inside.directories c.self.inside.memory c.self.inside.frames c.self.invariant.spaces.sound slot))
-
-pub returns-clause-stay : goal.returns-clause-stay
-returns-clause-stay c =
-    rw (← c.self.view_is)
-    (frames_stay_by none_goes c.self.inside.directories (slice_set c.self.inside.directories c.number.result (Some c.take-directory.result)) c.self.inside.memory c.zero_frame.new.self c.self.inside.frames c.take-directory.new.frames c.self.invariant.spaces.sound (added c).after.sound
-    (λ q d f stays live. (added c).others q.pid (λ e. let k : None ≡ Some d = sym (ap (directory_of c.self.inside.directories) e ∙ (rw (← c.self.view_is) at c.requires.none)) ∙ live in cc) ∙ live) (added c).stay)
+pub returns : goal.returns
+returns c = record {
+  spaces = rw (← c.self.view_is) ((added c).spaces);
+  costs = rw (← c.self.view_is) ((added c).cost);
+  live = (added c).live;
+  others = rw (← c.self.view_is) ((added c).others);
+  frames = rw (← c.self.view_is) ((added c).length);
+  lazy = rw (← c.self.view_is)
+      (λ slot. same_lazy (slice_set c.self.inside.directories c.number.result (Some c.take-directory.result)) c.zero_frame.new.self c.take-directory.new.frames (added c).after.sound slot
+      ∙ ap is_lazy_entry ((added c).entries slot)
+      ∙ sym (same_lazy c.self.inside.directories c.self.inside.memory c.self.inside.frames c.self.invariant.spaces.sound slot));
+  stay = rw (← c.self.view_is)
+      (frames_stay_by none_goes c.self.inside.directories (slice_set c.self.inside.directories c.number.result (Some c.take-directory.result)) c.self.inside.memory c.zero_frame.new.self c.self.inside.frames c.take-directory.new.frames c.self.invariant.spaces.sound (added c).after.sound
+      (λ q d f stays live. (added c).others q.pid (λ e. let k : None ≡ Some d = sym (ap (directory_of c.self.inside.directories) e ∙ (rw (← c.self.view_is) at c.requires.none)) ∙ live in cc) ∙ live) (added c).stay);
+}
