@@ -95,6 +95,13 @@ pub pages-join : (E : Entries) (R R' : Roles) (slot : Slot) (e : PageEntry) (c :
     → ((g : ℕ) → g ≢ e.frame → R' g ≡ R g) → Pages (map.insert E slot e) R'
 pages-join E R R' slot e c P none was own others = pages-more E R R' slot e c P (λ f n _. ap (names f) none) own (P.counts e.frame c was).1 others
 
+-- an entry beside the new one still names a page
+pub kept_holder : (E : Entries) (R : Roles) (slot : Slot) (e : PageEntry) (q : Slot) (x : PageEntry) → Pages (map.insert E slot e) R → map.get E slot ≡ None → map.get E q ≡ Some x → HoldsPage (R x.frame)
+kept_holder E R slot e q x P none found = P.pages q x (get-insert E slot e q ∙ elim (same_or_not slot_order q slot) [
+  | inl h ↦ absurd (let k : None ≡ Some x = sym none ∙ ap (map.get E) (sym h.0) ∙ found in cc)
+  | inr h ↦ ap (λ b. cond b (Some e) (map.get E q)) h ∙ found
+])
+
 -- the role of a frame that was no page and is none
 pub pages-role : (E : Entries) (R R' : Roles) (f : ℕ) → Pages E R → R f ≢ Some Reserved → ((c : ℕ) → R f ≢ Some (Page c)) → ((c : ℕ) → R' f ≢ Some (Page c)) → ((g : ℕ) → g ≢ f → R' g ≡ R g) → Pages E R'
 pages-role E R R' f P zero before after others = record {

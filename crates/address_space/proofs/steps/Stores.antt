@@ -23,7 +23,7 @@ use Rattle.address_space.proofs.frames.FrameSteps.{loose-entry, loose-entries, l
 use Rattle.address_space.proofs.frames.PageSteps.{same_bytes, pages-same, no_table, lazy-same}
 use Rattle.address_space.proofs.entries.Refinement.{insert_there, store_refines, flags_refine, cell_at}
 use Rattle.address_space.proofs.steps.Steps.{inside, holds_inside, live_small, page_loose, table_by_word}
-use Rattle.address_space.proofs.entries.Staying.{stay_same, stay_then, stay_put, places_by}
+use Rattle.address_space.proofs.entries.Staying.{stay_same, stay_then, stay_put, places_by, places_put}
 use Rattle.page_words.specs.FiniteMap as map
 
 -- ---- Bytes
@@ -225,11 +225,7 @@ page_stored directories bytes one two roles p d page at written e sound live low
       cost = (λ i. total_cost directories (spaces_of (E2 i) (frame_bytes two))) ∙ total-kept directories E m (frame_bytes two) slot e e' there;
       in_use = λ before. h.in_use (w.in_use before);
       lazy = ap (λ x. holders_of x 0) E2 ∙ lazy-same E slot e e' there refl;
-      stay = places_by none_goes D m D (frame_bytes two)
-          (stay_then none_goes E (map.insert E slot e') (entries_in D (frame_bytes two))
-          (stay_put none_goes E slot e e' there refl) (stay_same none_goes (map.insert E slot e')
-          (entries_in D (frame_bytes two)) E2))
-          (λ q r t found. h.tables q r ∙ w.tables q r ∙ found);
+      stay = places_put D m D (frame_bytes two) slot e e' there refl E2 (λ q r t found. h.tables q r ∙ w.tables q r ∙ found);
     }
 
 -- flags of a slot's own cell set as in its entry
@@ -261,12 +257,7 @@ flags_set directories bytes two roles p d page e write accessed sound live low h
       cost = (λ i. total_cost directories (spaces_of (h.entries i) (frame_bytes two))) ∙ total-kept directories E m (frame_bytes two) slot e e' h.named;
       in_use = h.in_use;
       lazy = ap (λ x. holders_of x 0) h.entries ∙ lazy-same E slot e e' h.named refl;
-      stay = places_by none_goes (directory_of directories) m (directory_of directories) (frame_bytes two)
-          (stay_then none_goes E (map.insert E slot e') (entries_in (directory_of directories) (frame_bytes two))
-          (stay_put none_goes E slot e e' h.named refl)
-          (stay_same none_goes (map.insert E slot e') (entries_in (directory_of directories) (frame_bytes two))
-          h.entries))
-          (λ q r t found. h.tables q r ∙ found);
+      stay = places_put (directory_of directories) m (directory_of directories) (frame_bytes two) slot e e' h.named refl h.entries (λ q r t found. h.tables q r ∙ found);
     }
 
 -- an entry's marks alone were cleared
@@ -292,12 +283,7 @@ marks_cleared directories bytes two roles p d page e sound live low high is_entr
       cost = (λ i. total_cost directories (spaces_of (h.entries i) (frame_bytes two))) ∙ total-kept directories E m (frame_bytes two) slot e e' h.named;
       in_use = h.in_use;
       lazy = ap (λ x. holders_of x 0) h.entries ∙ lazy-same E slot e e' h.named refl;
-      stay = places_by none_goes (directory_of directories) m (directory_of directories) (frame_bytes two)
-          (stay_then none_goes E (map.insert E slot e') (entries_in (directory_of directories) (frame_bytes two))
-          (stay_put none_goes E slot e e' h.named refl)
-          (stay_same none_goes (map.insert E slot e') (entries_in (directory_of directories) (frame_bytes two))
-          h.entries))
-          (λ q r t found. h.tables q r ∙ found);
+      stay = places_put (directory_of directories) m (directory_of directories) (frame_bytes two) slot e e' h.named refl h.entries (λ q r t found. h.tables q r ∙ found);
     }
 
 pub length-bytes_of : (k v : ℕ) → length (bytes_of k v) ≡ k
