@@ -1,12 +1,7 @@
 -- Whether a page is alone in its region, by the count of the region's pages.
-use Rattle.std.proofs.Common.{◌≡◌, ◌≢◌, ℕ, ◌+◌, ◌*◌, true, sym, ◌∙◌, arith}
-use Rattle.std.specs.Prelude.{is_some}
-use Rattle.page_words.specs.Addresses.{slot_number, IsUserPage}
-use Rattle.page_words.proofs.OptionLemmas.{no_value}
-use Rattle.page_map.specs.Entries.{Frames, entry_at}
-use Rattle.page_map.specs.Pages.{count_range}
+use Rattle.address_space.proofs.Prelude.{◌≡◌, ◌≢◌, ℕ, ◌+◌, ◌*◌, true, sym, ◌∙◌, arith, is_some, slot_number, IsUserPage}
+use Rattle.address_space.proofs.Prelude.{no_value, Frames, entry_at, count_range, IsAlone, IsShared}
 use Rattle.page_map.proofs.Counting.{one_alone, another_one}
-use Rattle.address_space.specs.Sound.{IsAlone, IsShared}
 
 module _ (m : Frames) (d page n : ℕ) (user : IsUserPage page) (here : is_some (entry_at m d page) ≡ true) (count : n ≡ count_range (λ other. is_some (entry_at m d other)) (1024 * slot_number page) 1024) where
   pub alone_by_count : n ≡ 1 → IsAlone m d page

@@ -1,19 +1,14 @@
 -- The spaces that a map from slots to page entries represents, given bytes for each frame; its steps are the machine's.
-use Rattle.std.proofs.Common.{◌≡◌, ℕ, inl, inr, Bool, true, false, cond, not, ◌&&◌, ◌||◌, ◌==◌, if◌then◌else◌, List, refl, sym, ap, ◌∙◌, Option, Some, None, is_some, unwrap_or}
-use Rattle.std.specs.Option.{option_map}
+use Rattle.address_space.proofs.Prelude
+use Prelude.{◌≡◌, ℕ, inl, inr, Bool, true, false, cond, not, ◌&&◌, ◌||◌, ◌==◌, if◌then◌else◌, List, refl, sym, ap, ◌∙◌}
+use Prelude.{Option, Some, None, is_some, unwrap_or, option_map, Order, Map, same, Set, Slot, slot_order, Cell, Spaces}
+use Prelude.{write_at, stored, joined, set_bytes, set_holders, store_in, with_bytes, with_holders, without, fresh}
+use Prelude.{cell_or_fresh, same_or_not, get-insert, get-retain_keys, same_map, get-map_values, contains-insert}
+use Prelude.{contains-retain, same_set, nat_eq_equiv, PageEntry, with_frame, Entries, names, nothing, holders_of}
+use Prelude.{group_of, cell_of, spaces_of, eqb-true, eq-eqb, and-false, and-true}
+use Rattle.address_space.specs.Spaces.{join_in, zeros}
 use Rattle.page_words.specs.FiniteMap as map
-use Rattle.page_words.specs.FiniteMap.{Order, Map}
 use Rattle.page_words.specs.FiniteSet as set
-use Rattle.page_words.specs.FiniteSet.{Set}
-use Rattle.address_space.specs.Spaces.{Slot, slot_order, Cell, Spaces, write_at, stored, joined, set_bytes, set_holders, store_in, join_in, with_bytes, with_holders, without, fresh, zeros, cell_or_fresh}
-use Rattle.page_words.specs.FiniteMap.{same}
-use Rattle.page_words.proofs.MapLemmas.{same_or_not, get-insert, get-retain_keys, same_map, get-map_values, contains-insert, contains-retain, same_set}
-use Rattle.std.specs.Cmp.{nat_eq_equiv}
-use Rattle.page_map.specs.declared.PageEntry.{PageEntry}
-use Rattle.phys_memory.specs.Bytes.{with_frame}
-use Rattle.address_space.specs.Cells.{Entries, names, nothing, holders_of, group_of, cell_of, spaces_of}
-use borrow.Author.Tests.{eqb-true, eq-eqb}
-use Rattle.std.proofs.Math.Bool.{and-false, and-true}
 
 contained : (slot : Slot) (x : Option PageEntry) (f : ℕ) → (is_some (option_map (nothing slot) x) && names f x) ≡ names f x
 contained slot None f = refl

@@ -1,20 +1,14 @@
 -- How tables and entries stay where a page's bytes or its role change, and how a blank table is linked.
-use Rattle.std.proofs.Common.{◌≡◌, ◌≢◌, ℕ, ◌^◌, ◌<◌, ◌≤◌, false, List, length, replicate, refl, ap, sym, ◌∙◌, subst, arith, inl, inr, Option, Some, None}
-use Rattle.std.specs.Prelude.{◌⊎◌, if◌then◌else◌}
-use Rattle.std.specs.Option.{option_and_then}
-use Rattle.std.proofs.lemmas.Bool.{cases_eq}
-use Rattle.std.proofs.lemmas.List.{length-replicate}
-use Rattle.page_words.specs.Addresses.{slot_number, index_number}
-use Rattle.page_words.specs.Words.{IsKernelDirWord, IsKernelTableWord, NamesTable, is_present}
-use Rattle.phys_memory.specs.Bytes.{word_in, with_word_in, with_frame}
-use Rattle.phys_memory.proofs.Frames.{with_frame-same, with_frame-other, word_in_same, word_in_other, length-with_word_in, word_in-zeros}
-use Rattle.alloc_table.specs.declared.Role.{Role}
-use Rattle.alloc_table.specs.declared.Role.TheVariants.{Reserved, Free, Directory, Table}
-use Rattle.page_map.specs.Entries.{Frames, word_table, table_of, word_entry, entry_from, link_word, with_table, without_table}
+use Rattle.address_space.proofs.Prelude
+use Prelude.{◌≡◌, ◌≢◌, ℕ, ◌^◌, ◌<◌, ◌≤◌, false, List, length, replicate, refl, ap, sym, ◌∙◌, subst, arith, inl, inr}
+use Prelude.{Option, Some, None, ◌⊎◌, if◌then◌else◌, option_and_then, cases_eq, length-replicate, slot_number}
+use Prelude.{index_number, IsKernelDirWord, IsKernelTableWord, NamesTable, is_present, word_in, with_word_in}
+use Prelude.{with_frame, with_frame-same, with_frame-other, word_in_same, word_in_other, length-with_word_in, Role}
+use Prelude.{Reserved, Free, Directory, Table, Frames, word_table, table_of, word_entry, entry_from, with_table}
+use Prelude.{without_table, Slot, Directories, Roles, table_in, entry_in, entries_in, Tables, InUseAt}
+use Rattle.phys_memory.proofs.Frames.{word_in-zeros}
+use Rattle.page_map.specs.Entries.{link_word}
 use Rattle.page_map.proofs.WordLaws.{link_word-lt, word_table-link_word, link_word-names}
-use Rattle.address_space.specs.Spaces.{Slot}
-use Rattle.address_space.specs.View.{Directories, Roles, table_in, entry_in, entries_in}
-use Rattle.address_space.specs.Sound.{Tables, InUseAt}
 use Rattle.address_space.proofs.entries.EntrySteps.{Loose, same_entries, entry_by_table}
 
 -- ---- A frame's bytes

@@ -1,28 +1,15 @@
 -- Every walk ends as the spaces say.
-use Rattle.std.proofs.Common.{◌≡◌, ℕ, Bool, true, false, not, List, refl, ap, sym, ◌∙◌, subst, arith, Option, Some, None}
-use Rattle.std.specs.Prelude.{◌&&◌, if◌then◌else◌, MatchBool, Ok, Err}
-use Rattle.std.specs.Option.{option_and_then, option_map}
-use Rattle.std.proofs.lemmas.Bool.Decides.{nat_tests}
-use Rattle.page_words.specs.Addresses.{page_number}
-use Rattle.page_words.specs.FiniteMap as map
-use Rattle.phys_memory.specs.Bytes.{frame_bytes}
-use Rattle.alloc_table.specs.declared.Role.{Role}
-use Rattle.table_walk.specs.declared.Access.{Access}
-use Rattle.table_walk.specs.declared.WalkEnd.TheVariants.{Outside}
-use Rattle.table_walk.specs.Walk.{walk_of, is_write, is_outside, not_allowed}
-use Rattle.page_map.specs.declared.PageEntry.{PageEntry}
-use Rattle.page_map.specs.Entries.{entry_at, lets_writes, is_lazy_entry}
-use Rattle.page_map.specs.Laws.{end_at_entry}
-use Rattle.page_map.proofs.LawProofs.{walks_read_entries}
-use Rattle.address_space.specs.Spaces.{slot_at}
-use Rattle.address_space.specs.Cells.{cell_of}
+use Rattle.address_space.proofs.Prelude.{◌≡◌, ℕ, Bool, true, false, not, List, refl, ap, sym, ◌∙◌, subst, arith, Option}
+use Rattle.address_space.proofs.Prelude.{Some, None, ◌&&◌, if◌then◌else◌, MatchBool, Ok, Err, option_and_then}
+use Rattle.address_space.proofs.Prelude.{option_map, nat_tests, page_number, frame_bytes, Role, Access, Outside}
+use Rattle.address_space.proofs.Prelude.{walk_of, is_write, is_outside, not_allowed, PageEntry, entry_at, lets_writes}
+use Rattle.address_space.proofs.Prelude.{is_lazy_entry, end_at_entry, walks_read_entries, slot_at, cell_of}
+use Rattle.address_space.proofs.Prelude.{directory_of, entries_in, spaces_in, IsSound, IsSpaces, image_from}
 use Rattle.address_space.specs.Walks.{FindsBytes, WalkEndsBy, WalksAgree}
-use Rattle.address_space.specs.View.{directory_of, entries_in, spaces_in}
-use Rattle.address_space.specs.Sound.{IsSound, IsSpaces}
-use Rattle.address_space.specs.Image.{image_from}
 use Rattle.address_space.proofs.entries.Refinement.{get-spaces_of}
 use Rattle.address_space.proofs.standing.Standing.{same_entry, read_entry, same_lazy}
 use Rattle.address_space.proofs.steps.Steps.{page_map_of, holds_inside}
+use Rattle.page_words.specs.FiniteMap as map
 
 module _ (directories : List (Option ℕ)) (bytes : List ℕ) (roles : List Role) (sound : IsSound directories bytes roles) where
   -- what is mapped at an address is what its entry says

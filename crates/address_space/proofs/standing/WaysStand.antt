@@ -1,26 +1,13 @@
 -- Each walk that finds a frame goes the way of its slot.
-use Rattle.std.proofs.Common.{◌≡◌, ◌≤◌, ◌==◌, ℕ, Bool, true, false, List, refl, ap, sym, ◌∙◌, arith, Option, Some, None}
-use Rattle.std.specs.Prelude.{Ok, Result}
-use Rattle.std.specs.Option.{option_map, unwrap_or}
-use Rattle.std.specs.Result.{is_ok}
-use Rattle.std.proofs.lemmas.Bool.{ne_eqb}
-use Rattle.page_words.specs.Words.{frame_number, is_lazy}
-use Rattle.page_words.specs.Addresses.{page_number}
-use Rattle.phys_memory.specs.Bytes.{frame_bytes}
-use Rattle.alloc_table.specs.declared.Role.{Role}
-use Rattle.page_map.specs.declared.PageEntry.{PageEntry}
-use Rattle.table_walk.specs.declared.WalkEnd.{WalkEnd}
-use Rattle.address_space.specs.Spaces.{Slot, slot_at}
-use Rattle.address_space.specs.Image.{page_word, is_lazy_at, image_from}
-use Rattle.address_space.specs.View.{directory_of}
-use Rattle.address_space.specs.Sound.{IsSound}
-use Rattle.address_space.specs.Stays.{WaysAgree}
+use Rattle.address_space.proofs.Prelude.{◌≡◌, ◌≤◌, ◌==◌, ℕ, Bool, true, false, List, refl, ap, sym, ◌∙◌, arith, Option}
+use Rattle.address_space.proofs.Prelude.{Some, None, Ok, Result, option_map, unwrap_or, is_ok, ne_eqb, frame_number}
+use Rattle.address_space.proofs.Prelude.{is_lazy, page_number, frame_bytes, Role, PageEntry, WalkEnd, Slot, slot_at}
+use Rattle.address_space.proofs.Prelude.{page_word, is_lazy_at, image_from, directory_of, IsSound, WaysAgree, eq-eqb}
 use Rattle.address_space.proofs.standing.Standing.{word_names}
 use Rattle.address_space.proofs.standing.FramesStand.{frame_read, way_parts, way_whole}
 use Rattle.address_space.proofs.steps.Steps.{live_small}
 use Rattle.address_space.proofs.steps.Stores.{get_user}
 use Rattle.address_space.proofs.steps.WalkSteps.{found_entry}
-use borrow.Author.Tests.{eq-eqb}
 
 one_frame : (a b : ℕ) → ◌≡◌ {A = Result ℕ WalkEnd} (Ok a) (Ok b) → a ≡ b
 one_frame a b h = cc

@@ -1,26 +1,13 @@
 -- What a lazy page that got a frame of its own leaves.
-use Rattle.std.proofs.Common.{◌≡◌, ◌≢◌, ℕ, ◌+◌, ◌*◌, ◌^◌, ◌<◌, ◌≤◌, true, false, List, length, replicate, refl, ap, sym, ◌∙◌, subst, arith, inr, Option, Some, None, length-set}
-use Rattle.std.specs.Prelude.{slice_get}
-use Rattle.std.specs.Option.{option_and_then}
-use Rattle.std.proofs.lemmas.List.{length-replicate}
-use Rattle.page_words.specs.Addresses.{slot_number}
-use Rattle.page_words.specs.Words.{frame_number}
-use Rattle.page_words.specs.FiniteMap as map
-use Rattle.page_words.specs.FiniteSet as set
-use Rattle.phys_memory.specs.Bytes.{frame_bytes, with_frame}
-use Rattle.phys_memory.proofs.Frames.{with_frame-same, with_frame-other}
-use Rattle.alloc_table.specs.declared.Role.{Role}
-use Rattle.alloc_table.specs.declared.Role.TheVariants.{Reserved, Free, Table, Page}
-use Rattle.alloc_table.specs.Roles.{free_frames, frames_weight, IsTaken}
-use Rattle.alloc_table.proofs.RoleLemmas.{weight-taken}
-use Rattle.page_map.specs.declared.PageEntry.{PageEntry}
-use Rattle.page_map.specs.Entries.{Frames, dir_word, table_of, entry_at, with_entry, entry_word, IsKernelEntry}
-use Rattle.page_map.proofs.WordLaws.{entry_word-names, entry_word-lt, entry_word-present, word_entry-entry_word}
-use Rattle.address_space.specs.Spaces.{Slot, at_page}
-use Rattle.address_space.specs.Cells.{Entries, names, lazy_count, spaces_of, holders_of}
-use Rattle.address_space.specs.View.{Directories, Roles, directory_of, table_in, entry_in, entries_in, spaces_in, total_cost}
-use Rattle.address_space.specs.Sound.{Tables, Pages, IsSpaces, InUseAt}
-use Rattle.address_space.specs.Changes.{PageFilled}
+use Rattle.address_space.proofs.Prelude
+use Prelude.{◌≡◌, ◌≢◌, ℕ, ◌+◌, ◌*◌, ◌^◌, ◌<◌, ◌≤◌, true, false, List, length, replicate, refl, ap, sym, ◌∙◌, subst}
+use Prelude.{arith, inr, Option, Some, None, length-set, slice_get, option_and_then, length-replicate, slot_number}
+use Prelude.{frame_number, frame_bytes, with_frame, with_frame-same, with_frame-other, Role, Reserved, Free, Table}
+use Prelude.{Page, free_frames, frames_weight, IsTaken, weight-taken, PageEntry, Frames, dir_word, table_of, entry_at}
+use Prelude.{with_entry, entry_word, IsKernelEntry, entry_word-names, entry_word-lt, entry_word-present}
+use Prelude.{word_entry-entry_word, Slot, at_page, Entries, names, lazy_count, spaces_of, holders_of, Directories}
+use Prelude.{Roles, directory_of, table_in, entry_in, entries_in, spaces_in, total_cost, Tables, Pages, IsSpaces}
+use Prelude.{InUseAt, PageFilled, ne_eqb, of_lazy}
 use Rattle.address_space.proofs.costs.Costed.{free_where_light}
 use Rattle.address_space.proofs.entries.EntrySteps.{entries-insert, entry_own, entry_other, tables-entry, tables_kept, use_kept}
 use Rattle.address_space.proofs.frames.FrameSteps.{tables-role}
@@ -28,9 +15,9 @@ use Rattle.address_space.proofs.frames.PageSteps.{same_bytes, pages-more, unused
 use Rattle.address_space.proofs.entries.Refinement.{fill_refines}
 use Rattle.address_space.proofs.steps.Steps.{inside, live_small, table_by_word, role_own, role_other, free_loose, page_loose}
 use Rattle.address_space.proofs.steps.Stores.{found, get_user, entry_rules, frame_written}
-use Rattle.std.proofs.lemmas.Bool.{ne_eqb}
 use Rattle.address_space.proofs.entries.Staying.{stay_same, stay_then, stay_filled, places_by}
-use Rattle.address_space.specs.Stays.{of_lazy}
+use Rattle.page_words.specs.FiniteMap as map
+use Rattle.page_words.specs.FiniteSet as set
 
 -- a lazy page leaves room for its frame
 pub room_to_fill : (directories : List (Option ℕ)) (bytes : List ℕ) (roles : List Role) (p d page : ℕ) (e : PageEntry) → IsSpaces directories bytes roles → directory_of directories p ≡ Some d

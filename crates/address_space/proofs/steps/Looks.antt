@@ -1,9 +1,8 @@
 -- What the entry of a slot says of its cell.
-use Rattle.std.proofs.Common.{◌≡◌, ℕ, ◌<◌, ap, ◌∙◌, Option, None, unwrap_or, true}
-use Rattle.std.specs.Prelude.{slice_index}
+use Rattle.address_space.proofs.Prelude.{◌≡◌, ℕ, ◌<◌, ap, ◌∙◌, Option, None, unwrap_or, true, slice_index, Slot, Cell}
+use Rattle.address_space.proofs.Prelude.{Spaces, cell_or_fresh, fresh}
 use Rattle.std.proofs.lemmas.List.{get_or-replicate}
 use Rattle.page_words.specs.FiniteMap as map
-use Rattle.address_space.specs.Spaces.{Slot, Cell, Spaces, cell_or_fresh, fresh}
 
 -- a byte of a page that isn't mapped
 pub zero_byte : (S : Spaces) (slot : Slot) (at : ℕ) → map.get S slot ≡ None → at < 4096 → slice_index (cell_or_fresh S slot).bytes at ≡ 0

@@ -1,21 +1,12 @@
 -- A page that gets an entry: its table, which may be linked for it, the count of the table, and the entry.
-use Rattle.std.proofs.Common.{◌≡◌, ℕ, ◌+◌, ◌*◌, ◌^◌, ◌<◌, ◌≤◌, Bool, false, List, length, refl, ap, sym, ◌∙◌, subst, arith, inl, inr, Option, Some, None}
-use Rattle.std.specs.Prelude.{is_some, slice_get, slice_set}
-use Rattle.std.specs.Option.{option_and_then}
-use Rattle.page_words.specs.Addresses.{slot_number, IsUserPage}
-use Rattle.page_words.specs.Words.{frame_number}
-use Rattle.page_words.specs.FiniteMap as map
-use Rattle.phys_memory.specs.Bytes.{frame_bytes}
-use Rattle.alloc_table.specs.declared.Role.{Role}
-use Rattle.alloc_table.specs.declared.Role.TheVariants.{Page}
-use Rattle.alloc_table.specs.Roles.{free_frames, IsPageBelow}
-use Rattle.page_map.specs.declared.PageEntry.{PageEntry}
-use Rattle.page_map.specs.Entries.{Frames, dir_word, table_of, entry_at, with_entry}
-use Rattle.address_space.specs.Spaces.{Slot, at_page, fresh, cell_or_fresh, copy_of}
-use Rattle.address_space.specs.View.{directory_of, table_in, entries_in, spaces_in}
-use Rattle.address_space.specs.Sound.{IsSound, IsSpaces, Names, Inside}
-use Rattle.address_space.specs.Counts.{IsCounted, AreCountedSpaces, KeepsCounts, AlwaysMapsAlike, MapsOneMore}
-use Rattle.address_space.specs.Changes.{table_need, TableGiven, SlotAdded, PageAdded, SlotJoined, SlotCopied, PageCopied}
+use Rattle.address_space.proofs.Prelude
+use Prelude.{◌≡◌, ℕ, ◌+◌, ◌*◌, ◌^◌, ◌<◌, ◌≤◌, Bool, false, List, length, refl, ap, sym, ◌∙◌, subst, arith, inl, inr}
+use Prelude.{Option, Some, None, is_some, slice_get, slice_set, option_and_then, slot_number, IsUserPage, frame_number}
+use Prelude.{frame_bytes, Role, Page, free_frames, IsPageBelow, PageEntry, Frames, dir_word, table_of, entry_at}
+use Prelude.{with_entry, Slot, at_page, fresh, cell_or_fresh, copy_of, directory_of, table_in, entries_in, spaces_in}
+use Prelude.{IsSound, IsSpaces, Names, Inside, IsCounted, AreCountedSpaces, KeepsCounts, AlwaysMapsAlike, MapsOneMore}
+use Prelude.{region_pages, pages_under, table_need, TableGiven, SlotAdded, PageAdded, SlotJoined, SlotCopied}
+use Prelude.{PageCopied}
 use Rattle.address_space.specs.Finds.{TableReady, CountedUp, EntryCopied}
 use Rattle.address_space.proofs.costs.Costed.{Room, room_for_table, room_for_page, mapped}
 use Rattle.address_space.proofs.steps.CountSteps.{counted_roles, table_counted, table_count, count_there, count_fits, page_counted, one_inserted, alike_taken}
@@ -24,8 +15,8 @@ use Rattle.address_space.proofs.steps.Stores.{HasPage, page_of_name}
 use Rattle.address_space.proofs.steps.Joins.{slot_joined}
 use Rattle.address_space.proofs.frames.FewHolders.{count_few}
 use Rattle.address_space.proofs.costs.Totals.{key-joined}
-use Rattle.address_space.specs.Counts.{region_pages, pages_under}
 use Rattle.address_space.proofs.steps.Copies.{copied_entry, lazy_copied, real_copied, frame_copied, entry_stays, page_copied}
+use Rattle.page_words.specs.FiniteMap as map
 
 -- an entry that was written into a table, by the directory's word that leads to it
 pub entry_by_word : (m two : Frames) (d page t : ℕ) (e : PageEntry) → table_of m d (slot_number page) ≡ Some t → two ≡ with_entry m t page e → two ≡ with_entry m (frame_number (dir_word m d (slot_number page))) page e

@@ -1,17 +1,11 @@
 -- The pages of a process by its directory.
-use Rattle.std.proofs.Common.{◌≡◌, ℕ, List, ap, sym, ◌∙◌, inl, inr, Option, Some}
-use Rattle.std.specs.Prelude.{is_some}
-use Rattle.page_words.specs.FiniteMap as map
-use Rattle.phys_memory.specs.Bytes.{frame_bytes}
-use Rattle.alloc_table.specs.declared.Role.{Role}
-use Rattle.page_map.specs.Pages.{is_mapped}
-use Rattle.page_map.proofs.PageLemmas.{user_cases, get-entries_user, get-entries_other}
-use Rattle.address_space.specs.Spaces.{at_page}
-use Rattle.address_space.specs.View.{directory_of, spaces_in}
-use Rattle.address_space.specs.Sound.{IsSound}
+use Rattle.address_space.proofs.Prelude.{◌≡◌, ℕ, List, ap, sym, ◌∙◌, inl, inr, Option, Some, is_some, frame_bytes, Role}
+use Rattle.address_space.proofs.Prelude.{is_mapped, user_cases, get-entries_user, get-entries_other, at_page}
+use Rattle.address_space.proofs.Prelude.{directory_of, spaces_in, IsSound}
 use Rattle.address_space.proofs.entries.Readings.{mapped_read}
 use Rattle.address_space.proofs.steps.Departures.{no_cell_outside}
 use Rattle.address_space.proofs.steps.Steps.{live_small}
+use Rattle.page_words.specs.FiniteMap as map
 
 -- a process has the pages mapped that its directory maps
 pub next_read : (directories : List (Option ℕ)) (bytes : List ℕ) (roles : List Role) (p d page : ℕ) → IsSound directories bytes roles → directory_of directories p ≡ Some d

@@ -1,12 +1,8 @@
-use Rattle.std.proofs.Common.{ap, sym, ◌∙◌, arith}
-use Rattle.std.specs.Prelude.{is_some, slice_index}
-use Rattle.page_words.specs.Addresses.{page_number, offset_number}
-use Rattle.page_words.proofs.OptionLemmas.{no_value}
-use Rattle.address_space.specs.Spaces.{Cell, slot_at}
+use Rattle.address_space.proofs.Prelude.{ap, sym, ◌∙◌, arith, is_some, slice_index, page_number, offset_number}
+use Rattle.address_space.proofs.Prelude.{no_value, Cell, slot_at, found_of}
 use Rattle.address_space.proofs.steps.Looks.{zero_byte}
 use Rattle.address_space.proofs.steps.FoundPages.{found_mapped, found_lies, found_cell}
 use Rattle.address_space.proofs.steps.Placing.{place_found}
-use Rattle.address_space.specs.Places.{found_of}
 use Rattle.address_space.proofs.Insides.{spaces_at}
 use Rattle.address_space.proofs.Spaces.byte_at.Goals as goal
 

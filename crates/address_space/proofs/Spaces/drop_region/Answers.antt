@@ -1,8 +1,6 @@
-use Rattle.std.proofs.Common.{◌≡◌, ◌+◌, ◌*◌, ◌<◌, ◌≤◌, ◌∙◌, ℕ, List, length, Option, Some, ap, sym, subst, refl, inl, arith}
-use Rattle.phys_memory.specs.Bytes.{frame_bytes, word_in}
-use Rattle.page_map.specs.Entries.{word_entry}
-use Rattle.address_space.specs.View.{View, directory_of}
-use Rattle.address_space.specs.Changes.{DroppedBelow, words_left}
+use Rattle.address_space.proofs.Prelude.{◌≡◌, ◌+◌, ◌*◌, ◌<◌, ◌≤◌, ◌∙◌, ℕ, List, length, Option, Some, ap, sym, subst}
+use Rattle.address_space.proofs.Prelude.{refl, inl, arith, frame_bytes, word_in, word_entry, View, directory_of}
+use Rattle.address_space.proofs.Prelude.{DroppedBelow, words_left}
 use Rattle.address_space.proofs.steps.Departures.{dropped_next}
 use Rattle.address_space.proofs.steps.RegionCopies.{region_there, region_words}
 use Rattle.address_space.proofs.steps.RegionDrops.{RegionLeft, left_linked, left_next, listed_found, region_passed}

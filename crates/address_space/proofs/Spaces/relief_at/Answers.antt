@@ -1,17 +1,13 @@
-use Rattle.std.proofs.Common.{◌+◌, ap, sym, ◌∙◌}
-use Rattle.std.specs.Prelude.{is_some}
-use Rattle.page_words.specs.FiniteMap as map
-use Rattle.page_words.proofs.OptionLemmas.{some_value}
-use Rattle.phys_memory.specs.Bytes.{frame_bytes}
-use Rattle.address_space.specs.Spaces.{cost, without, is_slot, at_page}
+use Rattle.address_space.proofs.Prelude.{◌+◌, ap, sym, ◌∙◌, is_some, some_value, frame_bytes, cost, without, is_slot}
+use Rattle.address_space.proofs.Prelude.{at_page, found_of}
 use Rattle.address_space.proofs.Insides.{spaces_at}
 use Rattle.address_space.proofs.steps.Steps.{live_small}
 use Rattle.address_space.proofs.steps.FoundPages.{found_known, found_mapped}
 use Rattle.address_space.proofs.steps.GonePages.{home_count, home_counts}
 use Rattle.address_space.proofs.costs.Relief.{cost_left, relief_alone, relief_shared}
 use Rattle.address_space.proofs.costs.Beside.{alone_by_count, shared_by_count}
-use Rattle.address_space.specs.Places.{found_of}
 use Rattle.address_space.proofs.steps.Placing.{place_found}
+use Rattle.page_words.specs.FiniteMap as map
 use Rattle.address_space.proofs.Spaces.relief_at.Goals as goal
 
 pub unwrap-found-requires : goal.unwrap-found-requires
