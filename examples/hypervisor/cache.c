@@ -119,14 +119,18 @@ static struct walk walk_and_keep(const struct access *it, uint32_t address, stru
     return walk;
 }
 
-/* Translates an address: from the cache, otherwise with a walk. A refusal from the cache decides nothing, since the
- * right may have been granted later: the walk is made again. A store through a cached translation without dirty sets
- * dirty first. */
+/* Returns whether what is cached lets an access through. A refusal from the cache decides nothing, since the right may
+ * have been granted later. A store needs dirty, too: a processor walks again to set it. */
+static bool lets_through(const struct kept *kept, const struct access *it) {
+    return !it->is_store || (kept->write && (kept->dirty || wrong == WRONG_DIRTY));
+}
+
+/* Translates an address: from the cache, if that lets the access through, otherwise with a walk. */
 static struct walk translate(const struct access *it, uint32_t address) {
     struct cache *cache = &caches[it->cpu];
     struct kept *kept = find(&cache->translations, it->identifier, address >> 12);
-    if (kept && it->is_store && !kept->write) {
-        if (wrong == WRONG_REFUSAL) {
+    if (kept && !lets_through(kept, it)) {
+        if (wrong == WRONG_REFUSAL && !kept->write) {
             return (struct walk){.kind = WALK_FAULT, .code = 7};
         }
         drop(&cache->translations, kept);
@@ -140,10 +144,6 @@ static struct walk translate(const struct access *it, uint32_t address) {
         }
     } else {
         cache->found_kept++;
-    }
-    if (it->is_store && !kept->dirty) {
-        kept->dirty = true;
-        *kept->table_word |= wrong == WRONG_DIRTY ? 0 : DIRTY;
     }
     return (struct walk){.kind = WALK_FOUND, .frame = kept->leads_to};
 }

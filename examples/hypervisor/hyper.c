@@ -428,6 +428,9 @@ static void try_several(void) {
     tower_free(&tower);
     try_storm(TURNS, false, &tower);
     write_image(&tower);
+    tower_free(&tower);
+    try_shootdowns(TURNS, &tower);
+    write_image(&tower);
 }
 
 /* The rest of `word` after `first`, or null. */
@@ -439,16 +442,25 @@ static const char *behind(const char *first, const char *word) {
     return *first ? 0 : word;
 }
 
+/* Runs a trial of several processors in a version of wrong.c. */
+static void try_version(const char *version, bool is_storm) {
+    choose_wrong(version);
+    start_processors(svm_start);
+    if (is_storm) {
+        try_storm(TURNS, false, &tower);
+    } else {
+        try_shootdowns(TURNS, &tower);
+    }
+}
+
 /* Without a word, runs all that one processor does; with `several`, what all do. With a word of wrong.c, runs only the
- * trial of events in that version, and with `storm` before the word only the storm. */
+ * trial of events in that version, and with `storm` or `shootdowns` before the word only that. */
 void begin(const char *word) {
-    const char *version = behind("storm ", word);
+    const char *storm = behind("storm ", word), *shootdowns = behind("shootdowns ", word);
     begin_first_processor();
     svm_start();
-    if (version) {
-        choose_wrong(version);
-        start_processors(svm_start);
-        try_storm(TURNS, false, &tower);
+    if (storm || shootdowns) {
+        try_version(storm ? storm : shootdowns, storm != 0);
     } else if (*word == 0) {
         try_alone();
     } else if (behind("several", word)) {

@@ -27,6 +27,7 @@ static struct processor {
     struct order order;
     struct processor *asker;
     _Atomic uint32_t asked, answered, released, done; /* the last stop by number: each follows the one before it */
+    _Atomic uint32_t called, taken;                   /* the last call by number, and the last one that was taken */
     _Atomic uint32_t ticket, rests;
 } all[MOST_PROCESSORS];
 
@@ -36,6 +37,7 @@ static void (*job)(void), (*first_job)(void);
 static uint32_t stop_count;
 
 void (*before_stop)(void);
+void (*on_call)(void);
 
 extern const uint8_t trampoline[], trampoline_end[], on_exception[], on_timer[], on_stop[], on_spurious[];
 
@@ -109,7 +111,8 @@ void wait_until(bool (*holds)(const void *of), const void *of, const char *what)
             fail(what);
         }
         atomic_store(&it->rests, 1);
-        if (!holds(of) && atomic_load(&it->asked) == atomic_load(&it->answered)) {
+        if (!holds(of) && atomic_load(&it->asked) == atomic_load(&it->answered) &&
+            atomic_load(&it->called) == atomic_load(&it->taken)) {
             rest_for(SLICE_COUNT);
         }
         atomic_store(&it->rests, 0);
@@ -313,8 +316,41 @@ void go_on(uint32_t number, struct order order) {
     wait_until(is_done, it, "a processor goes on");
 }
 
+/* Takes the call that has come, if one has. */
+static void take_call(void) {
+    struct processor *it = me();
+    uint32_t called = atomic_load(&it->called);
+    if (called != atomic_load(&it->taken)) {
+        on_call();
+        atomic_store(&it->taken, called);
+        wake(it->asker);
+    }
+}
+
+static bool has_taken(const void *of) {
+    const struct processor *it = of;
+    return atomic_load(&it->called) == atomic_load(&it->taken);
+}
+
+void call_others(void) {
+    for (struct processor *it = all; it < all + MOST_PROCESSORS; it++) {
+        if (it->works && it != me()) {
+            it->asker = me();
+            atomic_fetch_add(&it->called, 1);
+            interrupt(it);
+        }
+    }
+}
+
+void wait_for_called(void) {
+    for (struct processor *it = all; it < all + MOST_PROCESSORS; it++) {
+        wait_until(has_taken, it, "a processor takes its interrupt");
+    }
+}
+
 void answer_stop(void) {
     struct processor *it = me();
+    take_call();
     uint32_t asked = atomic_load(&it->asked);
     if (asked == atomic_load(&it->answered)) {
         return;

@@ -47,7 +47,12 @@ void go_on(uint32_t number, struct order order);
 /* Stops all others that work; and lets them continue, with no order. */
 void stop_others(void);
 void others_go_on(void);
-/* Waits here if another processor has stopped this one. */
+/* Interrupts all others that work, with the lock, and goes on. Each calls `on_call` when it takes the interrupt. */
+void call_others(void);
+extern void (*on_call)(void);
+/* Returns when all of them have called it. */
+void wait_for_called(void);
+/* Takes the interrupts that have come: waits here if another processor has stopped this one. */
 void answer_stop(void);
 extern void (*before_stop)(void);
 /* How many interrupts were sent to stop a processor. */

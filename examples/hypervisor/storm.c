@@ -10,19 +10,14 @@
 #include "cache.h"
 #include "compare.h"
 #include "kernel.h"
+#include "notes.h"
 #include "probe.h"
 #include "trial.h"
 #include "walk.h"
 #include "wrong.h"
 
 /* Processes have numbers below LIVE, and in each page a part of their own. */
-enum { LIVE = 8, PART = FRAME / LIVE, MOST_NOTES = 300000, MOST_UNNOTED = 256, ACTIONS = 12, NOBODY = 255 };
-
-struct note {
-    struct tower_event event;
-    struct tower_reply reply;
-    bool is_access;
-};
+enum { LIVE = 8, PART = FRAME / LIVE, MOST_UNNOTED = 256, ACTIONS = 12, NOBODY = 255 };
 
 static struct tower *core;
 static struct tower second = TOWER_NONE;
@@ -30,9 +25,7 @@ static uint8_t *memory;
 static struct kernel kernel;
 static bool is_by_processor;
 
-/* With the lock. Stopped processors note their accesses concurrently. */
-static struct note notes[MOST_NOTES];
-static _Atomic uint32_t noted;
+/* With the lock. */
 static struct queue queue;
 static bool is_live[LIVE], is_copy[LIVE];
 static uint32_t turns_left, calls, exclusive;
@@ -55,12 +48,6 @@ static struct runner {
 
 static struct runner *mine(void) {
     return &runners[this_processor()];
-}
-
-static void note(const struct note *it) {
-    uint32_t at = noted++;
-    need(at < MOST_NOTES, "there is room for all notes");
-    notes[at] = *it;
 }
 
 /* Notes this processor's accesses: with the lock, or while another stops this processor. */
@@ -108,11 +95,8 @@ static struct tower_reply call(struct tower_event event) {
 /* Adds an access that completed to those not noted yet. */
 static void made(struct tower_event event, uint32_t value) {
     struct runner *it = mine();
-    bool is_store = event.call == TOWER_STORE;
-    event.pid = (uint8_t)it->pid;
     need(it->unnoted < MOST_UNNOTED, "there is room for a turn's accesses");
-    struct tower_reply reply = {.kind = is_store ? TOWER_DONE : TOWER_VALUE, .first = value};
-    it->access[it->unnoted++] = (struct note){event, reply, true};
+    it->access[it->unnoted++] = access_note(it->pid, event, value);
 }
 
 /* Handles a fault of a processor at a byte: the core gets an event for the byte, unless the words lead there by now,
@@ -144,7 +128,7 @@ static void make_in_software(struct tower_event event) {
         answer_stop();
         struct walk end = cache_access(&it);
         if (end.kind == WALK_FOUND) {
-            made(event, it.is_store ? 0 : it.value);
+            made(event, it.value);
             return;
         }
         if (!mend(it.address, end.code)) {
@@ -164,7 +148,7 @@ static void make_by_processor(struct tower_event event) {
         uint64_t exit = svm_run(probe(), mine()->identifier);
         take_interrupts();
         if (!is_made && exit != EXIT_PAGE_FAULT && svm_eip(probe()) != STUB_AT + entry) {
-            made(event, is_store ? 0 : svm_eax(probe()));
+            made(event, svm_eax(probe()));
             is_made = true;
         }
         if (exit == EXIT_CALL) {
@@ -469,25 +453,6 @@ static void blow(void) {
     }
 }
 
-/* ---- The second core */
-
-/* Passes all notes to the second core, and compares its replies. Returns how many notes are accesses. */
-static uint32_t tell_second(void) {
-    uint32_t accesses = 0;
-    for (const struct note *it = notes; it < notes + noted; it++) {
-        struct tower_reply reply = {0};
-        need(tower_step(&second, &it->event, &reply), "a core answers");
-        if (!same_replies(reply, it->reply)) {
-            say("note %u: process %u, call %u, %x: kind %u, %x, and kind %u, %x\n", (uint32_t)(it - notes),
-                it->event.pid, it->event.call, it->event.first, it->reply.kind, it->reply.first, reply.kind,
-                reply.first);
-            fail("the second core answers each call and access alike");
-        }
-        accesses += it->is_access;
-    }
-    return accesses;
-}
-
 /* ---- The storm */
 
 static void forget_page_in_software(uint32_t identifier, uint32_t page) {
@@ -513,7 +478,8 @@ static void begin_storm(void) {
     boot(&second);
     memory = memory_of(core);
     begin_kernel();
-    noted = calls = exclusive = 0;
+    open_notes();
+    calls = exclusive = 0;
     queue.count = 0;
     memset(lent, 0, sizeof lent);
     memset(offered, 0, sizeof offered);
@@ -538,7 +504,7 @@ void try_storm(uint32_t turns, bool by_processor, struct tower *tower) {
     before_stop = note_accesses;
     on_all(blow);
     before_stop = 0;
-    uint32_t accesses = tell_second();
+    uint32_t accesses = tell_second(&second);
     compare_cores(core, &second);
     tell_storm(accesses, is_by_processor ? (uint32_t)svm_runs() - runs : turns, stops() - interrupts);
     tower_free(&second);

@@ -20,4 +20,9 @@ void try_events(uint32_t rounds, struct tower *tower);
  * lock's order. The first stays in the handle. */
 void try_storm(uint32_t turns, bool by_processor, struct tower *tower);
 
+/* Runs processes on all processors at once: those in software keep what is stale until they take their interrupts. A
+ * second core gets all accesses afterwards as they were made, and each event where all had invalidated what it ended.
+ * The first core stays in the handle. */
+void try_shootdowns(uint32_t turns, struct tower *tower);
+
 #endif

@@ -3,8 +3,9 @@
 
 enum wrong wrong = RIGHT;
 
-/* Which trial has to find a version: that of events, which one processor makes, the storm, or both. */
-enum trials { EVENTS, STORM, BOTH };
+/* Which trials have to find a version: that of events, which one processor makes, the storm, both of these, the
+ * shootdowns, or all. */
+enum trials { EVENTS, STORM, BOTH, SHOOTDOWNS, ALL };
 
 /* In the order of `enum wrong`. ./wrong reads words and trials here. */
 static const struct {
@@ -12,15 +13,15 @@ static const struct {
     enum trials trials;
     const char *what;
 } versions[] = {
-    {"right", BOTH, ""},
-    {"unmap", BOTH, "nothing is invalidated after an unmap"},
-    {"protect", BOTH, "nothing is invalidated after a protect that takes the right to write"},
-    {"fill", BOTH, "nothing is invalidated after a store that fills a lazy page"},
+    {"right", ALL, ""},
+    {"unmap", ALL, "nothing is invalidated after an unmap"},
+    {"protect", ALL, "nothing is invalidated after a protect that takes the right to write"},
+    {"fill", ALL, "nothing is invalidated after a store that fills a lazy page"},
     {"second", EVENTS, "of two pages that a store fills the first alone is invalidated"},
-    {"accept", BOTH, "after an accept of a lazy page the caller's page is invalidated, and not the giver's"},
-    {"exit", BOTH, "an exit keeps its process's identifier"},
+    {"accept", ALL, "after an accept of a lazy page the caller's page is invalidated, and not the giver's"},
+    {"exit", ALL, "an exit keeps its process's identifier"},
     {"cpu", EVENTS, "one processor alone is told what to invalidate"},
-    {"table", BOTH, "the word that leads to an invalidated page's table is kept"},
+    {"table", ALL, "the word that leads to an invalidated page's table is kept"},
     {"refusal", EVENTS, "a refusal by what is kept is believed"},
     {"dirty", EVENTS, "a store through what is kept without dirty doesn't mark it"},
     {"early", STORM, "the lock is let go first: a page is invalidated with the next event of who keeps it"},
@@ -28,6 +29,10 @@ static const struct {
     {"move", STORM, "a process that comes back to a processor finds what this one kept of it"},
     {"fork", STORM, "the other processors run on while a fork copies"},
     {"write", EVENTS, "nothing is invalidated after a write of the kernel's own"},
+    {"acknowledge", SHOOTDOWNS, "a processor acknowledges before it invalidates"},
+    {"reply", SHOOTDOWNS, "the reply is told before all have invalidated"},
+    {"frame", SHOOTDOWNS, "a freed frame is given while a processor keeps it"},
+    {"give", SHOOTDOWNS, "the others go on while a lazy page gets a frame"},
 };
 
 static bool is_same(const char *a, const char *b) {

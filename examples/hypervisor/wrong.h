@@ -1,5 +1,5 @@
-/* Wrong versions of the trials of events and of the storm. Each forgets, marks or stops too little, and the trials have
- * to find each of them. A word of the kernel's command line chooses one (./wrong runs all). */
+/* Wrong versions of the trials of events, of the storm and of the shootdowns. Each forgets, marks, stops or waits too
+ * little, and the trials have to find each of them. A word of the kernel's command line chooses one (./wrong runs all). */
 #ifndef WRONG_H
 #define WRONG_H
 
@@ -22,6 +22,10 @@ enum wrong {
     WRONG_MOVE,
     WRONG_FORK,
     WRONG_WRITE,
+    WRONG_ACKNOWLEDGE,
+    WRONG_REPLY,
+    WRONG_FRAME,
+    WRONG_GIVE,
 };
 extern enum wrong wrong;
 

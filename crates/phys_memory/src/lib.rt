@@ -7,7 +7,7 @@
 #![tactic(auto, unfolding(crate::specs::Bytes::blank_bytes, crate::specs::Bytes::word_at, crate::specs::Bytes::with_word, crate::specs::Bytes::frame_bytes, crate::specs::Bytes::with_frame_bytes))]
 
 ghost use Rattle.std.specs.Prelude.{◌≡◌, ◌+◌, ◌*◌, ◌<◌, ◌≤◌, ◌↔◌, ◌⊎◌, IfOk, length, replicate, slice_index, slice_set};
-ghost use Rattle.std.specs.List.{splice};
+ghost use Rattle.std.specs.List.{splice, slice_range};
 ghost use Rattle.phys_memory.specs.Bytes.{blank_bytes, word_at, with_word, frame_bytes, with_frame_bytes};
 ghost use Rattle.phys_memory.specs.Bytes.{WordsReadBack, WordsStandApart, BytesStandApart, WordsFit};
 ghost use Rattle.phys_memory.specs.Bytes.{WordsChangeFrames, BytesChangeFrames, FramesChangeAlone};
@@ -164,8 +164,48 @@ impl Memory {
     {
         let source = from.0 as usize * FRAME_BYTES;
         let target = to.0 as usize * FRAME_BYTES;
-        self.bytes.copy_within(source..source + FRAME_BYTES, target);
+        if source < target {
+            copy_up(&mut self.bytes, source, target);
+        } else if target < source {
+            copy_down(&mut self.bytes, source, target);
+        }
     }
+}
+
+/// Copies a frame's bytes to one that begins above it.
+fn copy_up(bytes: &mut [u8], source: usize, target: usize)
+    requires below { source + 4096 ≤ target }
+    requires within { target + 4096 ≤ length bytes.old }
+    ensures { bytes.new ≡ splice bytes.old target (target + 4096) (slice_range bytes.old source (source + 4096)) }
+{
+    let (below, above) = bytes.split_at_mut(target);
+    put_at(above, 0, &below[source..source + FRAME_BYTES]);
+}
+
+/// Copies a frame's bytes to one that begins below it.
+fn copy_down(bytes: &mut [u8], source: usize, target: usize)
+    requires below { target + 4096 ≤ source }
+    requires within { source + 4096 ≤ length bytes.old }
+    ensures { bytes.new ≡ splice bytes.old target (target + 4096) (slice_range bytes.old source (source + 4096)) }
+{
+    let (below, above) = bytes.split_at_mut(source);
+    put_at(below, target, &above[0..FRAME_BYTES]);
+}
+
+/// Puts a frame's bytes at a place.
+fn put_at(bytes: &mut [u8], place: usize, part: &[u8])
+    requires whole { length part.now ≡ 4096 }
+    requires within { place + 4096 ≤ length bytes.old }
+    ensures { bytes.new ≡ splice bytes.old place (place + 4096) part.now }
+{
+    put(&mut bytes[place..place + FRAME_BYTES], part);
+}
+
+fn put(bytes: &mut [u8], part: &[u8])
+    requires { length part.now ≡ length bytes.old }
+    ensures { bytes.new ≡ part.now }
+{
+    bytes.copy_from_slice(part);
 }
 
 fn fill_with_zeros(part: &mut [u8])

@@ -1,0 +1,22 @@
+/* Notes of events and accesses, for a second core. */
+#ifndef NOTES_H
+#define NOTES_H
+
+#include "tower.h"
+
+struct note {
+    struct tower_event event;
+    struct tower_reply reply;
+    bool is_access;
+};
+
+/* Forgets all notes. */
+void open_notes(void);
+/* Adds one. Several processors may do so concurrently: the order of their notes is then any. */
+void note(const struct note *it);
+/* Returns the note of a process's access that completed, with the value that it read. */
+struct note access_note(uint32_t pid, struct tower_event event, uint32_t value);
+/* Passes all of them to a second core, and compares its replies. Returns how many notes are accesses. */
+uint32_t tell_second(struct tower *second);
+
+#endif
