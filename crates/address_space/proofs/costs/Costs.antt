@@ -1,7 +1,7 @@
 -- The pages of a process, and what one more page adds to the costs.
 use Rattle.address_space.proofs.Prelude
 use Prelude.{◌≡◌, ℕ, ◌+◌, Bool, true, false, cond, ◌||◌, ◌&&◌, ◌==◌, if◌then◌else◌, List, [], ◌∷◌, map, refl, sym, ap}
-use Prelude.{◌∙◌, Option, Some, None, is_some, arith, list_any, where_key, is_some-find, Order, Map, nat_order, same}
+use Prelude.{◌∙◌, Option, Some, None, is_some, arith, list_any, where_key, is_some-find, nat_order, same}
 use Prelude.{Set, slot_number, Slot, slot_order, slot_cmp, Cell, Spaces, cost, cost_of, need, pages_of, regions_of}
 use Prelude.{at_page, get-insert, same_set, contains-insert, contains-from_list, len-insert, list_any-map}
 use Rattle.std.specs.Ordering.{is_eq, nat_cmp}

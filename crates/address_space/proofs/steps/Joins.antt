@@ -1,19 +1,16 @@
 -- What a slot that joins a group leaves.
 use Rattle.address_space.proofs.Prelude
-use Prelude.{◌≡◌, ◌≢◌, ℕ, ◌+◌, ◌*◌, ◌<◌, ◌≤◌, Bool, true, false, List, length, ap, sym, ◌∙◌, subst, arith, inr, Option}
-use Prelude.{refl, Some, None, length-set, is_some, slice_get, slice_set, option_and_then, slot_number, frame_number}
-use Prelude.{frame_bytes, with_frame-other, Role, Table, Page, frames_weight, weight-set, PageEntry, Frames, dir_word}
-use Prelude.{table_of, with_entry, entry_word, IsKernelEntry, entry_word-names, entry_word-lt, entry_word-present}
-use Prelude.{word_entry-entry_word, change_each, collect, put_some, same, Slot, joined, at_page, Entries, lazy_count}
-use Prelude.{cell_of, spaces_of, Directories, Roles, directory_of, table_in, entries_in, spaces_in, total_cost, Tables}
-use Prelude.{Pages, IsSound, InUseAt, Names, SlotJoined, some_value, ne_eqb, none_goes}
-use Rattle.address_space.proofs.costs.CostSteps.{total-entry}
-use Rattle.address_space.proofs.entries.EntrySteps.{entries-insert, tables-entry, tables_kept, use_own, use_kept}
+use Prelude.{◌≡◌, ◌≢◌, ℕ, ◌+◌, ◌*◌, ◌<◌, ◌≤◌, Bool, true, false, List, length, ap, sym, ◌∙◌, arith, Option}
+use Prelude.{refl, Some, None, length-set, is_some, slice_get, slice_set, slot_number, frame_number}
+use Prelude.{frame_bytes, Role, Page, frames_weight, weight-set, PageEntry, Frames, dir_word}
+use Prelude.{table_of, with_entry}
+use Prelude.{Slot, joined, at_page, Entries}
+use Prelude.{spaces_of, Roles, directory_of, entries_in, spaces_in, Tables}
+use Prelude.{IsSound, Names, SlotJoined, some_value, ne_eqb}
 use Rattle.address_space.proofs.frames.FrameSteps.{tables-role}
-use Rattle.address_space.proofs.frames.PageSteps.{same_bytes, pages-join, no_table, lazy-real}
+use Rattle.address_space.proofs.frames.PageSteps.{same_bytes, pages-join, lazy-real}
 use Rattle.address_space.proofs.entries.Refinement.{get-spaces_of, join_refines}
 use Rattle.address_space.proofs.steps.Steps.{inside, page_loose, none_before, role_own, role_other, entry_added}
-use Rattle.address_space.proofs.entries.Staying.{stay_same, stay_then, stay_new, places_by}
 use Rattle.page_words.specs.FiniteMap as map
 
 pub slot_joined : (directories : List (Option ℕ)) (bytes two : List ℕ) (roles roles' : List Role) (giver giver_page p d page f c : ℕ) (right : Bool) → IsSound directories bytes roles → directory_of directories p ≡ Some d

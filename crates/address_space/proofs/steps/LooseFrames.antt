@@ -1,12 +1,12 @@
 -- Frames of pages and free ones, where a page leaves or a frame is released.
-use Rattle.std.proofs.Common.{◌≡◌, ◌≢◌, ◌⊎◌, ◌-◌, ℕ, Bool, true, false, List, refl, ap, sym, ◌∙◌, subst, arith, inl, inr, Option, Some, None, length}
-use Rattle.std.specs.Prelude.{if◌then◌else◌, nat_lt, slice_get, slice_set}
+use Rattle.std.proofs.Common.{◌≡◌, ◌≢◌, ◌⊎◌, ◌-◌, ℕ, Bool, true, false, List, refl, ap, sym, ◌∙◌, subst, inl, inr, Option, Some, None}
+use Rattle.std.specs.Prelude.{if◌then◌else◌, nat_lt, slice_get}
 use Rattle.std.specs.Option.{option_and_then}
 use Rattle.std.proofs.lemmas.Bool.{cases_eq}
 use Rattle.std.proofs.lemmas.Option.{slice_get_within}
 use Rattle.page_words.specs.Addresses.{slot_number}
 use Rattle.page_words.specs.Words.{frame_number, is_present}
-use Rattle.phys_memory.specs.Bytes.{frame_bytes, with_word_in}
+use Rattle.phys_memory.specs.Bytes.{frame_bytes}
 use Rattle.phys_memory.proofs.Frames.{with_frame-other}
 use Rattle.alloc_table.specs.declared.Role.{Role}
 use Rattle.alloc_table.specs.declared.Role.TheVariants.{Reserved, Free, Directory, Table, Page}
@@ -14,8 +14,8 @@ use Rattle.alloc_table.specs.Roles.{IsReleased, released}
 use Rattle.alloc_table.proofs.RoleLemmas.{get-set_same, get-set_other}
 use Rattle.page_map.specs.declared.PageEntry.{PageEntry}
 use Rattle.page_map.specs.Entries.{Frames, IsCleared, dir_word, table_of, without_entry}
-use Rattle.address_space.specs.Image.{Image, image_from}
-use Rattle.address_space.specs.Stays.{IsLoose, LooseStay}
+use Rattle.address_space.specs.Image.{image_from}
+use Rattle.address_space.specs.Stays.{LooseStay}
 use Rattle.address_space.specs.Sound.{IsSound}
 use Rattle.address_space.specs.View.{directory_of}
 use Rattle.address_space.specs.Changes.{EntryLeft, TableFreed}

@@ -9,7 +9,7 @@ use Prelude.{entry_word-names, entry_word-lt, entry_word-present, word_entry-ent
 use Prelude.{Frames, dir_word, word_table, table_of, with_table, with_entry, entry_word, IsKernelEntry, IsPageMap, Slot}
 use Prelude.{fresh, at_page, Entries, lazy_count, cell_of, spaces_of, Directories, Roles, directory_of, table_in}
 use Prelude.{entry_in, entries_in, spaces_in, total_cost, Tables, Pages, HoldsPage, IsSound, InUseAt, Inside}
-use Prelude.{TableGiven, PageAdded, table_need, none_goes}
+use Prelude.{TableGiven, PageAdded, table_need}
 use Rattle.address_space.proofs.entries.Refinement.{lazy_refines, get-spaces_of}
 use Rattle.address_space.proofs.costs.CostSteps.{total-entry}
 use Rattle.address_space.proofs.entries.EntrySteps.{Loose, entries-insert, entry_own, tables-entry, tables_kept, use_own, use_kept}

@@ -28,6 +28,8 @@ returns c = record {
       (λ q d f stays live. (dropped c).others q.pid (λ e. let k : true ≡ false = sym (eq-eqb q.pid c.args.pid e) ∙ stays in cc) ∙ live)
       (places_more (of_process c.args.pid) none_goes (directory_of c.self.inside.directories) (frame_bytes c.self.inside.memory)
       (directory_of c.forget.new.directories) (frame_bytes c.self.inside.memory) (λ q f stays. refl) (dropped c).stay));
+  loose = rw (← c.self.view_is)
+      (loose_released c.self.inside.directories c.forget.new.directories c.self.inside.memory c.self.inside.frames c.release.new.self c.args.directory c.release.ensures.role);
 }
 
 pub invariant_of-self : goal.invariant_of-self
@@ -40,8 +42,3 @@ invariant_of-self c =
           (c.self.invariant.spaces.sound.tables.directory c.args.pid c.args.directory (rw (← c.self.view_is) at c.requires.live)) refl)
           c.self.inside.counts.items c.self.invariant.counted;
     }
-
-pub returns-clause-loose : goal.returns-clause-loose
-returns-clause-loose c =
-    rw (← c.self.view_is)
-    (loose_released c.self.inside.directories c.forget.new.directories c.self.inside.memory c.self.inside.frames c.release.new.self c.args.directory c.release.ensures.role)
