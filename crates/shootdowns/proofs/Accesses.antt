@@ -379,10 +379,12 @@ module _ (v : View) (core : IsCore v) (bytes : List ℕ) (frames : ℕ → ℕ) 
       by (call.Store addr size value) k = frames_beside frames (byte_count size) value bytes addr f (λ i l.
           let page : ℕ = page_number (addr + i) in
           let s = each_byte addr size (λ page. Serves v a.pid page (frames page) Write) k i l in
-          let inside = inside_served v core a.pid page (frames page) s in
-          (omega (arith, inside, long), λ same. (
-          let role = role_served v core a.pid page (frames page) s in
-          none role.0 (ap (slice_get v.roles) same ∙ role.1))))
+          let inside = inside_served v core a.pid page (frames page) s in (
+            omega (arith, inside, long),
+            λ same. (
+                let role = role_served v core a.pid page (frames page) s in
+                none role.0 (ap (slice_get v.roles) same ∙ role.1)),
+          ))
       by (call.Map page write) k = absurd k
       by (call.Unmap page) k = absurd k
       by (call.Protect page write) k = absurd k

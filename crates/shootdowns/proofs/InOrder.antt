@@ -208,17 +208,19 @@ fewer_kept (settled x w) keeps i left among good = record {
 fewer_kept (under_way x e r s w) keeps i left among good = record {
   stands = (good.stands.0, left_fewer x w keeps i left among good.stands.1, good.stands.2, good.stands.3);
   taken = λ takes.
-      let t = good.taken takes in
-      (t.0, record {
-        before = t.1.before;
-        well = t.1.well;
-        read = read_with t.0 keeps i left t.1.read (among_read t.0 left (keeps i) among (t.1.read i));
-        state = t.1.state;
-        after = t.1.after;
-        names = t.1.names;
-        pages = t.1.pages;
-        long = t.1.long;
-      });
+      let t = good.taken takes in (
+        t.0,
+        record {
+          before = t.1.before;
+          well = t.1.well;
+          read = read_with t.0 keeps i left t.1.read (among_read t.0 left (keeps i) among (t.1.read i));
+          state = t.1.state;
+          after = t.1.after;
+          names = t.1.names;
+          pages = t.1.pages;
+          long = t.1.long;
+        },
+      );
 }
 
 step : {m n : Moment} {keeps between : Processors} {es : List Event} {rs : List Reply} → Step m keeps es rs n between → Good m keeps
@@ -230,18 +232,18 @@ step (begun {v = v} {w = w} {keeps = keeps} {e = e} {r = r} b) good =
       stands = (b.carried.core, λ i. left_read (ended_by v e) v w (keeps i) b.carried.ends (read i), b.carried.state, b.carried.reply);
       taken = λ takes.
           let stand = pages_stand v w good.stands.0 b.carried.core e b.carried.state b.stay b.loose takes in (
-        v,
-        record {
-          before = good.stands.0;
-          well = good.stands.0.well_formed;
-          read = read;
-          state = filled_first v w good.stands.0 b.carried.core e takes b.carried.state b.stay stand;
-          after = filled_after v w good.stands.0 b.carried.core e takes b.carried.state b.stay stand;
-          names = names_stay v w good.stands.0 b.carried.core e takes b.carried.state b.stay stand;
-          pages = λ f c is. (stand.each f c is).1;
-          long = long_stays v w good.stands.0 b.carried.core e takes b.carried.state b.stay stand;
-        },
-      );
+            v,
+            record {
+              before = good.stands.0;
+              well = good.stands.0.well_formed;
+              read = read;
+              state = filled_first v w good.stands.0 b.carried.core e takes b.carried.state b.stay stand;
+              after = filled_after v w good.stands.0 b.carried.core e takes b.carried.state b.stay stand;
+              names = names_stay v w good.stands.0 b.carried.core e takes b.carried.state b.stay stand;
+              pages = λ f c is. (stand.each f c is).1;
+              long = long_stays v w good.stands.0 b.carried.core e takes b.carried.state b.stay stand;
+            },
+          );
     })
 step (loaded {x = x} {w = w} {s = s} {keeps = keeps} {e = e} {a = a} {r = r} {q = q} i takes l) good = one_loaded x e r s w keeps takes good i a q l
 step (stored {x = x} {w = w} {s = s} {keeps = keeps} {e = e} {a = a} {r = r} {q = q} {bytes = bytes} i takes l) good =

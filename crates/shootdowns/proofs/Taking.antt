@@ -192,8 +192,7 @@ by_protect v w before later e state stay page write is = record {
         let cell = some_value (map.get v.state.spaces slot) (mapped_word v before slot old.0 old.1) in
         let left = bytes_next v.state e page write is slot cell.0 cell.1 in
         let there : map.get w.state.spaces slot ≡ Some left.0 = ap (λ (t : State). map.get t.spaces slot) state ∙ left.1 in
-        let same : frame_number new.0 ≡ f = new.2 ∙ own.1 in
-        (
+        let same : frame_number new.0 ≡ f = new.2 ∙ own.1 in (
           ap (frame_bytes w.bytes) (sym same) ∙ sym (cell_bytes w later slot left.0 new.0 there new.1) ∙ left.2
               ∙ cell_bytes v before slot cell.0 old.0 cell.1 old.1 ∙ ap (frame_bytes v.bytes) own.1,
           inr (later.image.memory.sound.pages slot f (ap (option_and_then (own_frame 2)) new.1 ∙ own_is new.0 (real new.0 new.1 (is_lazy new.0) refl same) ∙ ap Some same)),
