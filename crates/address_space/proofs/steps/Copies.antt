@@ -94,7 +94,7 @@ lazy_copied directories bytes two roles from source p d page t e sound home live
     entry_copied directories bytes bytes two roles roles from source p d page t e.frame e sound home live low high unmapped there here
     (record {
       ready = record {
-        size = sound.size;
+        size = refl;
         length = refl;
         small = omega (arith, zero);
         tables = sound.tables;
@@ -149,7 +149,7 @@ real_copied directories bytes one two roles roles' from source p d page t f e so
     entry_copied directories bytes one two roles roles' from source p d page t f e sound home live low high unmapped there here
     (record {
       ready = record {
-        size = long_one ∙ sound.size ∙ ap (λ n. 4096 * n) (sym same_length);
+        size = long_one;
         length = same_length;
         small = (inside directories bytes roles f Free sound free).small;
         tables = subst (λ x. Tables D x R') (sym is_one) Tb;

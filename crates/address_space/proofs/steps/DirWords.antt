@@ -12,7 +12,7 @@ use Rattle.page_words.proofs.Flags.{flag-with_flag_other, frame-with_flag}
 use Rattle.address_space.proofs.entries.EntrySteps.{same_entries, entry_by_table}
 use Rattle.address_space.proofs.frames.PageSteps.{same_bytes, no_directory}
 use Rattle.address_space.proofs.standing.TablesStand.{past_end}
-use Rattle.address_space.proofs.steps.Steps.{inside}
+use Rattle.address_space.proofs.steps.Steps.{inside, sound_by}
 use Rattle.address_space.proofs.entries.Staying.{stay_same, places_by}
 use Rattle.page_words.specs.FiniteMap as map
 
@@ -171,13 +171,7 @@ dirs_touched directories bytes bytes' roles sound alike long =
     let E : entries_in D m' ≡ entries_in D m = dirs-entries D m m' R T alike in
     let S : spaces_of (entries_in D m') m' ≡ spaces_of (entries_in D m) m = ap (λ x. spaces_of x m') E ∙ same_bytes (entries_in D m) m m' (λ q e is. dirs-page D m m' R T alike q e sound.pages is) in
     record {
-      sound = record {
-        size = long ∙ sound.size;
-        few = sound.few;
-        pids = sound.pids;
-        tables = tables-dirs D m m' R T alike;
-        pages = subst (λ x. Pages x R) (sym E) sound.pages;
-      };
+      sound = sound_by directories bytes bytes' roles roles m' (entries_in D m) sound long refl refl (tables-dirs D m m' R T alike) E sound.pages;
       spaces = S;
       cost = ap (total_cost directories) S;
       in_use = use_dirs D m m' R T alike;

@@ -39,7 +39,7 @@ slot_joined directories bytes two roles roles' giver giver_page p d page f c rig
     let weighs : frames_weight roles' ≡ frames_weight (slice_set roles f (Page (c + 1))) = ap frames_weight now in
     let as_many = lazy-real E slot e none (λ z. omega (arith, z, up)) in
     let added = entry_added directories bytes bytes two roles roles' p d page at.0 e sound live low high none at.1 (record {
-      size = sound.size ∙ ap (λ n. 4096 * n) (sym same_length);
+      size = refl;
       length = same_length;
       small = (inside directories bytes roles f (Page c) sound role).small;
       tables = tables-role (directory_of directories) m (slice_get roles) R' f (Page c) sound.tables role (page_loose (slice_get roles) f c role) (page_loose R' f (c + 1) own) others;
