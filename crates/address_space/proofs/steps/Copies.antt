@@ -1,5 +1,6 @@
 -- What a copy of a page leaves, and then a copy of all pages of a process.
 use Rattle.address_space.proofs.Prelude
+use Rattle.address_space.proofs.Prelude.{names}
 use Prelude.{◌≡◌, ◌≢◌, ℕ, ◌+◌, ◌*◌, ◌^◌, ◌<◌, ◌≤◌, true, false, cond, List, length, refl, ap, sym, ◌∙◌, subst, arith}
 use Prelude.{inl, inr, Option, Some, None, length-set, unwrap_or, ◌⊎◌, is_some, slice_get, ◌==◌, if◌then◌else◌}
 use Prelude.{option_and_then, option_map, slot_number, IsUserPage, frame_number, Map, get-insert, same_itself, same_map}
@@ -68,7 +69,7 @@ entry_copied directories bytes one two roles roles' from source p d page t f e s
     let found : map.get E given ≡ Some e = get_user D m from source page e home (live_small directories from source sound.pids home) low high here in
     record {
       slot = added.slot;
-      spaces = (λ i. spaces_of (added.entries i) m2) ∙ lone_refines E m2 slot e' none ready.alone ready.apart
+      spaces = (λ i. spaces_of (added.entries i) m2) ∙ lone_refines E m2 slot e' (λ g _. ap (names g) none) ready.alone ready.apart
           ∙ (λ i. map.insert (same_bytes E m m2 added.kept i) slot (record { write = e.write; may = e.may; accessed = false; dirty = false; bytes = copy i; holders = set.insert set.empty slot }))
           ∙ sym (ap (λ c. map.insert (spaces_of E m) slot (copy_of slot c)) (cell_at E m given e found));
       entries = (e', added.entries, sym (ap is_lazy_entry (ap (option_and_then (λ x. entry_at m x page)) home ∙ here)));
