@@ -36,6 +36,18 @@ entry_by_table D m q = by (D q.pid)
     by None = refl
     by (Some d) = refl
 
+-- an entry stays where its table does, with its bytes
+pub entry_kept : (D D' : Directories) (m m' : Frames) (q : Slot) → table_in D' m' q.pid (slot_number q.page) ≡ table_in D m q.pid (slot_number q.page)
+    → ((t : ℕ) → table_in D m q.pid (slot_number q.page) ≡ Some t → m' t ≡ m t) → entry_in D' m' q ≡ entry_in D m q
+entry_kept D D' m m' q same kept =
+    entry_by_table D' m' q ∙ ap (option_and_then (λ table. word_entry (word_in (m' table) (index_number q.page)))) same
+    ∙ by (table_in D m q.pid (slot_number q.page)) refl ∙ sym (entry_by_table D m q)
+  where
+    by : (y : Option ℕ) → table_in D m q.pid (slot_number q.page) ≡ y
+        → option_and_then (λ table. word_entry (word_in (m' table) (index_number q.page))) y ≡ option_and_then (λ table. word_entry (word_in (m table) (index_number q.page))) y
+    by None is = refl
+    by (Some t) is = ap (λ l. word_entry (word_in l (index_number q.page))) (kept t is)
+
 -- where each process has the same entries, so has the whole
 pub same_entries : (D : Directories) (m m' : Frames) → ((q : Slot) → entry_in D m' q ≡ entry_in D m q) → entries_in D m' ≡ entries_in D m
 same_entries D m m' is = same_map _ _ (λ q. get-entries_in D m' q ∙ ap (λ x. cond (list_any (same slot_order q) user_slots) x None) (is q) ∙ sym (get-entries_in D m q))

@@ -9,7 +9,7 @@ use Prelude.{without_table, Slot, Directories, Roles, table_in, entry_in, entrie
 use Rattle.phys_memory.proofs.Frames.{word_in-zeros}
 use Rattle.page_map.specs.Entries.{link_word}
 use Rattle.page_map.proofs.WordLaws.{link_word-lt, word_table-link_word, link_word-names}
-use Rattle.address_space.proofs.entries.EntrySteps.{Loose, same_entries, entry_by_table}
+use Rattle.address_space.proofs.entries.EntrySteps.{Loose, same_entries, entry_by_table, entry_kept}
 
 -- ---- A frame's bytes
 
@@ -28,16 +28,7 @@ module _ (D : Directories) (m : Frames) (R : Roles) (T : Tables D m R) (f : ℕ)
   loose-table q s t is = with_frame-other m f t new (λ same. loose.no_table q s (sym (ap R same) ∙ T.table q s t is))
 
   pub loose-entry : (q : Slot) → entry_in D (with_frame m f new) q ≡ entry_in D m q
-  loose-entry q =
-      entry_by_table D (with_frame m f new) q
-      ∙ ap (option_and_then (λ table. word_entry (word_in (with_frame m f new table) (index_number q.page)))) (loose-tables q.pid (slot_number q.page))
-      ∙ by (table_in D m q.pid (slot_number q.page)) refl
-      ∙ sym (entry_by_table D m q)
-    where
-      by : (y : Option ℕ) → table_in D m q.pid (slot_number q.page) ≡ y
-          → option_and_then (λ table. word_entry (word_in (with_frame m f new table) (index_number q.page))) y ≡ option_and_then (λ table. word_entry (word_in (m table) (index_number q.page))) y
-      by None is = refl
-      by (Some t) is = ap (λ l. word_entry (word_in l (index_number q.page))) (loose-table q.pid (slot_number q.page) t is)
+  loose-entry q = entry_kept D D m (with_frame m f new) q (loose-tables q.pid (slot_number q.page)) (loose-table q.pid (slot_number q.page))
 
   pub loose-entries : entries_in D (with_frame m f new) ≡ entries_in D m
   loose-entries = same_entries D m (with_frame m f new) loose-entry
@@ -153,24 +144,16 @@ module _ (D : Directories) (m : Frames) (R : Roles) (T : Tables D m R) (p d s t 
       linked-other f (λ same. let k : R f ≡ R d = ap R same in let b = T.directory p d live in cc) (not_t f (Table q r) a (λ e. cc))
 
   pub linked-entry : (q : Slot) → entry_in D (with_table m d s t) q ≡ entry_in D m q
-  linked-entry q =
-      entry_by_table D (with_table m d s t) q
-      ∙ elim (here_or_not p s q.pid (slot_number q.page)) [
-        | inl h ↦
-            ap (option_and_then (λ table. word_entry (word_in (with_table m d s t table) (index_number q.page)))) ((λ i. table_in D (with_table m d s t) (h.0 i) (h.1 i)) ∙ linked-own)
-            ∙ ap (λ l. word_entry (word_in l (index_number q.page))) own_table
-            ∙ ap word_entry (word_in-zeros 4096 (index_number q.page) (omega arith))
-            ∙ sym (ap (option_and_then (λ table. word_entry (word_in (m table) (index_number q.page)))) ((λ i. table_in D m (h.0 i) (h.1 i)) ∙ none_in))
-        | inr n ↦
-            ap (option_and_then (λ table. word_entry (word_in (with_table m d s t table) (index_number q.page)))) (linked-others q.pid (slot_number q.page) n)
-            ∙ by (table_in D m q.pid (slot_number q.page)) refl
-      ]
-      ∙ sym (entry_by_table D m q)
-    where
-      by : (y : Option ℕ) → table_in D m q.pid (slot_number q.page) ≡ y
-          → option_and_then (λ table. word_entry (word_in (with_table m d s t table) (index_number q.page))) y ≡ option_and_then (λ table. word_entry (word_in (m table) (index_number q.page))) y
-      by None is = refl
-      by (Some f) is = ap (λ l. word_entry (word_in l (index_number q.page))) (kept_table q.pid (slot_number q.page) f is)
+  linked-entry q = elim (here_or_not p s q.pid (slot_number q.page)) [
+    | inl h ↦
+        entry_by_table D (with_table m d s t) q
+        ∙ ap (option_and_then (λ table. word_entry (word_in (with_table m d s t table) (index_number q.page)))) ((λ i. table_in D (with_table m d s t) (h.0 i) (h.1 i)) ∙ linked-own)
+        ∙ ap (λ l. word_entry (word_in l (index_number q.page))) own_table
+        ∙ ap word_entry (word_in-zeros 4096 (index_number q.page) (omega arith))
+        ∙ sym (ap (option_and_then (λ table. word_entry (word_in (m table) (index_number q.page)))) ((λ i. table_in D m (h.0 i) (h.1 i)) ∙ none_in))
+        ∙ sym (entry_by_table D m q)
+    | inr n ↦ entry_kept D D m (with_table m d s t) q (linked-others q.pid (slot_number q.page) n) (kept_table q.pid (slot_number q.page))
+  ]
 
   pub linked-entries : entries_in D (with_table m d s t) ≡ entries_in D m
   linked-entries = same_entries D m (with_table m d s t) linked-entry
@@ -329,19 +312,11 @@ module _ (D : Directories) (m : Frames) (R : Roles) (T : Tables D m R) (p d s t 
   }
 
   pub unlinked-entry : ((i : ℕ) → i < 1024 → is_present (word_in (m t) i) ≡ false) → (q : Slot) → entry_in D (without_table m d s) q ≡ entry_in D m q
-  unlinked-entry blank q =
-      entry_by_table D (without_table m d s) q
-      ∙ elim (here_or_not p s q.pid (slot_number q.page)) [
-        | inl h ↦
-            ap (option_and_then (λ table. word_entry (word_in (without_table m d s table) (index_number q.page)))) ((λ i. table_in D (without_table m d s) (h.0 i) (h.1 i)) ∙ unlinked-own)
-            ∙ sym (ap (option_and_then (λ table. word_entry (word_in (m table) (index_number q.page)))) ((λ i. table_in D m (h.0 i) (h.1 i)) ∙ there_in) ∙ ap (λ b. if b then Some (entry_from (word_in (m t) (index_number q.page))) else None) (blank (index_number q.page) (omega arith)))
-        | inr n ↦
-            ap (option_and_then (λ table. word_entry (word_in (without_table m d s table) (index_number q.page)))) (unlinked-others q.pid (slot_number q.page) n)
-            ∙ by (table_in D m q.pid (slot_number q.page)) refl
-      ]
-      ∙ sym (entry_by_table D m q)
-    where
-      by : (y : Option ℕ) → table_in D m q.pid (slot_number q.page) ≡ y
-          → option_and_then (λ table. word_entry (word_in (without_table m d s table) (index_number q.page))) y ≡ option_and_then (λ table. word_entry (word_in (m table) (index_number q.page))) y
-      by None is = refl
-      by (Some f) is = ap (λ l. word_entry (word_in l (index_number q.page))) (unlinked-table q.pid (slot_number q.page) f is)
+  unlinked-entry blank q = elim (here_or_not p s q.pid (slot_number q.page)) [
+    | inl h ↦
+        entry_by_table D (without_table m d s) q
+        ∙ ap (option_and_then (λ table. word_entry (word_in (without_table m d s table) (index_number q.page)))) ((λ i. table_in D (without_table m d s) (h.0 i) (h.1 i)) ∙ unlinked-own)
+        ∙ sym (ap (option_and_then (λ table. word_entry (word_in (m table) (index_number q.page)))) ((λ i. table_in D m (h.0 i) (h.1 i)) ∙ there_in) ∙ ap (λ b. if b then Some (entry_from (word_in (m t) (index_number q.page))) else None) (blank (index_number q.page) (omega arith)))
+        ∙ sym (entry_by_table D m q)
+    | inr n ↦ entry_kept D D m (without_table m d s) q (unlinked-others q.pid (slot_number q.page) n) (unlinked-table q.pid (slot_number q.page))
+  ]

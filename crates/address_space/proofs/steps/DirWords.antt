@@ -9,10 +9,10 @@ use Prelude.{walked_word, with_walked, Slot, holders_of, spaces_of, Directories,
 use Prelude.{entry_in, entries_in, spaces_in, total_cost, Tables, Pages, IsSound, InUse, Touched, none_goes}
 use Rattle.page_words.specs.Words.{with_flag, frame_number, is_present, IsKernelDirWord, IsKernelTableWord, NamesTable}
 use Rattle.page_words.proofs.Flags.{flag-with_flag_other, frame-with_flag}
-use Rattle.address_space.proofs.entries.EntrySteps.{same_entries, entry_by_table}
+use Rattle.address_space.proofs.entries.EntrySteps.{same_entries, entry_by_table, entry_kept}
 use Rattle.address_space.proofs.frames.PageSteps.{same_bytes, no_directory}
 use Rattle.address_space.proofs.standing.TablesStand.{past_end}
-use Rattle.address_space.proofs.steps.Steps.{inside}
+use Rattle.address_space.proofs.steps.Steps.{inside, sound_by}
 use Rattle.address_space.proofs.entries.Staying.{stay_same, places_by}
 use Rattle.page_words.specs.FiniteMap as map
 
@@ -113,16 +113,7 @@ module _ (D : Directories) (m m' : Frames) (R : Roles) (T : Tables D m R) (A : D
   dirs-table q s t is = role_kept t (Table q s) (T.table q s t is) (λ p. λ e. cc)
 
   pub dirs-entry : (q : Slot) → entry_in D m' q ≡ entry_in D m q
-  dirs-entry q =
-      entry_by_table D m' q
-      ∙ ap (option_and_then (λ table. word_entry (word_in (m' table) (index_number q.page)))) (dirs-tables q.pid (slot_number q.page))
-      ∙ by (table_in D m q.pid (slot_number q.page)) refl
-      ∙ sym (entry_by_table D m q)
-    where
-      by : (y : Option ℕ) → table_in D m q.pid (slot_number q.page) ≡ y
-          → option_and_then (λ table. word_entry (word_in (m' table) (index_number q.page))) y ≡ option_and_then (λ table. word_entry (word_in (m table) (index_number q.page))) y
-      by None is = refl
-      by (Some t) is = ap (λ l. word_entry (word_in l (index_number q.page))) (dirs-table q.pid (slot_number q.page) t is)
+  dirs-entry q = entry_kept D D m m' q (dirs-tables q.pid (slot_number q.page)) (dirs-table q.pid (slot_number q.page))
 
   pub dirs-entries : entries_in D m' ≡ entries_in D m
   dirs-entries = same_entries D m m' dirs-entry
@@ -171,13 +162,7 @@ dirs_touched directories bytes bytes' roles sound alike long =
     let E : entries_in D m' ≡ entries_in D m = dirs-entries D m m' R T alike in
     let S : spaces_of (entries_in D m') m' ≡ spaces_of (entries_in D m) m = ap (λ x. spaces_of x m') E ∙ same_bytes (entries_in D m) m m' (λ q e is. dirs-page D m m' R T alike q e sound.pages is) in
     record {
-      sound = record {
-        size = long ∙ sound.size;
-        few = sound.few;
-        pids = sound.pids;
-        tables = tables-dirs D m m' R T alike;
-        pages = subst (λ x. Pages x R) (sym E) sound.pages;
-      };
+      sound = sound_by directories bytes bytes' roles roles m' (entries_in D m) sound long refl refl (tables-dirs D m m' R T alike) E sound.pages;
       spaces = S;
       cost = ap (total_cost directories) S;
       in_use = use_dirs D m m' R T alike;

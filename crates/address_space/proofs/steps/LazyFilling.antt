@@ -1,5 +1,7 @@
 -- What a lazy page that got a frame of its own leaves.
 use Rattle.address_space.proofs.Prelude
+use Rattle.address_space.proofs.Prelude.{EntriesStay}
+use Rattle.address_space.proofs.steps.Steps.{sound_by}
 use Prelude.{◌≡◌, ◌≢◌, ℕ, ◌+◌, ◌*◌, ◌^◌, ◌<◌, ◌≤◌, true, false, List, length, replicate, refl, ap, sym, ◌∙◌, subst}
 use Prelude.{arith, inr, Option, Some, None, length-set, slice_get, option_and_then, length-replicate, slot_number}
 use Prelude.{frame_number, frame_bytes, with_frame, with_frame-same, with_frame-other, Role, Reserved, Free, Table}
@@ -89,13 +91,8 @@ page_filled directories bytes one two roles roles' p d page f e s live low high 
     let within = s.within in
     record {
       after = record {
-        sound = record {
-          size = long_two ∙ long_one ∙ sound.size ∙ ap (λ n. 4096 * n) (sym same_length);
-          few = subst (λ n. n ≤ 1048576) (sym same_length) sound.few;
-          pids = sound.pids;
-          tables = subst (λ x. Tables D x R') (sym is) (tables-entry D m1 R' Tb p d page t (entry_word e') live here.there (entry_word-lt e' small) (inr (entry_word-names e' small rules')));
-          pages = subst (λ x. Pages x R') (sym E2) P2;
-        };
+        sound = sound_by directories bytes two roles roles' _ _ sound (long_two ∙ long_one) same_length is
+            (tables-entry D m1 R' Tb p d page t (entry_word e') live here.there (entry_word-lt e' small) (inr (entry_word-names e' small rules'))) E2 P2;
         in_use = λ q r. subst (λ x. InUseAt D x q r) (sym is) (use_kept D m1 R' Tb p d page t (entry_word e') live here.there (entry_word-lt e' small) (entry_word-present e') q r (w.in_use s.in_use q r));
         weighs = omega (arith, weighs, weight, less, total);
         within = omega (arith, within, total, same_length);
@@ -103,11 +100,7 @@ page_filled directories bytes one two roles roles' p d page f e s live low high 
       spaces = spaces;
       real = (e', ap (λ x. entry_in D x slot) is ∙ entry_own D m1 R' Tb p d page t (entry_word e') live here.there (entry_word-lt e' small) ∙ word_entry-entry_word e' small, refl);
       fewer = λ q was. ap (λ x. set.contains (holders_of x 0) q) E2 ∙ lazy-fewer E slot e' (λ z. omega (arith, z, up)) q was;
-      stay = places_by (of_lazy p page) D m D (frame_bytes two)
-          (stay_then (of_lazy p page) E (map.insert E slot e') (entries_in D (frame_bytes two))
-          (stay_filled E p page e e' there zero) (stay_same (of_lazy p page) (map.insert E slot e')
-          (entries_in D (frame_bytes two)) E2))
-          (λ q r g found. tables q r ∙ found);
+      stay = places_by (of_lazy p page) D m D (frame_bytes two) (subst (EntriesStay (of_lazy p page) E) (sym E2) (stay_filled E p page e e' there zero)) (λ q r g found. tables q r ∙ found);
       tables = tables;
       others = λ q n. ap (λ x. entry_in D x q) is ∙ entry_other D m1 R' Tb p d page t (entry_word e') live here.there (entry_word-lt e' small) q n ∙ kept q.pid q.page (w.entry q.pid) (D q.pid) refl;
       length = same_length;

@@ -1,5 +1,6 @@
 -- What a slot that leaves its group leaves.
 use Rattle.address_space.proofs.Prelude
+use Rattle.address_space.proofs.steps.Steps.{sound_by}
 use Rattle.address_space.proofs.Prelude.{InUse}
 use Prelude.{◌≡◌, ◌≢◌, ℕ, ◌+◌, ◌*◌, ◌<◌, ◌≤◌, Bool, true, false, List, length, refl, ap, sym, ◌∙◌, subst, arith, inl}
 use Prelude.{inr, Option, Some, None, length-set, ◌⊎◌, slice_get, slice_set, if◌then◌else◌, nat_lt, ◌-◌}
@@ -288,13 +289,7 @@ slot_removed directories bytes two roles one last p d page e freed spaces live l
       length = same_length;
       stay = gone.stay;
       after = record {
-        sound = record {
-          size = same_bytes_length ∙ sound.size ∙ ap (λ n. 4096 * n) (sym same_length);
-          few = subst (λ n. n ≤ 1048576) (sym same_length) sound.few;
-          pids = sound.pids;
-          tables = gone.tables;
-          pages = subst (λ x. Pages x (slice_get last)) (sym gone.entries) gone.pages;
-        };
+        sound = sound_by directories bytes two roles last _ _ sound same_bytes_length same_length refl gone.tables gone.entries gone.pages;
         in_use = gone.in_use;
         weighs = omega (arith, old, cost, fits, total, lazy);
         within = omega (arith, within, cost, total, same_length);

@@ -26,6 +26,17 @@ inside_by bytes roles f r a b is = let h = slice_get_within roles f r is in reco
 pub inside : (directories : List (Option ℕ)) (bytes : List ℕ) (roles : List Role) (f : ℕ) (r : Role) → IsSound directories bytes roles → slice_get roles f ≡ Some r → Inside bytes f
 inside directories bytes roles f r s is = inside_by bytes roles f r s.size s.few is
 
+-- memory of the same size whose tables and pages agree with as many roles is sound
+pub sound_by : (directories : List (Option ℕ)) (bytes two : List ℕ) (roles roles' : List Role) (m2 : Frames) (E : Entries) → IsSound directories bytes roles → length two ≡ length bytes → length roles' ≡ length roles
+    → frame_bytes two ≡ m2 → Tables (directory_of directories) m2 (slice_get roles') → entries_in (directory_of directories) (frame_bytes two) ≡ E → Pages E (slice_get roles') → IsSound directories two roles'
+sound_by directories bytes two roles roles' m2 E sound long same is T entries P = record {
+  size = long ∙ sound.size ∙ ap (λ n. 4096 * n) (sym same);
+  few = subst (λ n. n ≤ 1048576) (sym same) sound.few;
+  pids = sound.pids;
+  tables = subst (λ x. Tables (directory_of directories) x (slice_get roles')) (sym is) T;
+  pages = subst (λ x. Pages x (slice_get roles')) (sym entries) P;
+}
+
 -- each process's page map is as the layer below asks
 pub page_map_by : (D : Directories) (bytes : List ℕ) (roles : List Role) (p d : ℕ) → length bytes ≡ 4096 * length roles → length roles ≤ 1048576 → Tables D (frame_bytes bytes) (slice_get roles) → D p ≡ Some d → IsPageMap bytes d
 page_map_by D bytes roles p d size few T live =
@@ -73,13 +84,8 @@ table_given directories bytes bytes' roles roles' p d s t sound live low high no
     (λ i. is i e.frame) ∙ linked-other D m R T p d s t live none free small low high e.frame
     (no_directory R e.frame d p holds (T.directory p d live)) (no_free R e.frame t holds free) in
     record {
-      sound = record {
-        size = long ∙ sound.size ∙ ap (λ n. 4096 * n) (sym same_length);
-        few = subst (λ n. n ≤ 1048576) (sym same_length) sound.few;
-        pids = sound.pids;
-        tables = subst (λ x. Tables D x R') (sym is) (tables-linked D m R T p d s t live none free small low high R' own others);
-        pages = subst (λ x. Pages x R') (sym E) (pages-role (entries_in D m) R R' t sound.pages (λ h. cc) (λ c h. cc) (λ c h. cc) others);
-      };
+      sound = sound_by directories bytes bytes' roles roles' _ _ sound long same_length is (tables-linked D m R T p d s t live none free small low high R' own others)
+          E (pages-role (entries_in D m) R R' t sound.pages (λ h. cc) (λ c h. cc) (λ c h. cc) others);
       entries = E;
       spaces = ap (λ x. spaces_of x (frame_bytes bytes')) E ∙ same_bytes (entries_in D m) m (frame_bytes bytes') page_kept;
       table = (t, ap (λ x. table_in D x p s) is ∙ linked-own D m R T p d s t live none free small low high);
@@ -146,7 +152,7 @@ lazy_rules write = record { frame = λ h. cc; zero = λ h. refl; clean = λ h. r
 
 -- memory and roles that are ready for a new entry at a slot that has none
 pub record IsReady (directories : List (Option ℕ)) (bytes : List ℕ) (roles : List Role) (d page : ℕ) (slot : Slot) (e : PageEntry) (one : List ℕ) (roles' : List Role) : Type 0 where
-  pub size : length one ≡ 4096 * length roles'
+  pub size : length one ≡ length bytes
   pub length : length roles' ≡ length roles
   pub small : e.frame < 2 ^ 20
   pub tables : Tables (directory_of directories) (frame_bytes one) (slice_get roles')
@@ -197,13 +203,8 @@ entry_added directories bytes one two roles roles' p d page t e sound live low h
     ap (λ x. table_in D x q r) is ∙ tables_kept D m1 R' T p d page t (entry_word e) live there1 lt q r ∙ ready.linked q r in
     record {
       slot = record {
-        sound = record {
-          size = long_two ∙ ready.size;
-          few = subst (λ n. n ≤ 1048576) (sym ready.length) sound.few;
-          pids = sound.pids;
-          tables = subst (λ x. Tables D x R') (sym is) (tables-entry D m1 R' T p d page t (entry_word e) live there1 lt (inr (entry_word-names e ready.small ready.rules)));
-          pages = subst (λ x. Pages x R') (sym E2) ready.pages;
-        };
+        sound = sound_by directories bytes two roles roles' _ _ sound (long_two ∙ ready.size) ready.length is
+            (tables-entry D m1 R' T p d page t (entry_word e) live there1 lt (inr (entry_word-names e ready.small ready.rules))) E2 ready.pages;
         cost = (λ i. total_cost directories (spaces_of (E2 i) (frame_bytes two))) ∙ total-entry directories E m (frame_bytes two) slot e (cell_of E m slot e) d few live none;
         weight = ap (λ x. frames_weight roles' + lazy_count x) E2 ∙ ready.weight;
         length = ready.length;
@@ -233,7 +234,7 @@ page_added directories bytes two roles p d page t write sound live low high unma
     let more = lazy-more E slot e none refl in
     let zero_role = sound.tables.zero_role in
     let added = entry_added directories bytes bytes two roles roles p d page t e sound live low high none there (record {
-      size = sound.size;
+      size = refl;
       length = refl;
       small = omega arith;
       tables = sound.tables;

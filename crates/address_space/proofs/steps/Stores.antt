@@ -6,10 +6,10 @@ use Prelude.{is_some, slice_get, slice_set, if◌then◌else◌, splice, option_
 use Prelude.{byte_count, Size, is_present, frame_number, IsKernelTableWord, frame_bytes, word_in, with_word, with_frame}
 use Prelude.{Role, Table, Page, PageEntry, Frames, dir_word, table_of, word_entry, entry_from, entry_at, with_entry}
 use Prelude.{entry_word, IsKernelEntry, entry_word-names, entry_word-lt, entry_word-present, word_entry-entry_word}
-use Prelude.{same, Slot, Spaces, Cell, cell_or_fresh, write_at, bytes_of, stored}
+use Prelude.{change_each, collect, put_some, same, Slot, Spaces, Cell, cell_or_fresh, write_at, bytes_of, stored}
 use Prelude.{protected, at_page, Entries, holders_of, cell_of, spaces_of, Directories, Roles, directory_of, table_in}
 use Prelude.{entry_in, entries_in, spaces_in, total_cost, Tables, Pages, HoldsPage, IsSound, InUseAt, Names, Inside}
-use Prelude.{InUse, ne_eqb}
+use Prelude.{InUse, ne_eqb, none_goes}
 use Rattle.std.proofs.Common.{append_assoc}
 use Rattle.byteorder.specs.Endian.{little_bytes}
 use Rattle.phys_memory.proofs.Frames.{with_frame-other, frames-with_word_at, frames-with_byte}
@@ -22,8 +22,8 @@ use Rattle.address_space.proofs.entries.EntrySteps.{Loose, get-entries_in, entri
 use Rattle.address_space.proofs.frames.FrameSteps.{loose-entry, loose-entries, loose-tables, tables-loose, use_loose}
 use Rattle.address_space.proofs.frames.PageSteps.{same_bytes, pages-same, no_table, lazy-same}
 use Rattle.address_space.proofs.entries.Refinement.{insert_there, store_refines, flags_refine, cell_at}
-use Rattle.address_space.proofs.steps.Steps.{inside, holds_inside, live_small, page_loose, table_by_word}
-use Rattle.address_space.proofs.entries.Staying.{places_put}
+use Rattle.address_space.proofs.steps.Steps.{inside, holds_inside, live_small, page_loose, table_by_word, sound_by}
+use Rattle.address_space.proofs.entries.Staying.{stay_same, stay_then, stay_put, places_by, places_put}
 use Rattle.page_words.specs.FiniteMap as map
 
 -- ---- Bytes
@@ -130,13 +130,7 @@ entry_set directories bytes two roles p d page e e' sound live low high is_entry
     let page_kept : (q : Slot) (x : PageEntry) → map.get (map.insert E slot e') q ≡ Some x → m2 x.frame ≡ m x.frame = λ q x was.
     with_frame-other m t x.frame _ (no_table R x.frame t p (slot_number page) (P2.pages q x was) role_t) in
     record {
-      sound = record {
-        size = long_two ∙ sound.size;
-        few = sound.few;
-        pids = sound.pids;
-        tables = subst (λ x. Tables D x R) (sym is) (tables-entry D m R T p d page t (entry_word e') live f.there (entry_word-lt e' small) (inr (entry_word-names e' small rules)));
-        pages = subst (λ x. Pages x R) (sym E2) P2;
-      };
+      sound = sound_by directories bytes two roles roles _ _ sound long_two refl is (tables-entry D m R T p d page t (entry_word e') live f.there (entry_word-lt e' small) (inr (entry_word-names e' small rules))) E2 P2;
       named = there;
       entries = E2;
       spaces = (λ i. spaces_of (E2 i) (is i)) ∙ same_bytes (map.insert E slot e') m m2 page_kept;
@@ -183,13 +177,7 @@ frame_written directories bytes one roles f new sound loose long_new is long_one
     let T : Tables D m R = sound.tables in
     let E1 : entries_in D (frame_bytes one) ≡ entries_in D m = ap (entries_in D) is ∙ loose-entries D m R T f new loose in
     record {
-      sound = record {
-        size = long_one ∙ sound.size;
-        few = sound.few;
-        pids = sound.pids;
-        tables = subst (λ x. Tables D x R) (sym is) (tables-loose D m R T f new loose long_new);
-        pages = subst (λ x. Pages x R) (sym E1) sound.pages;
-      };
+      sound = sound_by directories bytes one roles roles _ _ sound long_one refl is (tables-loose D m R T f new loose long_new) E1 sound.pages;
       entries = E1;
       entry = λ p d page live.
           ap (λ x. entry_at x d page) is

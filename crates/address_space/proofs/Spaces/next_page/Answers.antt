@@ -1,11 +1,21 @@
 use Rattle.address_space.proofs.Prelude.{◌≡◌, ◌≤◌, ◌<◌, ◌∙◌, ℕ, Bool, true, false, ap, sym, Option, Some, None}
-use Rattle.address_space.proofs.Prelude.{frame_bytes, is_mapped, at_page, View}
+use Rattle.address_space.proofs.Prelude.{frame_bytes, is_mapped, at_page, View, List, inl, inr, Role, user_cases}
+use Rattle.address_space.proofs.Prelude.{get-entries_user, get-entries_other, directory_of, spaces_in, IsSound}
 use Rattle.std.specs.Prelude.{is_some, IfSome, IfNone}
-use Rattle.address_space.proofs.steps.NextPages.{next_read}
 use Rattle.address_space.proofs.steps.Openings.{no_cell}
-use Rattle.address_space.proofs.steps.Steps.{page_map_of}
+use Rattle.address_space.proofs.steps.Steps.{page_map_of, live_small}
+use Rattle.address_space.proofs.entries.Readings.{mapped_read}
+use Rattle.address_space.proofs.steps.Departures.{no_cell_outside}
 use Rattle.page_words.specs.FiniteMap as map
 use Rattle.address_space.proofs.Spaces.next_page.Goals as goal
+
+-- a process has the pages mapped that its directory maps
+next_read : (directories : List (Option ℕ)) (bytes : List ℕ) (roles : List Role) (p d page : ℕ) → IsSound directories bytes roles → directory_of directories p ≡ Some d
+    → map.contains_key (spaces_in directories bytes) (at_page p page) ≡ is_mapped (frame_bytes bytes) d page
+next_read directories bytes roles p d page sound live = elim (user_cases page) [
+  | inl user ↦ mapped_read directories bytes p d page live (live_small directories p d sound.pids live) user.0 user.1 ∙ sym (ap is_some (get-entries_user (frame_bytes bytes) d page user))
+  | inr other ↦ ap is_some (no_cell_outside directories bytes roles p page sound other) ∙ sym (ap is_some (get-entries_other (frame_bytes bytes) d page other))
+]
 
 pub returns-in_default-clause-none : goal.returns-in_default-clause-none
 returns-in_default-clause-none c = λ other from.
