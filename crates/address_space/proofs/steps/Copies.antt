@@ -1,35 +1,35 @@
 -- What a copy of a page leaves, and then a copy of all pages of a process.
 use Rattle.address_space.proofs.Prelude
 use Rattle.address_space.proofs.Prelude.{names}
-use Prelude.{◌≡◌, ◌≢◌, ℕ, ◌+◌, ◌*◌, ◌^◌, ◌<◌, ◌≤◌, true, false, cond, List, length, refl, ap, sym, ◌∙◌, subst, arith}
+use Prelude.{◌≡◌, ◌≢◌, ℕ, ◌+◌, ◌<◌, ◌≤◌, true, false, cond, List, length, refl, ap, sym, ◌∙◌, subst, arith}
 use Prelude.{inl, inr, Option, Some, None, length-set, unwrap_or, ◌⊎◌, is_some, slice_get, ◌==◌, if◌then◌else◌}
 use Prelude.{option_and_then, option_map, slot_number, IsUserPage, frame_number, Map, get-insert, same_itself, same_map}
 use Prelude.{same_apart, some_value, frame_bytes, with_frame, with_frame_bytes, with_frame-same, with_frame-other}
-use Prelude.{length-frame, frames-with_frame_bytes, Role, Free, Table, Page, frames_weight, IsTaken, weight-taken}
-use Prelude.{PageEntry, Frames, dir_word, table_of, entry_at, with_entry, entry_word, is_lazy_entry, IsKernelEntry}
-use Prelude.{entry_word-names, entry_word-lt, entry_word-present, word_entry-entry_word, Slot, slot_order, Cell, Spaces}
+use Prelude.{length-frame, frames-with_frame_bytes, Role, Free, Page, IsTaken, weight-taken}
+use Prelude.{PageEntry, Frames, dir_word, table_of, entry_at, with_entry, is_lazy_entry}
+use Prelude.{Slot, slot_order, Cell, Spaces}
 use Prelude.{cell_or_fresh, copy_of, copied, copied_at, cost, cost_of, fresh, pages_of, regions_of, at_page, Entries}
-use Prelude.{group_of, lazy_count, cell_of, spaces_of, Directories, Roles, directory_of, table_in, entry_in, entries_in}
-use Prelude.{spaces_in, live_cost, total_cost, Tables, Pages, IsSound, IsSpaces, InUseAt, TableGiven, IsEmptySpace}
+use Prelude.{group_of, spaces_of, Directories, Roles, directory_of, table_in, entry_in, entries_in}
+use Prelude.{spaces_in, live_cost, total_cost, Tables, IsSound, IsSpaces, InUseAt, TableGiven, IsEmptySpace}
 use Prelude.{SlotCopied, PageCopied, CopiedBelow, PagesCopied, cases_eq, cases_lt, ne_eqb, eq-eqb, nat_eq_equiv}
 use Prelude.{none_goes}
 use Rattle.address_space.proofs.costs.Copied.{get-copied}
 use Rattle.address_space.proofs.costs.Costed.{Room, mapped}
 use Rattle.address_space.proofs.costs.Costs.{same_pages}
-use Rattle.address_space.proofs.costs.CostSteps.{total-entry, total-insert, sum_one}
+use Rattle.address_space.proofs.costs.CostSteps.{total-insert, sum_one}
 use Rattle.address_space.proofs.costs.Sizes.{cost-within}
-use Rattle.address_space.proofs.entries.EntrySteps.{Loose, get-entries_in, entries-insert, tables-entry, tables_kept, use_own, use_kept}
+use Rattle.address_space.proofs.entries.EntrySteps.{Loose, get-entries_in}
 use Rattle.address_space.proofs.entries.Refinement.{get-spaces_of, lone_refines, alone_lazy, alone_real, cell_at}
 use Rattle.address_space.proofs.entries.Readings.{mapped_read}
 use Rattle.address_space.proofs.entries.UserSlots.{in_user_slots}
 use Rattle.address_space.proofs.frames.FrameSteps.{loose-tables, loose-entries, tables-loose, tables-role, use_loose}
-use Rattle.address_space.proofs.frames.PageSteps.{same_bytes, pages-fresh, pages-lazy, lazy-more, lazy-real, no_free, no_table, unused}
-use Rattle.address_space.proofs.steps.Steps.{IsReady, entry_added, inside, live_small, none_before, table_by_word, role_own, role_other, free_loose, page_loose, holds_inside, MapStays, map_kept}
+use Rattle.address_space.proofs.frames.PageSteps.{same_bytes, pages-fresh, pages-lazy, lazy-more, lazy-real, no_free, unused}
+use Rattle.address_space.proofs.steps.Steps.{IsReady, entry_added, inside, live_small, none_before, role_own, role_other, free_loose, page_loose, holds_inside, MapStays, map_kept}
 use Rattle.address_space.proofs.steps.Stores.{get_user, entry_rules}
 use Rattle.address_space.proofs.steps.Departures.{no_cell_outside, no_cell_unmapped}
 use Rattle.address_space.proofs.steps.Openings.{empty_cost}
 use Rattle.address_space.proofs.standing.Standing.{same_entry, read_entry}
-use Rattle.address_space.proofs.entries.Staying.{stay_same, stay_then, stay_new, places_by, places_then}
+use Rattle.address_space.proofs.entries.Staying.{stay_same, places_by, places_then}
 use Rattle.page_words.specs.FiniteMap as map
 use Rattle.page_words.specs.FiniteSet as set
 

@@ -2,7 +2,7 @@
 use Rattle.address_space.proofs.Prelude
 use Rattle.address_space.proofs.Prelude.{EntriesStay}
 use Rattle.address_space.proofs.steps.Steps.{sound_by}
-use Prelude.{◌≡◌, ◌≢◌, ℕ, ◌+◌, ◌*◌, ◌^◌, ◌<◌, ◌≤◌, true, false, List, length, replicate, refl, ap, sym, ◌∙◌, subst}
+use Prelude.{◌≡◌, ◌≢◌, ℕ, ◌+◌, ◌^◌, ◌<◌, ◌≤◌, true, false, List, length, replicate, refl, ap, sym, ◌∙◌, subst}
 use Prelude.{arith, inr, Option, Some, None, length-set, slice_get, option_and_then, length-replicate, slot_number}
 use Prelude.{frame_number, frame_bytes, with_frame, with_frame-same, with_frame-other, Role, Reserved, Free, Table}
 use Prelude.{Page, free_frames, frames_weight, IsTaken, weight-taken, PageEntry, Frames, dir_word, table_of, entry_at}
@@ -17,7 +17,7 @@ use Rattle.address_space.proofs.frames.PageSteps.{same_bytes, pages-more, unused
 use Rattle.address_space.proofs.entries.Refinement.{fill_refines}
 use Rattle.address_space.proofs.steps.Steps.{inside, live_small, table_by_word, role_own, role_other, free_loose, page_loose}
 use Rattle.address_space.proofs.steps.Stores.{found, get_user, entry_rules, frame_written}
-use Rattle.address_space.proofs.entries.Staying.{stay_same, stay_then, stay_filled, places_by}
+use Rattle.address_space.proofs.entries.Staying.{stay_filled, places_by}
 use Rattle.page_words.specs.FiniteMap as map
 use Rattle.page_words.specs.FiniteSet as set
 

@@ -2,7 +2,7 @@
 use Rattle.address_space.proofs.Prelude
 use Rattle.address_space.proofs.steps.Steps.{sound_by}
 use Rattle.address_space.proofs.Prelude.{InUse}
-use Prelude.{◌≡◌, ◌≢◌, ℕ, ◌+◌, ◌*◌, ◌<◌, ◌≤◌, Bool, true, false, List, length, refl, ap, sym, ◌∙◌, subst, arith, inl}
+use Prelude.{◌≡◌, ◌≢◌, ℕ, ◌+◌, ◌<◌, ◌≤◌, Bool, true, false, List, length, refl, ap, sym, ◌∙◌, subst, arith, inl}
 use Prelude.{inr, Option, Some, None, length-set, ◌⊎◌, slice_get, slice_set, if◌then◌else◌, nat_lt, ◌-◌}
 use Prelude.{option_and_then, cases_eq, nat_tests, slot_number, is_present, frame_number, frame_bytes, word_in}
 use Prelude.{with_frame-other, Role, Reserved, Free, Table, Page, frames_weight, weight, released, IsInUse}

@@ -7,11 +7,10 @@ use Rattle.address_space.proofs.Prelude.{entry_at, with_entry, Slot, at_page, fr
 use Rattle.address_space.proofs.Prelude.{directory_of, table_in, entries_in, spaces_in, IsSound, IsSpaces, Names}
 use Rattle.address_space.proofs.Prelude.{Inside, IsCounted, AreCountedSpaces, KeepsCounts, AlwaysMapsAlike, MapsOneMore}
 use Rattle.address_space.proofs.Prelude.{region_pages, pages_under, table_need, TableGiven, SlotAdded, PageAdded}
-use Rattle.address_space.proofs.Prelude.{SlotJoined, SlotCopied, PageCopied, ◌≢◌, true, length-set, with_frame-other}
-use Rattle.address_space.proofs.Prelude.{Table, frames_weight, weight-set, entry_word, IsKernelEntry, entry_word-names}
-use Rattle.address_space.proofs.Prelude.{entry_word-lt, entry_word-present, word_entry-entry_word, change_each, collect}
-use Rattle.address_space.proofs.Prelude.{put_some, same, joined, Entries, lazy_count, cell_of, spaces_of, Directories}
-use Rattle.address_space.proofs.Prelude.{Roles, total_cost, Tables, Pages, InUseAt, some_value, ne_eqb, none_goes}
+use Rattle.address_space.proofs.Prelude.{SlotJoined, SlotCopied, PageCopied, ◌≢◌, true, length-set}
+use Rattle.address_space.proofs.Prelude.{frames_weight, weight-set}
+use Rattle.address_space.proofs.Prelude.{joined, Entries, spaces_of}
+use Rattle.address_space.proofs.Prelude.{Roles, Tables, some_value, ne_eqb}
 use Rattle.address_space.specs.Finds.{TableReady, CountedUp, EntryCopied}
 use Rattle.address_space.proofs.costs.Costed.{Room, room_for_table, room_for_page, mapped}
 use Rattle.address_space.proofs.steps.CountSteps.{counted_roles, table_counted, table_count, count_there, count_fits}
@@ -24,12 +23,9 @@ use Rattle.address_space.proofs.frames.FewHolders.{count_few}
 use Rattle.address_space.proofs.costs.Totals.{key-joined}
 use Rattle.address_space.proofs.steps.Copies.{copied_entry, lazy_copied, real_copied, frame_copied, entry_stays}
 use Rattle.address_space.proofs.steps.Copies.{page_copied}
-use Rattle.address_space.proofs.costs.CostSteps.{total-entry}
-use Rattle.address_space.proofs.entries.EntrySteps.{entries-insert, tables-entry, tables_kept, use_own, use_kept}
 use Rattle.address_space.proofs.frames.FrameSteps.{tables-role}
-use Rattle.address_space.proofs.frames.PageSteps.{same_bytes, pages-join, no_table, lazy-real}
+use Rattle.address_space.proofs.frames.PageSteps.{same_bytes, pages-join, lazy-real}
 use Rattle.address_space.proofs.entries.Refinement.{get-spaces_of, join_refines}
-use Rattle.address_space.proofs.entries.Staying.{stay_same, stay_then, stay_new, places_by}
 use Rattle.page_words.specs.FiniteMap as map
 
 -- ---- What a slot that joins a group leaves.
