@@ -28,19 +28,20 @@ use Rattle.kernel_calls.proofs.MixedRuns.{among_read, read_with, serves_call, on
 use Rattle.kernel_calls.proofs.Runs.{kept-next}
 use Rattle.shootdowns.specs.Windows.{only_takes, Begins, Moment, settled, under_way, IsStale, Step, begun, loaded, stored, ordered, usual, refilled, forgotten, told, Steps, none, first, state_of, Stands, AreInOrder, ShootdownsMakeEvents}
 use Rattle.shootdowns.proofs.Accesses.{frame_at, kept_answer, kept_next, kept_beside, kept_long}
+use Rattle.shootdowns.proofs.Alike.{Alike, with_state, FlagsGrow, flags_read, alike_same, alike_then, alike_filled, again}
 use Rattle.shootdowns.proofs.Filled.{fill, filled_state, get_filled, answer_filled, next_filled}
 use Rattle.shootdowns.proofs.Kept.{spared, sparing, reading, none_left, left_more, left_fewer}
 use Rattle.shootdowns.proofs.Rewritten.{is_fixed, rewritten, names_same, read_same}
-use Rattle.shootdowns.proofs.Taking.{pages_stand, names_stay, filled_first, filled_after, long_stays}
+use Rattle.shootdowns.proofs.Taking.{pages_stand, names_stay, filled_first, long_stays}
 
--- An event under way only takes away. The order's state, and that after the event, are those when it began, with the
--- bytes that memory has now; all that is kept was read then.
+-- An event under way only takes away. The order's state is that when it began but for bytes and flags, and its cells
+-- have the bytes that memory has now in their frames then. All that is kept was read then, with the flags of now.
 record Taken (v : View) (e : Event) (s : State) (w : View) (keeps : Processors) : Type 0 where
   before : IsCore v
   well : IsWellFormed s
-  read : AllAreRead v keeps
-  state : s ≡ filled_state (frame_at v) w.bytes v.state
-  after : w.state ≡ filled_state (frame_at v) w.bytes (next v.state e)
+  alike : Alike v.state s
+  read : AllAreRead (with_state v s) keeps
+  state : s ≡ filled_state (frame_at v) w.bytes s
   names : (slot : Slot) (word : ℕ) → page_word (memory_of w) slot ≡ Some word → frame_at v slot ≡ frame_number word
   pages : (f c : ℕ) → slice_get v.roles f ≡ Some (Page c) → (slice_get w.roles f ≡ Some Free) ⊎ ((d : ℕ) × (slice_get w.roles f ≡ Some (Page d)))
   long : length w.bytes ≡ length v.bytes
@@ -102,34 +103,37 @@ module _ (x : Ended) (e : Event) (r : Reply) (s : State) (w : View) (keeps : Pro
 
   one_loaded : (a : Event) (q : Reply) → IsLoaded (keeps i) w a q → IsOne (under_way x e r s w) (a ∷ []) (q ∷ []) (under_way x e r s w) keeps
   one_loaded a q l =
-      let served = serves_call v (keeps i) a.pid l.frames a.call (t.read i) l.through in
+      let served = serves_call (with_state v s) (keeps i) a.pid l.frames a.call (t.read i) l.through in
       is_event (under_way x e r s w) (under_way x e r s w) a q keeps
-      (l.found ∙ sym (kept_answer v t.before w.bytes l.frames a served) ∙ ap (λ (z : State). answer z a) (sym t.state))
-      (t.state ∙ ap (λ b. filled_state (frame_at v) b v.state) (sym (load_leaves l.frames w.bytes a.call l.load))
-      ∙ sym (kept_next v t.before w.bytes l.frames a served t.long) ∙ ap (λ (z : State). next z a) (sym t.state))
+      (l.found ∙ sym (kept_answer v t.before s t.alike t.well w.bytes l.frames a served) ∙ ap (λ (z : State). answer z a) (sym t.state))
+      (t.state ∙ ap (λ b. filled_state (frame_at v) b s) (sym (load_leaves l.frames w.bytes a.call l.load))
+      ∙ sym (kept_next v t.before s t.alike t.well w.bytes l.frames a served t.long) ∙ ap (λ (z : State). next z a) (sym t.state))
       good
 
   module _ (a : Event) (q : Reply) (bytes : List ℕ) (l : IsStale (keeps i) w a q bytes) where
-    served : ServesEvent v l.frames a
-    served = serves_call v (keeps i) a.pid l.frames a.call (t.read i) l.through
+    served : ServesEvent (with_state v s) l.frames a
+    served = serves_call (with_state v s) (keeps i) a.pid l.frames a.call (t.read i) l.through
 
     abbrev later : View
     later = record w { bytes = bytes; state = next (next s a) e }
 
     -- the order's state has the bytes that the store leaves
-    state_now : next s a ≡ filled_state (frame_at v) bytes v.state
+    state_now : next s a ≡ filled_state (frame_at v) bytes s
     state_now =
-        ap (λ (z : State). next z a) t.state ∙ kept_next v t.before w.bytes l.frames a served t.long
-        ∙ ap (λ b. filled_state (frame_at v) b v.state) (sym l.left)
+        ap (λ (z : State). next z a) t.state ∙ kept_next v t.before s t.alike t.well w.bytes l.frames a served t.long
+        ∙ ap (λ b. filled_state (frame_at v) b s) (sym l.left)
 
-    after_now : next (next s a) e ≡ filled_state (frame_at v) bytes (next v.state e)
-    after_now = ap (λ (z : State). next z e) state_now ∙ next_filled (frame_at v) bytes v.state e takes
+    after_now : next (next s a) e ≡ filled_state (frame_at v) bytes (next s e)
+    after_now = ap (λ (z : State). next z e) state_now ∙ next_filled (frame_at v) bytes s e takes
+
+    after_then : w.state ≡ filled_state (frame_at v) w.bytes (next s e)
+    after_then = good.stands.2 ∙ ap (λ (z : State). next z e) t.state ∙ next_filled (frame_at v) w.bytes s e takes
 
     long_now : length bytes ≡ length w.bytes
-    long_now = ap length l.left ∙ kept_long v t.before w.bytes l.frames a served
+    long_now = ap length l.left ∙ kept_long v t.before s t.alike t.well w.bytes l.frames a served
 
     fixed_now : (f : ℕ) (role : Role) → slice_get w.roles f ≡ Some role → is_fixed role ≡ true → frame_bytes bytes f ≡ frame_bytes w.bytes f
-    fixed_now f role is fixed = ap (λ b. frame_bytes b f) l.left ∙ kept_beside v t.before w.bytes l.frames a served f t.long (λ c page. by (t.pages f c page))
+    fixed_now f role is fixed = ap (λ b. frame_bytes b f) l.left ∙ kept_beside v t.before s t.alike t.well w.bytes l.frames a served f t.long (λ c page. by (t.pages f c page))
       where
         by : ((slice_get w.roles f ≡ Some Free) ⊎ ((d : ℕ) × (slice_get w.roles f ≡ Some (Page d)))) → ⊥
         by (inl free) =
@@ -144,16 +148,16 @@ module _ (x : Ended) (e : Event) (r : Reply) (s : State) (w : View) (keeps : Pro
             cc
 
     book_now : (next (next s a) e).book ≡ w.state.book
-    book_now = ap (λ (z : State). z.book) after_now ∙ sym (ap (λ (z : State). z.book) t.after)
+    book_now = ap (λ (z : State). z.book) after_now ∙ sym (ap (λ (z : State). z.book) after_then)
 
     well_now : IsWellFormed (next s a)
     well_now = (kept-next s a t.well).0
 
     cells_now : (slot : Slot) → map.get (next (next s a) e).spaces slot ≡ option_map (fill (frame_at v) bytes slot) (map.get w.state.spaces slot)
     cells_now slot =
-        ap (λ (z : State). map.get z.spaces slot) after_now ∙ get_filled (frame_at v) bytes (next v.state e).spaces slot
-        ∙ by (map.get (next v.state e).spaces slot)
-        ∙ ap (option_map (fill (frame_at v) bytes slot)) (sym (ap (λ (z : State). map.get z.spaces slot) t.after ∙ get_filled (frame_at v) w.bytes (next v.state e).spaces slot))
+        ap (λ (z : State). map.get z.spaces slot) after_now ∙ get_filled (frame_at v) bytes (next s e).spaces slot
+        ∙ by (map.get (next s e).spaces slot)
+        ∙ ap (option_map (fill (frame_at v) bytes slot)) (sym (ap (λ (z : State). map.get z.spaces slot) after_then ∙ get_filled (frame_at v) w.bytes (next s e).spaces slot))
       where
         by : (z : Option Cell) → option_map (fill (frame_at v) bytes slot) z ≡ option_map (fill (frame_at v) bytes slot) (option_map (fill (frame_at v) w.bytes slot) z)
         by None = refl
@@ -170,13 +174,22 @@ module _ (x : Ended) (e : Event) (r : Reply) (s : State) (w : View) (keeps : Pro
       read_now kept all.1,
     )
 
+    get_now : (slot : Slot) → map.get (next s a).spaces slot ≡ option_map (fill (frame_at v) bytes slot) (map.get s.spaces slot)
+    get_now slot = ap (λ (z : State). map.get z.spaces slot) state_now ∙ get_filled (frame_at v) bytes s.spaces slot
+
+    alike_now : Alike v.state (next s a)
+    alike_now = alike_then v.state s (next s a) t.alike (alike_filled s (next s a) (frame_at v) bytes (ap (λ (z : State). z.book) state_now) get_now)
+
+    flags_now : FlagsGrow s (next s a)
+    flags_now slot c at = (fill (frame_at v) bytes slot c, get_now slot ∙ ap (option_map (fill (frame_at v) bytes slot)) at, λ h. h, λ h. h)
+
     taken_now : Taken v e (next s a) later keeps
     taken_now = record {
       before = t.before;
       well = well_now;
-      read = t.read;
-      state = state_now;
-      after = after_now;
+      alike = alike_now;
+      read = λ j. flags_read v s (next s a) flags_now (keeps j) (t.read j);
+      state = again (frame_at v) bytes s (next s a) state_now;
       names = names_same w good.stands.0 bytes (next (next s a) e) (frame_at v) long_now fixed_now book_now (kept-next (next s a) e well_now).0 t.names cells_now;
       pages = t.pages;
       long = long_now ∙ t.long;
@@ -185,15 +198,14 @@ module _ (x : Ended) (e : Event) (r : Reply) (s : State) (w : View) (keeps : Pro
     one_stored : IsOne (under_way x e r s w) (a ∷ []) (q ∷ []) (under_way x e r (next s a) later) keeps
     one_stored =
         is_event (under_way x e r s w) (under_way x e r (next s a) later) a q keeps
-        (l.found ∙ sym (kept_answer v t.before w.bytes l.frames a served) ∙ ap (λ (z : State). answer z a) (sym t.state))
+        (l.found ∙ sym (kept_answer v t.before s t.alike t.well w.bytes l.frames a served) ∙ ap (λ (z : State). answer z a) (sym t.state))
         refl
         (record {
           stands = (
             core_now,
             λ j. read_now (left_by x (keeps j)) (good.stands.1 j),
             refl,
-            good.stands.3 ∙ ap (λ (z : State). answer z e) t.state ∙ answer_filled (frame_at v) w.bytes v.state e takes
-                ∙ sym (ap (λ (z : State). answer z e) state_now ∙ answer_filled (frame_at v) bytes v.state e takes),
+            good.stands.3 ∙ sym (ap (λ (z : State). answer z e) state_now ∙ answer_filled (frame_at v) bytes s e takes),
           );
           taken = λ _. (v, taken_now);
         })
@@ -208,17 +220,19 @@ fewer_kept (settled x w) keeps i left among good = record {
 fewer_kept (under_way x e r s w) keeps i left among good = record {
   stands = (good.stands.0, left_fewer x w keeps i left among good.stands.1, good.stands.2, good.stands.3);
   taken = λ takes.
-      let t = good.taken takes in
-      (t.0, record {
-        before = t.1.before;
-        well = t.1.well;
-        read = read_with t.0 keeps i left t.1.read (among_read t.0 left (keeps i) among (t.1.read i));
-        state = t.1.state;
-        after = t.1.after;
-        names = t.1.names;
-        pages = t.1.pages;
-        long = t.1.long;
-      });
+      let t = good.taken takes in (
+        t.0,
+        record {
+          before = t.1.before;
+          well = t.1.well;
+          alike = t.1.alike;
+          read = read_with (with_state t.0 s) keeps i left t.1.read (among_read (with_state t.0 s) left (keeps i) among (t.1.read i));
+          state = t.1.state;
+          names = t.1.names;
+          pages = t.1.pages;
+          long = t.1.long;
+        },
+      );
 }
 
 step : {m n : Moment} {keeps between : Processors} {es : List Event} {rs : List Reply} → Step m keeps es rs n between → Good m keeps
@@ -230,18 +244,18 @@ step (begun {v = v} {w = w} {keeps = keeps} {e = e} {r = r} b) good =
       stands = (b.carried.core, λ i. left_read (ended_by v e) v w (keeps i) b.carried.ends (read i), b.carried.state, b.carried.reply);
       taken = λ takes.
           let stand = pages_stand v w good.stands.0 b.carried.core e b.carried.state b.stay b.loose takes in (
-        v,
-        record {
-          before = good.stands.0;
-          well = good.stands.0.well_formed;
-          read = read;
-          state = filled_first v w good.stands.0 b.carried.core e takes b.carried.state b.stay stand;
-          after = filled_after v w good.stands.0 b.carried.core e takes b.carried.state b.stay stand;
-          names = names_stay v w good.stands.0 b.carried.core e takes b.carried.state b.stay stand;
-          pages = λ f c is. (stand.each f c is).1;
-          long = long_stays v w good.stands.0 b.carried.core e takes b.carried.state b.stay stand;
-        },
-      );
+            v,
+            record {
+              before = good.stands.0;
+              well = good.stands.0.well_formed;
+              alike = alike_same v.state;
+              read = read;
+              state = filled_first v w good.stands.0 b.carried.core e takes b.carried.state b.stay stand;
+              names = names_stay v w good.stands.0 b.carried.core e takes b.carried.state b.stay stand;
+              pages = λ f c is. (stand.each f c is).1;
+              long = long_stays v w good.stands.0 b.carried.core e takes b.carried.state b.stay stand;
+            },
+          );
     })
 step (loaded {x = x} {w = w} {s = s} {keeps = keeps} {e = e} {a = a} {r = r} {q = q} i takes l) good = one_loaded x e r s w keeps takes good i a q l
 step (stored {x = x} {w = w} {s = s} {keeps = keeps} {e = e} {a = a} {r = r} {q = q} {bytes = bytes} i takes l) good =

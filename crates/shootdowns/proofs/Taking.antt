@@ -36,13 +36,13 @@ use Rattle.kernel_calls.proofs.Decided.{next-stays, next-goes}
 use Rattle.kernel_calls.proofs.Runs.{kept-next}
 use Rattle.shootdowns.specs.Windows.{only_takes}
 use Rattle.shootdowns.proofs.Accesses.{frame_at, frame_is, word_mapped, way_at, lazy_zero}
-use Rattle.shootdowns.proofs.Filled.{fill, filled, filled_state, get_filled, next_filled, protects_mapped, completed}
+use Rattle.shootdowns.proofs.Filled.{fill, filled, filled_state, get_filled, protects_mapped, completed}
 
 -- a slot that is mapped afterwards was mapped before, and isn't gone
 abbrev Left : State → State → (Slot → ℕ → Bool) → Type 0
 Left s t gone = (slot : Slot) → is_some (map.get t.spaces slot) ≡ true → (is_some (map.get s.spaces slot) ≡ true) × ((f : ℕ) → gone slot f ≡ false)
 
-left_gone : (S : Spaces) (gone : Slot → Bool) (slot : Slot) → is_some (map.get (without S gone) slot) ≡ true
+pub left_gone : (S : Spaces) (gone : Slot → Bool) (slot : Slot) → is_some (map.get (without S gone) slot) ≡ true
     → (is_some (map.get S slot) ≡ true) × (gone slot ≡ false)
 left_gone S gone slot h = by (gone slot) refl (map.get S slot) (sym (ap is_some (get_gone S gone slot)) ∙ h)
   where
@@ -51,7 +51,7 @@ left_gone S gone slot h = by (gone slot) refl (map.get S slot) (sym (ap is_some 
     by false is None k = absurd (let e : false ≡ true = sym (ap (λ b. is_some (option_map (fewer gone) (cond (not b) None None))) is) ∙ k in cc)
     by false is (Some c) k = (refl, is)
 
-left_right : (S : Spaces) (at slot : Slot) (w : Bool) → is_some (map.get S at) ≡ true → is_some (map.get (protected S at w) slot) ≡ true
+pub left_right : (S : Spaces) (at slot : Slot) (w : Bool) → is_some (map.get S at) ≡ true → is_some (map.get (protected S at w) slot) ≡ true
     → is_some (map.get S slot) ≡ true
 left_right S at slot w there h = by (same_or_not slot_order slot at)
   where
@@ -109,7 +109,7 @@ by_loose : (v w : View) → LooseStay (memory_of v) (memory_of w) → PagesStand
 by_loose v w loose = record { each = λ f c is. loose.each f (inr (c, is)) }
 
 -- the bytes of a cell, by its word
-cell_bytes : (v : View) → IsCore v → (slot : Slot) (c : Cell) (word : ℕ) → map.get v.state.spaces slot ≡ Some c → page_word (memory_of v) slot ≡ Some word
+pub cell_bytes : (v : View) → IsCore v → (slot : Slot) (c : Cell) (word : ℕ) → map.get v.state.spaces slot ≡ Some c → page_word (memory_of v) slot ≡ Some word
     → c.bytes ≡ frame_bytes v.bytes (frame_number word)
 cell_bytes v core slot c word at is = by (page_word (memory_of v) slot) is (map.get v.state.spaces slot) at (core.image.memory.cells slot)
   where
@@ -163,7 +163,7 @@ none_gone s e page write is slot f =
     by false = refl
 
 -- a set that isn't empty has a member
-some_member : (s : Set slot_order) → 0 < set.len s → (slot : Slot) × (set.contains s slot ≡ true)
+pub some_member : (s : Set slot_order) → 0 < set.len s → (slot : Slot) × (set.contains s slot ≡ true)
 some_member s up = go s.entries up
   where
     go : (es : List (Slot × Unit {0})) → 0 < length es → (slot : Slot) × (is_some (find slot_order.cmp slot es) ≡ true)
@@ -192,8 +192,7 @@ by_protect v w before later e state stay page write is = record {
         let cell = some_value (map.get v.state.spaces slot) (mapped_word v before slot old.0 old.1) in
         let left = bytes_next v.state e page write is slot cell.0 cell.1 in
         let there : map.get w.state.spaces slot ≡ Some left.0 = ap (λ (t : State). map.get t.spaces slot) state ∙ left.1 in
-        let same : frame_number new.0 ≡ f = new.2 ∙ own.1 in
-        (
+        let same : frame_number new.0 ≡ f = new.2 ∙ own.1 in (
           ap (frame_bytes w.bytes) (sym same) ∙ sym (cell_bytes w later slot left.0 new.0 there new.1) ∙ left.2
               ∙ cell_bytes v before slot cell.0 old.0 cell.1 old.1 ∙ ap (frame_bytes v.bytes) own.1,
           inr (later.image.memory.sound.pages slot f (ap (option_and_then (own_frame 2)) new.1 ∙ own_is new.0 (real new.0 new.1 (is_lazy new.0) refl same) ∙ ap Some same)),
@@ -266,9 +265,6 @@ module _ (v w : View) (before : IsCore v) (later : IsCore w) (e : Event) (takes 
       by : (slot : Slot) (z : Option Cell) → map.get v.state.spaces slot ≡ z → map.get v.state.spaces slot ≡ option_map (fill (frame_at v) w.bytes slot) (map.get v.state.spaces slot)
       by slot None is = is ∙ sym (ap (option_map (fill (frame_at v) w.bytes slot)) is)
       by slot (Some c) is = is ∙ ap (λ l. Some (with_bytes c l)) (stands slot c is) ∙ sym (ap (option_map (fill (frame_at v) w.bytes slot)) is)
-
-  pub filled_after : w.state ≡ filled_state (frame_at v) w.bytes (next v.state e)
-  filled_after = state ∙ ap (λ (s : State). next s e) filled_first ∙ next_filled (frame_at v) w.bytes v.state e takes
 
   pub long_stays : length w.bytes ≡ length v.bytes
   long_stays =
