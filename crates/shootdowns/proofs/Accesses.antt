@@ -63,17 +63,17 @@ frame_at v slot = unwrap_or (option_map frame_number (page_word (memory_of v) sl
 pub frame_is : (v : View) (slot : Slot) (word : ℕ) → page_word (memory_of v) slot ≡ Some word → frame_at v slot ≡ frame_number word
 frame_is v slot word is = ap (λ (y : Option ℕ). unwrap_or (option_map frame_number y) 0) is
 
-goes_frameless : (x : Plan) → takes_no_frame x ≡ true → goes_on x ≡ true
+pub goes_frameless : (x : Plan) → takes_no_frame x ≡ true → goes_on x ≡ true
 goes_frameless (plan.Refused k) h = cc
 goes_frameless (plan.Fault f) h = cc
 goes_frameless (plan.Ready a b) h = refl
 
-told_planned : (x : Plan) (r : Reply) → completes (planned_or x r) ≡ true → planned_or x r ≡ r
+pub told_planned : (x : Plan) (r : Reply) → completes (planned_or x r) ≡ true → planned_or x r ≡ r
 told_planned (plan.Refused k) r h = cc
 told_planned (plan.Fault f) r h = cc
 told_planned (plan.Ready a b) r h = refl
 
-both : (a b : Bool) → (a && b) ≡ true → (a ≡ true) × (b ≡ true)
+pub both : (a b : Bool) → (a && b) ≡ true → (a ≡ true) × (b ≡ true)
 both true true h = (refl, refl)
 both true false h = cc
 both false b h = cc

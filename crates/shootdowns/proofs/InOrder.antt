@@ -1,22 +1,24 @@
 -- Steps of windows are events in an order.
 use Rattle.std.proofs.Common.{◌≡◌, ℕ, Bool, true, false, List, [], ◌∷◌, ◌++◌, length, refl, ap, sym, ◌∙◌, subst, inl, inr, Option, Some, None}
-use Rattle.std.specs.Prelude.{◌⊎◌, slice_get}
+use Rattle.std.specs.Prelude.{◌⊎◌, ◌*◌, is_some, slice_get}
 use Rattle.std.specs.Option.{option_map}
 use Rattle.page_words.specs.FiniteMap as map
+use Rattle.page_words.specs.FiniteSet as set
+use Rattle.page_words.proofs.MapLemmas.{same_map}
 use Rattle.page_words.specs.Words.{frame_number}
 use Rattle.phys_memory.specs.Bytes.{frame_bytes}
 use Rattle.alloc_table.specs.declared.Role.{Role}
 use Rattle.alloc_table.specs.declared.Role.TheVariants.{Free, Page}
 use Rattle.address_space.specs.Image.{page_word}
-use Rattle.address_space.specs.Spaces.{Slot, Cell}
+use Rattle.address_space.specs.Spaces.{Slot, Cell, Spaces, with_bytes}
 use Rattle.process_table.specs.Image.{memory_of}
 use Rattle.process_table.specs.State.{State}
 use Rattle.process_table.specs.View.{View}
 use Rattle.process_table.specs.WellFormed.{IsWellFormed}
 use Rattle.kernel_calls.specs.Kept.{ServesEvent, reply_kept, bytes_kept, IsLoad}
 use Rattle.kernel_calls.specs.Machine.{answer, answers, next, end_of}
-use Rattle.kernel_calls.specs.Processors.{IsCore, Processors, with_kept, all_left_by, AllAreRead, AreAmong, IsLoaded}
-use Rattle.kernel_calls.specs.Translations.{Kept, IsRead, AreRead, ended_by, is_invalidated, left_by}
+use Rattle.kernel_calls.specs.Processors.{IsCore, Processors, with_kept, all_left_by, AllAreRead, AreAmong, IsWalked, IsLoaded, IsMarked}
+use Rattle.kernel_calls.specs.Translations.{Kept, IsRead, AreRead, Ends, ended_by, is_invalidated, left_by}
 use Rattle.kernel_calls.specs.declared.calls.Call.{Call}
 use Rattle.kernel_calls.specs.declared.calls.Call.TheVariants as call
 use Rattle.kernel_calls.specs.declared.calls.Event.{Event}
@@ -26,12 +28,16 @@ use Rattle.kernel_calls.specs.declared.translations.Ended.TheVariants as end
 use Rattle.kernel_calls.proofs.Leaving.{left_read}
 use Rattle.kernel_calls.proofs.MixedRuns.{among_read, read_with, serves_call, one}
 use Rattle.kernel_calls.proofs.Runs.{kept-next}
-use Rattle.shootdowns.specs.Windows.{only_takes, Begins, Moment, settled, under_way, IsStale, Step, begun, loaded, stored, ordered, usual, refilled, forgotten, told, Steps, none, first, state_of, Stands, AreInOrder, ShootdownsMakeEvents}
+use Rattle.kernel_calls.proofs.WalkedReplies.{answered, lives}
+use Rattle.shootdowns.specs.Windows.{only_takes, Begins, Moment, settled, under_way, IsStale, LeavesFree, Step, begun, loaded, stored, walked, marked, ordered, usual, refilled, forgotten, told, Steps, none, first, state_of, Stands, AreInOrder, ShootdownsMakeEvents}
 use Rattle.shootdowns.proofs.Accesses.{frame_at, kept_answer, kept_next, kept_beside, kept_long}
 use Rattle.shootdowns.proofs.Alike.{Alike, with_state, FlagsGrow, flags_read, alike_same, alike_then, alike_filled, again}
 use Rattle.shootdowns.proofs.Filled.{fill, filled_state, get_filled, answer_filled, next_filled}
 use Rattle.shootdowns.proofs.Kept.{spared, sparing, reading, none_left, left_more, left_fewer}
+use Rattle.shootdowns.proofs.Onward.{names_onward, full_onward}
 use Rattle.shootdowns.proofs.Rewritten.{is_fixed, rewritten, names_same, read_same}
+use Rattle.shootdowns.proofs.Turned.{Grows, grows_same, keys_of, mapped_before, mapped_after, next_grows, next_book, answer_alike, turned}
+use Rattle.shootdowns.proofs.WalkedIn.{pages_in, done_in, done_after, same_answer, bytes_beside}
 use Rattle.shootdowns.proofs.Taking.{pages_stand, names_stay, filled_first, long_stays}
 
 -- An event under way only takes away. The order's state is that when it began but for bytes and flags, and its cells
@@ -210,6 +216,100 @@ module _ (x : Ended) (e : Event) (r : Reply) (s : State) (w : View) (keeps : Pro
           taken = λ _. (v, taken_now);
         })
 
+-- ---- An access by a walk, and a mark
+
+-- what is read after a step without end
+stay_read : (w u : View) → Ends end.Nothing w u → (kept : List Kept) → AreRead w kept → AreRead u kept
+stay_read w u ends kept all = subst (AreRead u) (none_left kept) (left_read end.Nothing w u kept ends all)
+
+-- what any such step leaves, where the order's state grows to another
+onward : (x : Ended) (e : Event) (r : Reply) (s t : State) (w u : View) (keeps : Processors) → only_takes e.call ≡ true → (v : View) → Taken v e s w keeps → IsCore w → IsCore u
+    → w.state ≡ next s e → u.state ≡ next t e → u.roles ≡ w.roles → Ends end.Nothing w u → LeavesFree w u → IsWellFormed t → t.book ≡ s.book → Grows s.spaces t.spaces
+    → ((slot : Slot) → map.contains_key u.state.spaces slot ≡ map.contains_key w.state.spaces slot)
+    → ((slot : Slot) (c d : Cell) → map.get s.spaces slot ≡ Some c → map.get t.spaces slot ≡ Some d → is_some (map.get w.state.spaces slot) ≡ false
+    → ((b : Slot) (k : Cell) → is_some (map.get w.state.spaces b) ≡ true → map.get s.spaces b ≡ Some k → set.contains k.holders slot ≡ false) → d.bytes ≡ c.bytes)
+    → Taken v e t u keeps
+onward x e r s t w u keeps takes v k core later state_w state_u roles ends free well book grows keys beside = record {
+  before = k.before;
+  well = well;
+  alike = alike;
+  read = λ j. flags_read v s t flags (keeps j) (k.read j);
+  state = ap (λ (S : Spaces). record t { spaces = S }) (same_map _ _ (λ slot. full slot (map.get t.spaces slot) refl ∙ sym (get_filled (frame_at v) u.bytes t.spaces slot)));
+  names = names_u;
+  pages = λ f c is. subst (λ (l : List Role). (slice_get l f ≡ Some Free) ⊎ ((d : ℕ) × (slice_get l f ≡ Some (Page d)))) (sym roles) (k.pages f c is);
+  long = later.image.memory.sound.size ∙ ap (λ (l : List Role). 4096 * length l) roles ∙ sym core.image.memory.sound.size ∙ k.long;
+}
+  where
+    names_u : (slot : Slot) (word : ℕ) → page_word (memory_of u) slot ≡ Some word → frame_at v slot ≡ frame_number word
+    names_u slot word is = let old = names_onward w u core later ends (λ q h. sym (keys q) ∙ h) slot word is in k.names slot old.0 old.1 ∙ old.2
+
+    alike : Alike v.state t
+    alike = alike_then v.state s t k.alike (record { book = book; cells = λ slot c at. (let d = grows.cells slot c at in (d.0, d.1, d.2)); back = grows.back })
+
+    flags : FlagsGrow s t
+    flags slot c at = let d = grows.cells slot c at in (d.0, d.1, d.3.0, d.3.1)
+
+    bytes : (slot : Slot) (d : Cell) → map.get t.spaces slot ≡ Some d → d.bytes ≡ frame_bytes u.bytes (frame_at v slot)
+    bytes = full_onward v k.before s t k.alike (alike_then v.state s t k.alike (record { book = book; cells = λ slot c at. (let d = grows.cells slot c at in (d.0, d.1, d.2)); back = grows.back }))
+        well e takes w u core later state_w state_u k.names
+        (λ slot word is. (let old = names_onward w u core later ends (λ q h. sym (keys q) ∙ h) slot word is in k.names slot old.0 old.1 ∙ old.2))
+        (λ slot. sym (keys slot)) k.pages free k.state beside
+
+    full : (slot : Slot) (z : Option Cell) → map.get t.spaces slot ≡ z → map.get t.spaces slot ≡ option_map (fill (frame_at v) u.bytes slot) (map.get t.spaces slot)
+    full slot None is = is ∙ sym (ap (option_map (fill (frame_at v) u.bytes slot)) is)
+    full slot (Some d) is = is ∙ ap (λ l. Some (with_bytes d l)) (bytes slot d is) ∙ sym (ap (option_map (fill (frame_at v) u.bytes slot)) is)
+
+one_walked : (x : Ended) (e : Event) (r : Reply) (s : State) (w u : View) (keeps : Processors) → only_takes e.call ≡ true → Good (under_way x e r s w) keeps
+    → (a : Event) (q : Reply) → IsWalked w a q u → LeavesFree w u → IsOne (under_way x e r s w) (a ∷ []) (q ∷ []) (under_way x e r (next s a) u) keeps
+one_walked x e r s w u keeps takes good a q k free =
+    let core = good.stands.0 in
+    let state = good.stands.2 in
+    let t = good.taken takes in
+    let pages = pages_in s t.1.well e takes w core state a k.directory k.live k.finds in
+    let done = done_in s t.1.well e takes w core state a k.directory k.live k.finds in
+    let later = done_after s t.1.well e takes w core state a k.directory k.live k.finds in
+    let mapped = mapped_before s e a.pid a.call pages in
+    let now : u.state ≡ next (next s a) e = k.left.state ∙ ap (λ (z : State). next z a) state ∙ turned s e a takes pages done later in
+    let grows = next_grows s a done mapped in
+    let book = next_book s a done mapped in
+    let keys : (slot : Slot) → map.contains_key u.state.spaces slot ≡ map.contains_key w.state.spaces slot = λ slot.
+    ap (λ (z : State). map.contains_key z.spaces slot) (k.left.state ∙ ap (λ (z : State). next z a) state)
+    ∙ keys_of (next s e).spaces (next (next s e) a).spaces (next_grows (next s e) a later (mapped_after s e a.pid a.call (next s e) refl pages)) slot
+    ∙ sym (ap (λ (z : State). map.contains_key z.spaces slot) state) in
+    is_event (under_way x e r s w) (under_way x e r (next s a) u) a q keeps
+    (k.found ∙ sym (answered w a k.directory core k.finds k.live) ∙ same_answer s t.1.well e takes w core state a k.directory k.live k.finds)
+    refl
+    (record {
+      stands = (
+        k.left.core,
+        λ j. stay_read w u k.left.ends (left_by x (keeps j)) (good.stands.1 j),
+        now,
+        good.stands.3 ∙ sym (answer_alike s (next s a) e takes book grows),
+      );
+      taken = λ _. (
+        t.0,
+        onward x e r s (next s a) w u keeps takes t.0 t.1 core k.left.core state now k.left.roles k.left.ends free (kept-next s a t.1.well).0 book grows keys
+            (bytes_beside s t.1.well e takes w core state a k.directory k.live k.finds),
+      );
+    })
+
+one_marked : (x : Ended) (e : Event) (r : Reply) (s : State) (w u : View) (keeps : Processors) → only_takes e.call ≡ true → Good (under_way x e r s w) keeps
+    → IsMarked w u → LeavesFree w u → IsOne (under_way x e r s w) [] [] (under_way x e r s u) keeps
+one_marked x e r s w u keeps takes good k free =
+    let core = good.stands.0 in
+    let t = good.taken takes in
+    let left = k.left (lives w core k.pid k.directory k.live) in
+    is_none (under_way x e r s w) (under_way x e r s u) keeps refl
+    (record {
+      stands = (left.core, λ j. stay_read w u left.ends (left_by x (keeps j)) (good.stands.1 j), left.state ∙ good.stands.2, good.stands.3);
+      taken = λ _. (
+        t.0,
+        onward x e r s s w u keeps takes t.0 t.1 core left.core good.stands.2 (left.state ∙ good.stands.2) left.roles left.ends free t.1.well refl (grows_same s.spaces)
+            (λ slot. ap (λ (z : State). map.contains_key z.spaces slot) left.state)
+            (λ slot c d at now gone out. (let e : Some d ≡ Some c = sym now ∙ at in let q : d ≡ c = cc in ap (λ (z : Cell). z.bytes) q)),
+      );
+    })
+
 -- ---- One step
 
 fewer_kept : (m : Moment) (keeps : Processors) (i : ℕ) (left : List Kept) → AreAmong left (keeps i) → Good m keeps → Good m (with_kept keeps i left)
@@ -260,6 +360,8 @@ step (begun {v = v} {w = w} {keeps = keeps} {e = e} {r = r} b) good =
 step (loaded {x = x} {w = w} {s = s} {keeps = keeps} {e = e} {a = a} {r = r} {q = q} i takes l) good = one_loaded x e r s w keeps takes good i a q l
 step (stored {x = x} {w = w} {s = s} {keeps = keeps} {e = e} {a = a} {r = r} {q = q} {bytes = bytes} i takes l) good =
     one_stored x e r s w keeps takes good i a q bytes l
+step (walked {x = x} {w = w} {u = u} {s = s} {keeps = keeps} {e = e} {a = a} {r = r} {q = q} takes k free) good = one_walked x e r s w u keeps takes good a q k free
+step (marked {x = x} {w = w} {u = u} {s = s} {keeps = keeps} {e = e} {r = r} takes k free) good = one_marked x e r s w u keeps takes good k free
 step (ordered {x = x} {w = w} {s = s} {keeps = keeps} {e = e} {r = r}) good =
     is_event (under_way x e r s w) (settled x w) e r keeps good.stands.3 good.stands.2
     (record { stands = (good.stands.0, good.stands.1); taken = tt })

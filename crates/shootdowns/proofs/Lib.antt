@@ -11,3 +11,4 @@ pub mod Swapped
 pub mod Taking
 pub mod Turned
 pub mod Untouched
+pub mod WalkedIn

@@ -319,7 +319,7 @@ pub record Spacely (s t : State) (p : ℕ) (c : Call) : Type 0 where
   same : t.spaces ≡ s.spaces → (after t p c).spaces ≡ (after s p c).spaces
   grows : Grows s.spaces (after s p c).spaces
 
-spacely : (s t : State) (p : ℕ) (c : Call) → Mapped s p c → Spacely s t p c
+pub spacely : (s t : State) (p : ℕ) (c : Call) → Mapped s p c → Spacely s t p c
 spacely s t p (call.Load addr size) h = record {
   rest = refl;
   same = λ is. ap (λ (S : Spaces). all_accessed (with_pages S p (touched addr size)) p (touched addr size)) is;
@@ -355,7 +355,7 @@ next_book s a done h = ap (λ (t : State). t.book) (next-goes s a done ∙ (spac
 
 -- ---- An event that only takes away
 
-keys_of : (S T : Spaces) → Grows S T → (slot : Slot) → map.contains_key T slot ≡ map.contains_key S slot
+pub keys_of : (S T : Spaces) → Grows S T → (slot : Slot) → map.contains_key T slot ≡ map.contains_key S slot
 keys_of S T grows slot = by (map.get S slot) refl (map.get T slot) refl
   where
     by : (z : Option Cell) → map.get S slot ≡ z → (y : Option Cell) → map.get T slot ≡ y → map.contains_key T slot ≡ map.contains_key S slot
@@ -391,7 +391,7 @@ answer_alike s t e h book grows =
     ∙ ap (λ (r : Reply). if is_live s e.pid then r else reply.Refused cause.NoProcess) (call_alike s t e.pid e.call h book (keys_of s.spaces t.spaces grows))
 
 -- the pages are mapped after it
-mapped_after : (s : State) (e : Event) (p : ℕ) (c : Call) (X : State) → X.spaces ≡ (next s e).spaces → Pages s e p c → Mapped X p c
+pub mapped_after : (s : State) (e : Event) (p : ℕ) (c : Call) (X : State) → X.spaces ≡ (next s e).spaces → Pages s e p c → Mapped X p c
 mapped_after s e p (call.Load addr size) X is h = each_page addr size (StaysMapped s e p false) (λ page. Has X.spaces (at_page p page)) (λ page k. (k.cell, ap (λ (S : Spaces). map.get S (at_page p page)) is ∙ k.there)) h
 mapped_after s e p (call.Store addr size value) X is h = each_page addr size (StaysMapped s e p true) (λ page. Has X.spaces (at_page p page)) (λ page k. (k.cell, ap (λ (S : Spaces). map.get S (at_page p page)) is ∙ k.there)) h
 mapped_after s e p (call.Map page write) X is h = absurd h

@@ -1,6 +1,8 @@
 -- Events whose end takes time: the core carries one out, and each processor goes on by what it keeps until it
 -- invalidates what was ended. Which events that is, in which order.
 use Rattle.std.specs.Prelude.{◌≡◌, ℕ, Bool, true, false, not, List, [], ◌∷◌, ◌++◌, Some, slice_get}
+use Rattle.phys_memory.specs.Bytes.{frame_bytes}
+use Rattle.alloc_table.specs.declared.Role.TheVariants.{Free}
 use Rattle.address_space.specs.Stays.{FramesStay, LooseStay}
 use Rattle.process_table.specs.Image.{memory_of}
 use Rattle.process_table.specs.State.{State}
@@ -9,7 +11,7 @@ use Rattle.kernel_calls.specs.Gone.{gone_by, gives_back}
 use Rattle.kernel_calls.specs.Kept.{reply_kept, bytes_kept, IsStore}
 use Rattle.kernel_calls.specs.Machine.{answer, answers, next, end_of}
 use Rattle.kernel_calls.specs.Processors as base
-use Rattle.kernel_calls.specs.Processors.{IsCore, Processors, with_kept, all_left_by, AllAreRead, AreAmong, LetCall, IsCarried, IsLoaded}
+use Rattle.kernel_calls.specs.Processors.{IsCore, Processors, with_kept, all_left_by, AllAreRead, AreAmong, LetCall, IsCarried, IsWalked, IsLoaded, IsMarked}
 use Rattle.kernel_calls.specs.Translations.{Kept, IsRead, ended_by, is_invalidated}
 use Rattle.kernel_calls.specs.declared.calls.Call.{Call}
 use Rattle.kernel_calls.specs.declared.calls.Call.TheVariants as call
@@ -51,6 +53,10 @@ pub record IsStale (kept : List Kept) (w : View) (a : Event) (q : Reply) (bytes 
   pub found : q ≡ reply_kept frames w.bytes a.call
   pub left : bytes ≡ bytes_kept frames w.bytes a.call
 
+-- no byte of a free frame is written
+abbrev pub LeavesFree : View → View → Type 0
+LeavesFree v w = (f : ℕ) → slice_get v.roles f ≡ Some Free → frame_bytes w.bytes f ≡ frame_bytes v.bytes f
+
 -- ---- Steps
 
 -- One step, with the events that come next in the order, and what is told or read. A window begins when the core
@@ -68,6 +74,12 @@ pub data Step : Moment → Processors → List Event → List Reply → Moment �
       → only_takes e.call ≡ true → IsStale (keeps i) w a q bytes
       → Step (under_way x e r s w) keeps (a ∷ []) (q ∷ [])
       (under_way x e r (next s a) (record w { bytes = bytes; state = next (next s a) e })) keeps
+  walked : {x : Ended} {w u : View} {s : State} {keeps : Processors} {e a : Event} {r q : Reply}
+      → only_takes e.call ≡ true → IsWalked w a q u → LeavesFree w u
+      → Step (under_way x e r s w) keeps (a ∷ []) (q ∷ []) (under_way x e r (next s a) u) keeps
+  marked : {x : Ended} {w u : View} {s : State} {keeps : Processors} {e : Event} {r : Reply}
+      → only_takes e.call ≡ true → IsMarked w u → LeavesFree w u
+      → Step (under_way x e r s w) keeps [] [] (under_way x e r s u) keeps
   ordered : {x : Ended} {w : View} {s : State} {keeps : Processors} {e : Event} {r : Reply}
       → Step (under_way x e r s w) keeps (e ∷ []) (r ∷ []) (settled x w) keeps
   usual : {x : Ended} {v w : View} {keeps : Processors} {es : List Event} {rs : List Reply}
