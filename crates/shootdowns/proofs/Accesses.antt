@@ -78,7 +78,7 @@ both true true h = (refl, refl)
 both true false h = cc
 both false b h = cc
 
-real_by : (b : Bool) → not b ≡ true → b ≡ false
+pub real_by : (b : Bool) → not b ≡ true → b ≡ false
 real_by false h = refl
 real_by true h = cc
 
@@ -90,6 +90,12 @@ word_mapped v core r d at = by (page_word (memory_of v) r) refl (map.get v.state
     by (Some word) is z k h = (word, is)
     by None is None k h = cc
     by None is (Some c) k h = absurd h
+
+-- in a table
+pub table_of_word : (v : View) (r : Slot) (word : ℕ) → page_word (memory_of v) r ≡ Some word → (t : ℕ) × (table_at (memory_of v) r.pid (slot_number r.page) ≡ Some t)
+table_of_word v r word is =
+    let table = from_then (λ t. present_word (memory_of v) t (word_of (memory_of v) t (index_number r.page))) (table_at (memory_of v) r.pid (slot_number r.page)) word is in
+    (table.0, table.1)
 
 -- and a way
 pub way_at : (v : View) (r : Slot) (word : ℕ) → page_word (memory_of v) r ≡ Some word → (d : ℕ) × (way_of (memory_of v) r ≡ Some (d, frame_number word))

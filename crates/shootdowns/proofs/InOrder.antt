@@ -1,15 +1,20 @@
 -- Steps of windows are events in an order.
-use Rattle.std.proofs.Common.{◌≡◌, ℕ, Bool, true, false, List, [], ◌∷◌, ◌++◌, length, refl, ap, sym, ◌∙◌, subst, inl, inr, Option, Some, None}
+use Rattle.std.proofs.Common.{◌≡◌, ◌≢◌, ℕ, ◌+◌, ◌<◌, arith, Bool, true, false, List, [], ◌∷◌, ◌++◌, length, refl, ap, sym, ◌∙◌, subst, inl, inr, Option, Some, None}
 use Rattle.std.specs.Prelude.{◌⊎◌, ◌*◌, is_some, slice_get}
 use Rattle.std.specs.Option.{option_map}
+use Rattle.std.proofs.lemmas.Option.{slice_get_within}
+use Rattle.page_words.specs.Addresses.{slot_number}
 use Rattle.page_words.specs.FiniteMap as map
 use Rattle.page_words.specs.FiniteSet as set
 use Rattle.page_words.proofs.MapLemmas.{same_map}
 use Rattle.page_words.specs.Words.{frame_number}
-use Rattle.phys_memory.specs.Bytes.{frame_bytes}
+use Rattle.phys_memory.specs.Bytes.{frame_bytes, word_at, word_place, with_word_in}
+use Rattle.phys_memory.proofs.Frames.{frames-with_word, with_frame-other}
 use Rattle.alloc_table.specs.declared.Role.{Role}
-use Rattle.alloc_table.specs.declared.Role.TheVariants.{Free, Page}
-use Rattle.address_space.specs.Image.{page_word}
+use Rattle.alloc_table.specs.declared.Role.TheVariants.{Free, Directory, Page}
+use Rattle.address_space.specs.ByWalk.{with_walked, walked_word}
+use Rattle.address_space.specs.Image.{directory_at, table_at, page_word}
+use Rattle.address_space.specs.View.{directory_of}
 use Rattle.address_space.specs.Spaces.{Slot, Cell, Spaces, with_bytes}
 use Rattle.process_table.specs.Image.{memory_of}
 use Rattle.process_table.specs.State.{State}
@@ -29,16 +34,17 @@ use Rattle.kernel_calls.proofs.Leaving.{left_read}
 use Rattle.kernel_calls.proofs.MixedRuns.{among_read, read_with, serves_call, one}
 use Rattle.kernel_calls.proofs.Runs.{kept-next}
 use Rattle.kernel_calls.proofs.WalkedReplies.{answered, lives}
-use Rattle.shootdowns.specs.Windows.{only_takes, Begins, Moment, settled, under_way, IsStale, LeavesFree, Step, begun, loaded, stored, walked, marked, ordered, usual, refilled, forgotten, told, Steps, none, first, state_of, Stands, AreInOrder, ShootdownsMakeEvents}
+use Rattle.shootdowns.specs.Windows.{only_takes, Begins, Moment, settled, under_way, IsStale, LeavesFree, Step, begun, loaded, stored, walked, marked, ordered, usual, refilled, forgotten, told, Steps, none, first, memory_in, state_of, Stands, AreInOrder, ShootdownsMakeEvents}
 use Rattle.shootdowns.proofs.Accesses.{frame_at, kept_answer, kept_next, kept_beside, kept_long}
 use Rattle.shootdowns.proofs.Alike.{Alike, with_state, FlagsGrow, flags_read, alike_same, alike_then, alike_filled, again}
 use Rattle.shootdowns.proofs.Filled.{fill, filled_state, get_filled, answer_filled, next_filled}
 use Rattle.shootdowns.proofs.Kept.{spared, sparing, reading, none_left, left_more, left_fewer}
-use Rattle.shootdowns.proofs.Onward.{names_onward, full_onward}
-use Rattle.shootdowns.proofs.Rewritten.{is_fixed, rewritten, names_same, read_same}
+use Rattle.shootdowns.proofs.Onward.{names_onward, tables_onward, full_onward}
+use Rattle.shootdowns.proofs.Refilled.{read_before}
+use Rattle.shootdowns.proofs.Rewritten.{is_fixed, rewritten, names_same, word_same, linked_same, read_same}
 use Rattle.shootdowns.proofs.Turned.{Grows, grows_same, keys_of, mapped_before, mapped_after, next_grows, next_book, answer_alike, turned}
 use Rattle.shootdowns.proofs.WalkedIn.{pages_in, done_in, done_after, same_answer, bytes_beside}
-use Rattle.shootdowns.proofs.Taking.{pages_stand, names_stay, filled_first, long_stays}
+use Rattle.shootdowns.proofs.Taking.{pages_stand, names_stay, homes_stay, tables_stay, filled_first, long_stays}
 
 -- An event under way only takes away. The order's state is that when it began but for bytes and flags, and its cells
 -- have the bytes that memory has now in their frames then. All that is kept was read then, with the flags of now.
@@ -49,6 +55,8 @@ record Taken (v : View) (e : Event) (s : State) (w : View) (keeps : Processors) 
   read : AllAreRead (with_state v s) keeps
   state : s ≡ filled_state (frame_at v) w.bytes s
   names : (slot : Slot) (word : ℕ) → page_word (memory_of w) slot ≡ Some word → frame_at v slot ≡ frame_number word
+  homes : (slot : Slot) (word d : ℕ) → page_word (memory_of w) slot ≡ Some word → directory_at (memory_of w) slot.pid ≡ Some d → directory_at (memory_of v) slot.pid ≡ Some d
+  tables : (p region t : ℕ) → table_at (memory_of w) p region ≡ Some t → table_at (memory_of v) p region ≡ Some t
   pages : (f c : ℕ) → slice_get v.roles f ≡ Some (Page c) → (slice_get w.roles f ≡ Some Free) ⊎ ((d : ℕ) × (slice_get w.roles f ≡ Some (Page d)))
   long : length w.bytes ≡ length v.bytes
 
@@ -197,6 +205,8 @@ module _ (x : Ended) (e : Event) (r : Reply) (s : State) (w : View) (keeps : Pro
       read = λ j. flags_read v s (next s a) flags_now (keeps j) (t.read j);
       state = again (frame_at v) bytes s (next s a) state_now;
       names = names_same w good.stands.0 bytes (next (next s a) e) (frame_at v) long_now fixed_now book_now (kept-next (next s a) e well_now).0 t.names cells_now;
+      homes = λ slot word d is live. t.homes slot word d (word_same w good.stands.0 bytes (next (next s a) e) (frame_at v) long_now fixed_now book_now (kept-next (next s a) e well_now).0 t.names cells_now slot word is) live;
+      tables = λ p region f is. t.tables p region f (linked_same w good.stands.0 bytes (next (next s a) e) (frame_at v) long_now fixed_now book_now (kept-next (next s a) e well_now).0 t.names cells_now p region f is);
       pages = t.pages;
       long = long_now ∙ t.long;
     }
@@ -222,20 +232,39 @@ module _ (x : Ended) (e : Event) (r : Reply) (s : State) (w : View) (keeps : Pro
 stay_read : (w u : View) → Ends end.Nothing w u → (kept : List Kept) → AreRead w kept → AreRead u kept
 stay_read w u ends kept all = subst (AreRead u) (none_left kept) (left_read end.Nothing w u kept ends all)
 
+-- a mark writes in a directory
+mark_leaves : (w : View) → IsCore w → (u : View) → (k : IsMarked w u) → u.bytes ≡ with_walked w.bytes k.directory k.page k.walked → LeavesFree w u
+mark_leaves w core u k is f free =
+    let role = (core.image.memory.sound.directories k.directory k.pid).1 k.live in
+    let within = slice_get_within w.roles k.directory (Directory k.pid) role in
+    let size = core.image.memory.sound.size in
+    let user = k.user in
+    let high = user.1 in
+    let apart : f ≢ k.directory = λ same. (
+    let n : ◌≡◌ {A = Option Role} (Some Free) (Some (Directory k.pid)) = sym free ∙ ap (slice_get w.roles) same ∙ role in
+    cc) in
+    ap (λ b. frame_bytes b f) is
+    ∙ ap (λ (m : ℕ → List ℕ). m f) (frames-with_word w.bytes k.directory (slot_number k.page) (walked_word k.walked (word_at w.bytes (word_place k.directory (slot_number k.page)))) (omega (arith, high)) (omega (arith, within, size)))
+    ∙ with_frame-other (frame_bytes w.bytes) k.directory f (with_word_in (frame_bytes w.bytes k.directory) (slot_number k.page) (walked_word k.walked (word_at w.bytes (word_place k.directory (slot_number k.page))))) apart
+
 -- what any such step leaves, where the order's state grows to another
 onward : (x : Ended) (e : Event) (r : Reply) (s t : State) (w u : View) (keeps : Processors) → only_takes e.call ≡ true → (v : View) → Taken v e s w keeps → IsCore w → IsCore u
-    → w.state ≡ next s e → u.state ≡ next t e → u.roles ≡ w.roles → Ends end.Nothing w u → LeavesFree w u → IsWellFormed t → t.book ≡ s.book → Grows s.spaces t.spaces
+    → w.state ≡ next s e → u.state ≡ next t e → u.directories ≡ w.directories → u.roles ≡ w.roles → Ends end.Nothing w u → LeavesFree w u → IsWellFormed t → t.book ≡ s.book → Grows s.spaces t.spaces
     → ((slot : Slot) → map.contains_key u.state.spaces slot ≡ map.contains_key w.state.spaces slot)
     → ((slot : Slot) (c d : Cell) → map.get s.spaces slot ≡ Some c → map.get t.spaces slot ≡ Some d → is_some (map.get w.state.spaces slot) ≡ false
     → ((b : Slot) (k : Cell) → is_some (map.get w.state.spaces b) ≡ true → map.get s.spaces b ≡ Some k → set.contains k.holders slot ≡ false) → d.bytes ≡ c.bytes)
     → Taken v e t u keeps
-onward x e r s t w u keeps takes v k core later state_w state_u roles ends free well book grows keys beside = record {
+onward x e r s t w u keeps takes v k core later state_w state_u dirs roles ends free well book grows keys beside = record {
   before = k.before;
   well = well;
   alike = alike;
   read = λ j. flags_read v s t flags (keeps j) (k.read j);
   state = ap (λ (S : Spaces). record t { spaces = S }) (same_map _ _ (λ slot. full slot (map.get t.spaces slot) refl ∙ sym (get_filled (frame_at v) u.bytes t.spaces slot)));
   names = names_u;
+  homes = λ slot word d is live.
+      let old = names_onward w u core later ends (λ q h. sym (keys q) ∙ h) slot word is in
+      k.homes slot old.0 d old.1 (ap (λ (l : List (Option ℕ)). directory_of l slot.pid) (sym dirs) ∙ live);
+  tables = λ p region f is. k.tables p region f (tables_onward w u core later ends (λ q h. sym (keys q) ∙ h) p region f is);
   pages = λ f c is. subst (λ (l : List Role). (slice_get l f ≡ Some Free) ⊎ ((d : ℕ) × (slice_get l f ≡ Some (Page d)))) (sym roles) (k.pages f c is);
   long = later.image.memory.sound.size ∙ ap (λ (l : List Role). 4096 * length l) roles ∙ sym core.image.memory.sound.size ∙ k.long;
 }
@@ -288,14 +317,14 @@ one_walked x e r s w u keeps takes good a q k free =
       );
       taken = λ _. (
         t.0,
-        onward x e r s (next s a) w u keeps takes t.0 t.1 core k.left.core state now k.left.roles k.left.ends free (kept-next s a t.1.well).0 book grows keys
+        onward x e r s (next s a) w u keeps takes t.0 t.1 core k.left.core state now k.left.directories k.left.roles k.left.ends free (kept-next s a t.1.well).0 book grows keys
             (bytes_beside s t.1.well e takes w core state a k.directory k.live k.finds),
       );
     })
 
 one_marked : (x : Ended) (e : Event) (r : Reply) (s : State) (w u : View) (keeps : Processors) → only_takes e.call ≡ true → Good (under_way x e r s w) keeps
-    → IsMarked w u → LeavesFree w u → IsOne (under_way x e r s w) [] [] (under_way x e r s u) keeps
-one_marked x e r s w u keeps takes good k free =
+    → IsMarked w u → IsOne (under_way x e r s w) [] [] (under_way x e r s u) keeps
+one_marked x e r s w u keeps takes good k =
     let core = good.stands.0 in
     let t = good.taken takes in
     let left = k.left (lives w core k.pid k.directory k.live) in
@@ -304,11 +333,38 @@ one_marked x e r s w u keeps takes good k free =
       stands = (left.core, λ j. stay_read w u left.ends (left_by x (keeps j)) (good.stands.1 j), left.state ∙ good.stands.2, good.stands.3);
       taken = λ _. (
         t.0,
-        onward x e r s s w u keeps takes t.0 t.1 core left.core good.stands.2 (left.state ∙ good.stands.2) left.roles left.ends free t.1.well refl (grows_same s.spaces)
+        onward x e r s s w u keeps takes t.0 t.1 core left.core good.stands.2 (left.state ∙ good.stands.2) left.directories left.roles left.ends (mark_leaves w core u k left.bytes) t.1.well refl (grows_same s.spaces)
             (λ slot. ap (λ (z : State). map.contains_key z.spaces slot) left.state)
             (λ slot c d at now gone out. (let e : Some d ≡ Some c = sym now ∙ at in let q : d ≡ c = cc in ap (λ (z : Cell). z.bytes) q)),
       );
     })
+
+-- a processor keeps one more
+more_kept : (m : Moment) (keeps : Processors) (i : ℕ) (k : Kept) → IsRead (memory_in m) k → Good m keeps → Good m (with_kept keeps i (k ∷ keeps i))
+more_kept (settled x w) keeps i k read good = record {
+  stands = (good.stands.0, left_more x w keeps i k read good.stands.1);
+  taken = tt;
+}
+more_kept (under_way x e r s w) keeps i k read good = record {
+  stands = (good.stands.0, left_more x w keeps i k read good.stands.1, good.stands.2, good.stands.3);
+  taken = λ takes.
+      let t = good.taken takes in (
+        t.0,
+        record {
+          before = t.1.before;
+          well = t.1.well;
+          alike = t.1.alike;
+          read = read_with (with_state t.0 s) keeps i (k ∷ keeps i) t.1.read
+              (read_before t.0 t.1.before s t.1.alike e takes w good.stands.0 good.stands.2 t.1.names t.1.homes t.1.tables k read, t.1.read i);
+          state = t.1.state;
+          names = t.1.names;
+          homes = t.1.homes;
+          tables = t.1.tables;
+          pages = t.1.pages;
+          long = t.1.long;
+        },
+      );
+}
 
 -- ---- One step
 
@@ -329,6 +385,8 @@ fewer_kept (under_way x e r s w) keeps i left among good = record {
           read = read_with (with_state t.0 s) keeps i left t.1.read (among_read (with_state t.0 s) left (keeps i) among (t.1.read i));
           state = t.1.state;
           names = t.1.names;
+          homes = t.1.homes;
+          tables = t.1.tables;
           pages = t.1.pages;
           long = t.1.long;
         },
@@ -352,6 +410,8 @@ step (begun {v = v} {w = w} {keeps = keeps} {e = e} {r = r} b) good =
               read = read;
               state = filled_first v w good.stands.0 b.carried.core e takes b.carried.state b.stay stand;
               names = names_stay v w good.stands.0 b.carried.core e takes b.carried.state b.stay stand;
+              homes = homes_stay v w good.stands.0 b.carried.core e takes b.carried.state b.stay stand;
+              tables = tables_stay v w good.stands.0 b.carried.core e takes b.carried.state b.stay stand;
               pages = λ f c is. (stand.each f c is).1;
               long = long_stays v w good.stands.0 b.carried.core e takes b.carried.state b.stay stand;
             },
@@ -361,16 +421,14 @@ step (loaded {x = x} {w = w} {s = s} {keeps = keeps} {e = e} {a = a} {r = r} {q 
 step (stored {x = x} {w = w} {s = s} {keeps = keeps} {e = e} {a = a} {r = r} {q = q} {bytes = bytes} i takes l) good =
     one_stored x e r s w keeps takes good i a q bytes l
 step (walked {x = x} {w = w} {u = u} {s = s} {keeps = keeps} {e = e} {a = a} {r = r} {q = q} takes k free) good = one_walked x e r s w u keeps takes good a q k free
-step (marked {x = x} {w = w} {u = u} {s = s} {keeps = keeps} {e = e} {r = r} takes k free) good = one_marked x e r s w u keeps takes good k free
+step (marked {x = x} {w = w} {u = u} {s = s} {keeps = keeps} {e = e} {r = r} takes k) good = one_marked x e r s w u keeps takes good k
 step (ordered {x = x} {w = w} {s = s} {keeps = keeps} {e = e} {r = r}) good =
     is_event (under_way x e r s w) (settled x w) e r keeps good.stands.3 good.stands.2
     (record { stands = (good.stands.0, good.stands.1); taken = tt })
 step (usual {x = x} {v = v} {w = w} {keeps = keeps} {es = es} {rs = rs} own) good =
     let now = one own good.stands.0 good.stands.1 in
     record { replies = now.replies; state = now.state; good = record { stands = (now.core, now.kept); taken = tt } }
-step (refilled {x = x} {v = v} {keeps = keeps} i k read) good =
-    is_none (settled x v) (settled x v) (with_kept keeps i (k ∷ keeps i)) refl
-    (record { stands = (good.stands.0, left_more x v keeps i k read good.stands.1); taken = tt })
+step (refilled {m = m} {keeps = keeps} i k read) good = is_none m m (with_kept keeps i (k ∷ keeps i)) refl (more_kept m keeps i k read good)
 step (forgotten {m = m} {keeps = keeps} i left among) good = is_none m m (with_kept keeps i left) refl (fewer_kept m keeps i left among good)
 step (told {x = x} {v = v} {keeps = keeps} not) good =
     is_none (settled x v) (settled end.Nothing v) keeps refl

@@ -5,6 +5,7 @@ pub mod InOrder
 pub mod Kept
 pub mod Onward
 pub mod Played
+pub mod Refilled
 pub mod Rewritten
 pub mod Stored
 pub mod Swapped

@@ -13,7 +13,7 @@ use Rattle.alloc_table.specs.declared.Role.{Role}
 use Rattle.alloc_table.specs.declared.Role.TheVariants.{Reserved, Free, Page}
 use Rattle.table_walk.specs.declared.Access.TheVariants.{Read}
 use Rattle.table_walk.specs.Walk.{walk_of}
-use Rattle.address_space.specs.Image.{directory_at, page_word, page_frame, is_lazy_at, SlotStands, CellStands, IsOneGroup}
+use Rattle.address_space.specs.Image.{directory_at, table_at, page_word, page_frame, is_lazy_at, SlotStands, CellStands, IsOneGroup}
 use Rattle.address_space.specs.ImageWords.{own_frame}
 use Rattle.address_space.specs.Spaces.{Slot, Cell, at_page, slot_at}
 use Rattle.address_space.specs.Stays.{way_of}
@@ -30,8 +30,9 @@ use Rattle.kernel_calls.specs.Processors.{IsCore}
 use Rattle.kernel_calls.specs.Translations.{Ends, WalkGives}
 use Rattle.kernel_calls.specs.declared.calls.Event.{Event}
 use Rattle.kernel_calls.specs.declared.translations.Ended.TheVariants as end
+use Rattle.kernel_calls.proofs.Linked.{tables_map}
 use Rattle.shootdowns.specs.Windows.{only_takes}
-use Rattle.shootdowns.proofs.Accesses.{frame_at, frame_is, word_mapped, way_at, lazy_zero}
+use Rattle.shootdowns.proofs.Accesses.{frame_at, frame_is, word_mapped, way_at, table_of_word, lazy_zero}
 use Rattle.shootdowns.proofs.Alike.{AlikeCell, Alike}
 use Rattle.shootdowns.proofs.Filled.{fill, filled_state, get_filled}
 use Rattle.shootdowns.proofs.Taking.{mapped_word, cell_bytes, some_member}
@@ -100,6 +101,21 @@ names_onward w x core later ends back slot word is =
         by : (z : Option Cell) → z ≡ Some c → WalkEndsBy w.bytes d a Read (is_lazy_at (memory_of w) (slot_at slot.pid a)) z → (f : ℕ) × (walk_of w.bytes d a Read ≡ Ok f)
         by None k h = cc
         by (Some q) k h = (h.frame, h.found)
+
+-- a table that is linked after a step without end was linked before it
+pub tables_onward : (w x : View) → IsCore w → IsCore x → Ends end.Nothing w x → ((slot : Slot) → is_some (map.get x.state.spaces slot) ≡ true → is_some (map.get w.state.spaces slot) ≡ true)
+    → (p region t : ℕ) → table_at (memory_of x) p region ≡ Some t → table_at (memory_of w) p region ≡ Some t
+tables_onward w x core later ends back p region t is =
+    let maps = tables_map x later.image p region t is in
+    let slot : Slot = at_page p maps.page in
+    let mapped = back slot maps.mapped in
+    let cell = some_value (map.get w.state.spaces slot) mapped in
+    let old = word_mapped w core slot cell.0 cell.1 in
+    let table = table_of_word w slot old.0 old.1 in
+    let now = ends.tables slot table.0 refl mapped table.1 in
+    let e : Some table.0 ≡ Some t = sym now ∙ ap (table_at (memory_of x) p) maps.inside ∙ is in
+    let same : table.0 ≡ t = cc in
+    sym (ap (table_at (memory_of w) p) maps.inside) ∙ table.1 ∙ ap Some same
 
 module _ (v : View) (before : IsCore v) (s t : State) (first : Alike v.state s) (second : Alike v.state t) (well : IsWellFormed t) (e : Event) (takes : only_takes e.call ≡ true)
     (w x : View) (core : IsCore w) (later : IsCore x) (state_w : w.state ≡ next s e) (state_x : x.state ≡ next t e)

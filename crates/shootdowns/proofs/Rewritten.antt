@@ -325,6 +325,12 @@ module _ (w : View) (core : IsCore w) (bytes : List ℕ) (t : State) (F : Slot �
   pub names_same : (slot : Slot) (word : ℕ) → page_word (memory_of x) slot ≡ Some word → F slot ≡ frame_number word
   names_same slot word is = names slot word (sym (page_same slot) ∙ is)
 
+  pub word_same : (slot : Slot) (word : ℕ) → page_word (memory_of x) slot ≡ Some word → page_word (memory_of w) slot ≡ Some word
+  word_same slot word is = sym (page_same slot) ∙ is
+
+  pub linked_same : (p s f : ℕ) → table_at (memory_of x) p s ≡ Some f → table_at (memory_of w) p s ≡ Some f
+  linked_same p s f is = sym (table_same p s) ∙ is
+
   -- ---- What is kept
 
   pub read_same : (k : Kept) → IsRead w k → IsRead x k

@@ -14,7 +14,7 @@ use Rattle.page_words.specs.Words.{frame_number, is_lazy}
 use Rattle.phys_memory.specs.Bytes.{frame_bytes}
 use Rattle.alloc_table.specs.declared.Role.{Role}
 use Rattle.alloc_table.specs.declared.Role.TheVariants.{Reserved, Free, Page}
-use Rattle.address_space.specs.Image.{directory_at, page_word, page_frame, SlotStands, CellStands}
+use Rattle.address_space.specs.Image.{directory_at, table_at, page_word, page_frame, SlotStands, CellStands}
 use Rattle.address_space.specs.ImageWords.{own_frame}
 use Rattle.address_space.specs.Spaces.{Slot, slot_order, Cell, Spaces, at_page, cell_or_fresh, fresh, with_bytes, without, protected, is_slot, is_of}
 use Rattle.address_space.specs.Stays.{way_of, FramesStay, LooseStay}
@@ -33,9 +33,10 @@ use Rattle.kernel_calls.specs.declared.calls.Call.TheVariants as call
 use Rattle.kernel_calls.specs.declared.calls.Event.{Event}
 use Rattle.kernel_calls.proofs.CommutingGone.{fewer, get_gone}
 use Rattle.kernel_calls.proofs.Decided.{next-stays, next-goes}
+use Rattle.kernel_calls.proofs.Linked.{tables_map}
 use Rattle.kernel_calls.proofs.Runs.{kept-next}
 use Rattle.shootdowns.specs.Windows.{only_takes}
-use Rattle.shootdowns.proofs.Accesses.{frame_at, frame_is, word_mapped, way_at, lazy_zero}
+use Rattle.shootdowns.proofs.Accesses.{frame_at, frame_is, word_mapped, way_at, table_of_word, lazy_zero}
 use Rattle.shootdowns.proofs.Filled.{fill, filled, filled_state, get_filled, protects_mapped, completed}
 
 -- a slot that is mapped afterwards was mapped before, and isn't gone
@@ -239,6 +240,34 @@ module _ (v w : View) (before : IsCore v) (later : IsCore w) (e : Event) (takes 
       let e : Some (frame_number word) ≡ Some (frame_number old.0) = sym (ap (option_map frame_number) is) ∙ now.names in
       let same : frame_number word ≡ frame_number old.0 = cc in
       frame_is v slot old.0 old.1 ∙ sym same
+
+  -- its process has the directory that it had
+  pub homes_stay : (slot : Slot) (word d : ℕ) → page_word (memory_of w) slot ≡ Some word → directory_at (memory_of w) slot.pid ≡ Some d → directory_at (memory_of v) slot.pid ≡ Some d
+  homes_stay slot word d is live =
+      let left = left_next v.state e takes slot (sym (ap (λ (t : State). is_some (map.get t.spaces slot)) state) ∙ mapped_word w later slot word is) in
+      let cell = some_value (map.get v.state.spaces slot) left.0 in
+      let old = word_mapped v before slot cell.0 cell.1 in
+      let way = way_at v slot old.0 old.1 in
+      let first = way_parts (memory_of v) slot way.0 (frame_number old.0) way.1 in
+      let now = way_parts (memory_of w) slot way.0 (frame_number old.0) (stay.ways slot way.0 (frame_number old.0) (left.1 (frame_number old.0)) way.1) in
+      let e : Some way.0 ≡ Some d = sym now.live ∙ live in
+      let same : way.0 ≡ d = cc in
+      first.live ∙ ap Some same
+
+  -- a table that is linked afterwards was linked before
+  pub tables_stay : (p region t : ℕ) → table_at (memory_of w) p region ≡ Some t → table_at (memory_of v) p region ≡ Some t
+  tables_stay p region t is =
+      let maps = tables_map w later.image p region t is in
+      let slot : Slot = at_page p maps.page in
+      let left = left_next v.state e takes slot (sym (ap (λ (t : State). is_some (map.get t.spaces slot)) state) ∙ maps.mapped) in
+      let cell = some_value (map.get v.state.spaces slot) left.0 in
+      let old = word_mapped v before slot cell.0 cell.1 in
+      let way = way_at v slot old.0 old.1 in
+      let table = table_of_word v slot old.0 old.1 in
+      let now = stay.tables slot way.0 (frame_number old.0) table.0 (left.1 (frame_number old.0)) way.1 table.1 in
+      let e : Some table.0 ≡ Some t = sym now ∙ ap (table_at (memory_of w) p) maps.inside ∙ is in
+      let same : table.0 ≡ t = cc in
+      sym (ap (table_at (memory_of v) p) maps.inside) ∙ table.1 ∙ ap Some same
 
   -- the bytes of its frame stand
   bytes_stay : (slot : Slot) (word : ℕ) → page_word (memory_of v) slot ≡ Some word → frame_bytes v.bytes (frame_number word) ≡ frame_bytes w.bytes (frame_number word)

@@ -141,6 +141,8 @@ pub record Was (s : State) (slot : Slot) (d : Cell) : Type 0 where
   pub there : map.get s.spaces slot ≡ Some cell
   pub bytes : d.bytes ≡ cell.bytes
   pub write : d.write ≡ true → cell.write ≡ true
+  pub accessed : d.accessed ≡ cell.accessed
+  pub dirty : d.dirty ≡ cell.dirty
 
 was_gone : (s : State) (gone : Slot → Bool) (slot : Slot) (d : Cell) → map.get (without s.spaces gone) slot ≡ Some d → Was s slot d
 was_gone s gone slot d at = by (gone slot) refl (map.get s.spaces slot) refl (sym (get_gone s.spaces gone slot) ∙ at)
@@ -151,7 +153,14 @@ was_gone s gone slot d at = by (gone slot) refl (map.get s.spaces slot) refl (sy
     by false is (Some c) there h =
         let k : Some (fewer gone c) ≡ Some d = sym (λ i. option_map (fewer gone) (cond (not (is i)) (there i) None)) ∙ h in
         let e : fewer gone c ≡ d = cc in
-        record { cell = c; there = there; bytes = ap (λ (q : Cell). q.bytes) (sym e); write = λ w. ap (λ (q : Cell). q.write) e ∙ w }
+        record {
+          cell = c;
+          there = there;
+          bytes = ap (λ (q : Cell). q.bytes) (sym e);
+          write = λ w. ap (λ (q : Cell). q.write) e ∙ w;
+          accessed = ap (λ (q : Cell). q.accessed) (sym e);
+          dirty = ap (λ (q : Cell). q.dirty) (sym e);
+        }
 
 was_right : (s : State) (a slot : Slot) (d : Cell) → is_some (map.get s.spaces a) ≡ true → map.get (protected s.spaces a false) slot ≡ Some d → Was s slot d
 was_right s a slot d mapped at = by (same_or_not slot_order slot a)
@@ -170,12 +179,16 @@ was_right s a slot d mapped at = by (same_or_not slot_order slot a)
           there = ap (map.get s.spaces) is.0 ∙ c.1;
           bytes = ap (λ (q : Cell). q.bytes) (sym e) ∙ ap (λ (q : Cell). q.bytes) own;
           write = λ w. absurd (let n : false ≡ true = ap (λ (q : Cell). q.write) e ∙ w in cc);
+          accessed = ap (λ (q : Cell). q.accessed) (sym e) ∙ ap (λ (q : Cell). q.accessed) own;
+          dirty = ap (λ (q : Cell). q.dirty) (sym e) ∙ ap (λ (q : Cell). q.dirty) own;
         }
     by (inr other) = record {
       cell = d;
       there = sym (ap (λ x. cond x (Some (record (cell_or_fresh s.spaces a) { write = false })) (map.get s.spaces slot)) other) ∙ sym new ∙ at;
       bytes = refl;
       write = λ w. w;
+      accessed = refl;
+      dirty = refl;
     }
 
 pub was : (s : State) (e : Event) (slot : Slot) (d : Cell) → only_takes e.call ≡ true → map.get (next s e).spaces slot ≡ Some d → Was s slot d
@@ -203,5 +216,7 @@ was s e slot d takes at = by (completes (answer s e)) refl
       there = sym (ap (λ (t : State). map.get t.spaces slot) (next-stays s e stops)) ∙ at;
       bytes = refl;
       write = λ w. w;
+      accessed = refl;
+      dirty = refl;
     }
     by true goes = either e.call takes (completed s e goes) (sym (ap (λ (t : State). map.get t.spaces slot) (next-goes s e goes)) ∙ at)

@@ -45,6 +45,11 @@ pub data Moment : Type 0 where
   -- all but the last, which ends these and is answered so, are in the order, whose state this is
   under_way : Ended → Event → Reply → State → View → Moment
 
+-- the memory then
+abbrev pub memory_in : Moment → View
+memory_in (settled x w) = w
+memory_in (under_way x e r s w) = w
+
 -- a processor stores by what it keeps, and makes memory this; that it is a core's isn't assumed
 pub record IsStale (kept : List Kept) (w : View) (a : Event) (q : Reply) (bytes : List ℕ) : Type 0 where
   pub store : IsStore a.call
@@ -78,15 +83,15 @@ pub data Step : Moment → Processors → List Event → List Reply → Moment �
       → only_takes e.call ≡ true → IsWalked w a q u → LeavesFree w u
       → Step (under_way x e r s w) keeps (a ∷ []) (q ∷ []) (under_way x e r (next s a) u) keeps
   marked : {x : Ended} {w u : View} {s : State} {keeps : Processors} {e : Event} {r : Reply}
-      → only_takes e.call ≡ true → IsMarked w u → LeavesFree w u
+      → only_takes e.call ≡ true → IsMarked w u
       → Step (under_way x e r s w) keeps [] [] (under_way x e r s u) keeps
   ordered : {x : Ended} {w : View} {s : State} {keeps : Processors} {e : Event} {r : Reply}
       → Step (under_way x e r s w) keeps (e ∷ []) (r ∷ []) (settled x w) keeps
   usual : {x : Ended} {v w : View} {keeps : Processors} {es : List Event} {rs : List Reply}
       → base.Step v (all_left_by x keeps) es rs w (all_left_by x keeps)
       → Step (settled x v) keeps es rs (settled x w) keeps
-  refilled : {x : Ended} {v : View} {keeps : Processors} (i : ℕ) (k : Kept) → IsRead v k
-      → Step (settled x v) keeps [] [] (settled x v) (with_kept keeps i (k ∷ keeps i))
+  refilled : {m : Moment} {keeps : Processors} (i : ℕ) (k : Kept) → IsRead (memory_in m) k
+      → Step m keeps [] [] m (with_kept keeps i (k ∷ keeps i))
   forgotten : {m : Moment} {keeps : Processors} (i : ℕ) (left : List Kept) → AreAmong left (keeps i)
       → Step m keeps [] [] m (with_kept keeps i left)
   told : {x : Ended} {v : View} {keeps : Processors}
