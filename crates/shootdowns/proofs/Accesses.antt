@@ -1,23 +1,22 @@
 -- Accesses by what a processor keeps of an earlier memory, where the pages of that are still on their frames.
-use Rattle.std.proofs.Common.{◌≡◌, ◌≢◌, ℕ, ◌+◌, ◌*◌, ◌<◌, ◌≤◌, ◌^◌, ◌==◌, Bool, true, false, List, length, refl, ap, sym, ◌∙◌, subst, arith, inl, inr, Option, Some, None, unwrap_or, is_some, eqb-true}
-use Rattle.std.specs.Prelude.{◌⊎◌, ◌&&◌, not, if◌then◌else◌, IfSome, MatchBool, IsTrue, Ok, slice_get, slice_index}
+use Rattle.std.proofs.Common.{◌≡◌, ℕ, ◌+◌, ◌*◌, ◌<◌, ◌≤◌, ◌^◌, Bool, true, false, List, length, refl, ap, sym, ◌∙◌, subst, arith, Option, Some, None, unwrap_or, is_some, eqb-true}
+use Rattle.std.specs.Prelude.{◌&&◌, not, if◌then◌else◌, MatchBool, slice_get, slice_index}
 use Rattle.std.specs.Option.{option_map, option_and_then}
 use Rattle.std.proofs.lemmas.Option.{slice_get_within}
-use Rattle.page_words.specs.Addresses.{page_number, offset_number, slot_number, index_number, start_number, byte_count, touched, EachTouched, IsUserPage}
+use Rattle.page_words.specs.Addresses.{page_number, offset_number, slot_number, index_number, start_number, byte_count, EachTouched}
 use Rattle.page_words.specs.declared.addresses.Size.{Size}
 use Rattle.page_words.specs.FiniteMap as map
 use Rattle.page_words.specs.FiniteSet as set
 use Rattle.page_words.specs.Words.{frame_number, is_lazy}
-use Rattle.phys_memory.specs.Bytes.{frame_bytes, IsInside}
+use Rattle.phys_memory.specs.Bytes.{frame_bytes}
 use Rattle.phys_memory.proofs.Frames.{byte-frame}
 use Rattle.alloc_table.specs.declared.Role.{Role}
 use Rattle.alloc_table.specs.declared.Role.TheVariants.{Reserved, Page}
 use Rattle.table_walk.specs.declared.Access.{Access}
 use Rattle.table_walk.specs.declared.Access.TheVariants.{Read, Write}
-use Rattle.table_walk.specs.Walk.{walk_of}
 use Rattle.address_space.specs.Image.{directory_at, table_at, word_of, named_by, present_word, page_word, page_frame, is_lazy_at, takes_stores, SlotStands, CellStands}
 use Rattle.address_space.specs.ImageWords.{own_frame}
-use Rattle.address_space.specs.Kept.{kept_place, number_at, written_at}
+use Rattle.address_space.specs.Kept.{kept_place, number_at}
 use Rattle.address_space.specs.Spaces.{Slot, Cell, Spaces, at_page, slot_at, byte_at, value_of, bytes_of, cell_or_fresh, fresh, all_stored}
 use Rattle.address_space.specs.Stays.{way_of}
 use Rattle.address_space.proofs.costs.MapFirst.{IsThere, with_touched-same}
@@ -53,7 +52,7 @@ use Rattle.kernel_calls.proofs.KeptAccesses.{small_page, live, leads, Touched, l
 use Rattle.kernel_calls.proofs.Translated.{walk_takes}
 use Rattle.kernel_calls.proofs.WalkedReplies.{lives}
 use Rattle.shootdowns.proofs.Alike.{AlikeCell, Alike, with_state}
-use Rattle.shootdowns.proofs.Filled.{fill, filled, filled_state, get_filled, mapped_filled}
+use Rattle.shootdowns.proofs.Filled.{fill, filled_state, get_filled}
 use Rattle.shootdowns.proofs.Stored.{Held, length-written, all_put, frames_beside}
 
 -- the frame that a slot's word names

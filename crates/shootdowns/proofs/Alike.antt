@@ -1,5 +1,5 @@
 -- States alike but for the bytes and the flags of cells.
-use Rattle.std.proofs.Common.{◌≡◌, ℕ, Bool, true, false, List, [], ◌∷◌, refl, ap, sym, ◌∙◌, subst, Option, Some, None}
+use Rattle.std.proofs.Common.{◌≡◌, ℕ, true, List, [], ◌∷◌, refl, ap, sym, ◌∙◌, subst, Option, Some, None}
 use Rattle.std.specs.Option.{option_map}
 use Rattle.page_words.specs.FiniteMap as map
 use Rattle.page_words.proofs.MapLemmas.{same_map}

@@ -1,5 +1,5 @@
 -- Steps of windows are events in an order.
-use Rattle.std.proofs.Common.{◌≡◌, ◌≢◌, ℕ, ◌+◌, ◌<◌, arith, Bool, true, false, List, [], ◌∷◌, ◌++◌, length, refl, ap, sym, ◌∙◌, subst, inl, inr, Option, Some, None}
+use Rattle.std.proofs.Common.{◌≡◌, ◌≢◌, ℕ, arith, true, false, List, [], ◌∷◌, ◌++◌, length, refl, ap, sym, ◌∙◌, subst, inl, inr, Option, Some, None}
 use Rattle.std.specs.Prelude.{◌⊎◌, ◌*◌, is_some, slice_get}
 use Rattle.std.specs.Option.{option_map}
 use Rattle.std.proofs.lemmas.Option.{slice_get_within}
@@ -20,10 +20,10 @@ use Rattle.process_table.specs.Image.{memory_of}
 use Rattle.process_table.specs.State.{State}
 use Rattle.process_table.specs.View.{View}
 use Rattle.process_table.specs.WellFormed.{IsWellFormed}
-use Rattle.kernel_calls.specs.Kept.{ServesEvent, reply_kept, bytes_kept, IsLoad}
+use Rattle.kernel_calls.specs.Kept.{ServesEvent, bytes_kept, IsLoad}
 use Rattle.kernel_calls.specs.Machine.{answer, answers, next, end_of}
-use Rattle.kernel_calls.specs.Processors.{IsCore, Processors, with_kept, all_left_by, AllAreRead, AreAmong, IsWalked, IsLoaded, IsMarked}
-use Rattle.kernel_calls.specs.Translations.{Kept, IsRead, AreRead, Ends, ended_by, is_invalidated, left_by}
+use Rattle.kernel_calls.specs.Processors.{IsCore, Processors, with_kept, AllAreRead, AreAmong, IsWalked, IsLoaded, IsMarked}
+use Rattle.kernel_calls.specs.Translations.{Kept, IsRead, AreRead, Ends, ended_by, left_by}
 use Rattle.kernel_calls.specs.declared.calls.Call.{Call}
 use Rattle.kernel_calls.specs.declared.calls.Call.TheVariants as call
 use Rattle.kernel_calls.specs.declared.calls.Event.{Event}
@@ -34,11 +34,11 @@ use Rattle.kernel_calls.proofs.Leaving.{left_read}
 use Rattle.kernel_calls.proofs.MixedRuns.{among_read, read_with, serves_call, one}
 use Rattle.kernel_calls.proofs.Runs.{kept-next}
 use Rattle.kernel_calls.proofs.WalkedReplies.{answered, lives}
-use Rattle.shootdowns.specs.Windows.{only_takes, Begins, Moment, settled, under_way, IsStale, LeavesFree, Step, begun, loaded, stored, walked, marked, ordered, usual, refilled, forgotten, told, Steps, none, first, memory_in, state_of, Stands, AreInOrder, ShootdownsMakeEvents}
+use Rattle.shootdowns.specs.Windows.{only_takes, Moment, settled, under_way, IsStale, LeavesFree, Step, begun, loaded, stored, walked, marked, ordered, usual, refilled, forgotten, told, Steps, none, first, memory_in, state_of, Stands, ShootdownsMakeEvents}
 use Rattle.shootdowns.proofs.Accesses.{frame_at, kept_answer, kept_next, kept_beside, kept_long}
 use Rattle.shootdowns.proofs.Alike.{Alike, with_state, FlagsGrow, flags_read, alike_same, alike_then, alike_filled, again}
 use Rattle.shootdowns.proofs.Filled.{fill, filled_state, get_filled, answer_filled, next_filled}
-use Rattle.shootdowns.proofs.Kept.{spared, sparing, reading, none_left, left_more, left_fewer}
+use Rattle.shootdowns.proofs.Kept.{spared, reading, none_left, left_more, left_fewer}
 use Rattle.shootdowns.proofs.Onward.{names_onward, tables_onward, full_onward}
 use Rattle.shootdowns.proofs.Refilled.{read_before}
 use Rattle.shootdowns.proofs.Rewritten.{is_fixed, rewritten, names_same, word_same, linked_same, read_same}

@@ -1,9 +1,9 @@
 -- Memory after an access by a walk, while an event that only takes away isn't in the order.
-use Rattle.std.proofs.Common.{◌≡◌, ◌≢◌, ℕ, ◌+◌, ◌*◌, ◌<◌, ◌^◌, ◌==◌, Bool, true, false, List, length, refl, ap, sym, ◌∙◌, subst, arith, inl, inr, Option, Some, None, unwrap_or, is_some}
-use Rattle.std.specs.Prelude.{◌⊎◌, ◌↔◌, if◌then◌else◌, IsTrue, MatchBool, Ok, slice_get}
+use Rattle.std.proofs.Common.{◌≡◌, ℕ, ◌<◌, ◌^◌, Bool, true, false, refl, ap, sym, ◌∙◌, subst, arith, inl, inr, Option, Some, None, is_some}
+use Rattle.std.specs.Prelude.{◌⊎◌, if◌then◌else◌, MatchBool, Ok, slice_get}
 use Rattle.std.specs.Option.{option_map, option_and_then}
 use Rattle.std.proofs.lemmas.Option.{slice_get_within}
-use Rattle.page_words.specs.Addresses.{page_number, start_number, slot_number}
+use Rattle.page_words.specs.Addresses.{page_number, start_number}
 use Rattle.page_words.specs.FiniteMap as map
 use Rattle.page_words.specs.FiniteSet as set
 use Rattle.page_words.specs.Words.{frame_number, is_lazy}
@@ -13,13 +13,13 @@ use Rattle.alloc_table.specs.declared.Role.{Role}
 use Rattle.alloc_table.specs.declared.Role.TheVariants.{Reserved, Free, Page}
 use Rattle.table_walk.specs.declared.Access.TheVariants.{Read}
 use Rattle.table_walk.specs.Walk.{walk_of}
-use Rattle.address_space.specs.Image.{directory_at, table_at, page_word, page_frame, is_lazy_at, SlotStands, CellStands, IsOneGroup}
+use Rattle.address_space.specs.Image.{directory_at, table_at, page_word, page_frame, is_lazy_at, SlotStands, CellStands}
 use Rattle.address_space.specs.ImageWords.{own_frame}
 use Rattle.address_space.specs.Spaces.{Slot, Cell, at_page, slot_at}
 use Rattle.address_space.specs.Stays.{way_of}
 use Rattle.address_space.specs.Walks.{WalkEndsBy}
 use Rattle.address_space.proofs.standing.FramesStand.{way_parts}
-use Rattle.address_space.proofs.standing.Restored.{from_map, from_then}
+use Rattle.address_space.proofs.standing.Restored.{from_then}
 use Rattle.address_space.proofs.standing.TablesStand.{owned, own_is}
 use Rattle.process_table.specs.Image.{memory_of}
 use Rattle.process_table.specs.State.{State}
@@ -126,7 +126,7 @@ module _ (v : View) (before : IsCore v) (s t : State) (first : Alike v.state s) 
     (free : (f : ℕ) → slice_get w.roles f ≡ Some Free → frame_bytes x.bytes f ≡ frame_bytes w.bytes f)
     (full : s ≡ filled_state (frame_at v) w.bytes s)
     (beside : (slot : Slot) (c d : Cell) → map.get s.spaces slot ≡ Some c → map.get t.spaces slot ≡ Some d → is_some (map.get w.state.spaces slot) ≡ false
-        → ((b : Slot) (k : Cell) → is_some (map.get w.state.spaces b) ≡ true → map.get s.spaces b ≡ Some k → set.contains k.holders slot ≡ false) → d.bytes ≡ c.bytes) where
+    → ((b : Slot) (k : Cell) → is_some (map.get w.state.spaces b) ≡ true → map.get s.spaces b ≡ Some k → set.contains k.holders slot ≡ false) → d.bytes ≡ c.bytes) where
   -- a slot that is still mapped has the bytes of its frame
   still : (slot : Slot) (d k : Cell) → map.get t.spaces slot ≡ Some d → map.get x.state.spaces slot ≡ Some k → d.bytes ≡ frame_bytes x.bytes (frame_at v slot)
   still slot d k at there =

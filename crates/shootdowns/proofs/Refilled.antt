@@ -1,13 +1,12 @@
 -- What a walk reads while an event that only takes away isn't in the order, was read before the event.
-use Rattle.std.proofs.Common.{◌≡◌, ℕ, ◌+◌, ◌*◌, ◌<◌, ◌^◌, ◌==◌, Bool, true, false, refl, ap, sym, ◌∙◌, subst, arith, Option, Some, None, unwrap_or, is_some}
+use Rattle.std.proofs.Common.{◌≡◌, ℕ, ◌<◌, ◌^◌, true, false, ap, sym, ◌∙◌, subst, Option, Some, None, unwrap_or}
 use Rattle.std.specs.Prelude.{◌&&◌, not, MatchBool, Ok}
-use Rattle.std.specs.Option.{option_map}
-use Rattle.page_words.specs.Addresses.{page_number, start_number}
+use Rattle.page_words.specs.Addresses.{page_number}
 use Rattle.page_words.specs.FiniteMap as map
 use Rattle.page_words.specs.Words.{frame_number}
 use Rattle.table_walk.specs.declared.Access.{Access}
 use Rattle.table_walk.specs.declared.Access.TheVariants.{Read, Write}
-use Rattle.table_walk.specs.Walk.{walk_of, is_write, not_allowed}
+use Rattle.table_walk.specs.Walk.{walk_of, not_allowed}
 use Rattle.address_space.specs.Image.{directory_at, table_at, page_word, is_lazy_at, takes_stores}
 use Rattle.address_space.specs.Spaces.{Slot, Cell, at_page, slot_at, cell_or_fresh, fresh}
 use Rattle.address_space.specs.Stays.{way_of}
@@ -23,7 +22,7 @@ use Rattle.kernel_calls.specs.Translations.{Kept, Translation, IsGiven, translat
 use Rattle.kernel_calls.specs.declared.calls.Event.{Event}
 use Rattle.kernel_calls.proofs.Translated.{walk_takes}
 use Rattle.shootdowns.specs.Windows.{only_takes}
-use Rattle.shootdowns.proofs.Accesses.{frame_at, frame_is, word_mapped, way_at, both, real_by}
+use Rattle.shootdowns.proofs.Accesses.{frame_at, frame_is, word_mapped, both, real_by}
 use Rattle.shootdowns.proofs.Alike.{AlikeCell, Alike, with_state}
 use Rattle.shootdowns.proofs.Untouched.{Was, was}
 

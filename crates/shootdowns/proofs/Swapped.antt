@@ -1,17 +1,15 @@
 -- Accesses of mapped pages, and slots that go or lose a right, in either order.
-use Rattle.std.proofs.Common.{◌≡◌, ◌≢◌, ℕ, zero, suc, ◌+◌, ◌/◌, ◌%◌, ◌<◌, Bool, true, false, not, cond, ◌&&◌, List, [], ◌∷◌, refl, ap, sym, ◌∙◌, subst, arith, inl, inr, Option, Some, None, unwrap_or, is_some}
-use Rattle.std.specs.Prelude.{◌⊎◌, if◌then◌else◌, IfSome}
+use Rattle.std.proofs.Common.{◌≡◌, ◌≢◌, ℕ, Bool, true, false, not, cond, ◌&&◌, List, refl, ap, sym, ◌∙◌, subst, inl, inr, Option, Some, None, unwrap_or}
+use Rattle.std.specs.Prelude.{◌⊎◌, if◌then◌else◌}
 use Rattle.std.specs.Option.{option_map}
-use Rattle.page_words.specs.Addresses.{page_number, offset_number, page_and}
 use Rattle.page_words.specs.FiniteMap as map
 use Rattle.page_words.specs.FiniteMap.{same}
 use Rattle.page_words.specs.FiniteSet as set
 use Rattle.page_words.specs.FiniteSet.{Set}
-use Rattle.page_words.proofs.MapLemmas.{same_map, same_or_not, same-true, same_itself, get-insert, get-map_values, contains-retain}
-use Rattle.page_words.proofs.OptionLemmas.{some_value}
-use Rattle.address_space.specs.Spaces.{Slot, slot_order, Cell, Spaces, at_page, slot_at, cell_or_fresh, fresh, with_bytes, with_holders, set_bytes, write_at, stored, all_stored, bytes_of, accessed, all_accessed, protected, without}
+use Rattle.page_words.proofs.MapLemmas.{same_map, same_or_not, same_itself, get-insert, get-map_values, contains-retain}
+use Rattle.address_space.specs.Spaces.{Slot, slot_order, Cell, Spaces, cell_or_fresh, fresh, with_bytes, set_bytes, write_at, stored, accessed, protected, without}
 use Rattle.process_table.proofs.CellLaws.{get-inserted, get-inserted_other}
-use Rattle.kernel_calls.proofs.Commuting.{at_slot, two_slots}
+use Rattle.kernel_calls.proofs.Commuting.{two_slots}
 use Rattle.kernel_calls.proofs.CommutingGone.{fewer, get_gone, bytes_gone}
 
 -- what stands at a slot that stays

@@ -1,6 +1,6 @@
 -- Events that only take away: which slots stay, and on which frames.
-use Rattle.std.proofs.Common.{◌≡◌, ℕ, ◌*◌, ◌+◌, Bool, true, false, not, cond, List, [], ◌∷◌, length, refl, ap, sym, ◌∙◌, subst, arith, inl, inr, Option, Some, None, is_some, unwrap_or, ◌<◌}
-use Rattle.std.specs.Prelude.{◌⊎◌, if◌then◌else◌, IsTrue, slice_get}
+use Rattle.std.proofs.Common.{◌≡◌, ℕ, ◌*◌, Bool, true, false, not, cond, List, [], ◌∷◌, length, refl, ap, sym, ◌∙◌, arith, inl, inr, Option, Some, None, is_some, unwrap_or, ◌<◌}
+use Rattle.std.specs.Prelude.{◌⊎◌, if◌then◌else◌, slice_get}
 use Rattle.std.proofs.lemmas.Option.{slice_get_within}
 use Rattle.std.specs.FinMap.Entries.{find}
 use Rattle.std.specs.Option.{option_map, option_and_then}
@@ -14,16 +14,16 @@ use Rattle.page_words.specs.Words.{frame_number, is_lazy}
 use Rattle.phys_memory.specs.Bytes.{frame_bytes}
 use Rattle.alloc_table.specs.declared.Role.{Role}
 use Rattle.alloc_table.specs.declared.Role.TheVariants.{Reserved, Free, Page}
-use Rattle.address_space.specs.Image.{directory_at, table_at, page_word, page_frame, SlotStands, CellStands}
+use Rattle.address_space.specs.Image.{directory_at, table_at, page_word, page_frame, SlotStands}
 use Rattle.address_space.specs.ImageWords.{own_frame}
 use Rattle.address_space.specs.Spaces.{Slot, slot_order, Cell, Spaces, at_page, cell_or_fresh, fresh, with_bytes, without, protected, is_slot, is_of}
-use Rattle.address_space.specs.Stays.{way_of, FramesStay, LooseStay}
-use Rattle.address_space.proofs.standing.FramesStand.{way_parts, way_whole}
+use Rattle.address_space.specs.Stays.{FramesStay, LooseStay}
+use Rattle.address_space.proofs.standing.FramesStand.{way_parts}
 use Rattle.address_space.proofs.standing.TablesStand.{owned, own_is}
 use Rattle.address_space.proofs.standing.Restored.{from_map, from_then}
 use Rattle.process_table.specs.Image.{Account, memory_of, as_account}
 use Rattle.quota_tree.specs.Book.{Member}
-use Rattle.process_table.specs.State.{State, is_live, is_mapped}
+use Rattle.process_table.specs.State.{State}
 use Rattle.process_table.specs.View.{View}
 use Rattle.kernel_calls.specs.Gone.{gone_of_call, gone_by, gives_back}
 use Rattle.kernel_calls.specs.Machine.{answer, answer_of, after, next, completes}
@@ -37,7 +37,7 @@ use Rattle.kernel_calls.proofs.Linked.{tables_map}
 use Rattle.kernel_calls.proofs.Runs.{kept-next}
 use Rattle.shootdowns.specs.Windows.{only_takes}
 use Rattle.shootdowns.proofs.Accesses.{frame_at, frame_is, word_mapped, way_at, table_of_word, lazy_zero}
-use Rattle.shootdowns.proofs.Filled.{fill, filled, filled_state, get_filled, protects_mapped, completed}
+use Rattle.shootdowns.proofs.Filled.{fill, filled_state, get_filled, protects_mapped, completed}
 
 -- a slot that is mapped afterwards was mapped before, and isn't gone
 abbrev Left : State → State → (Slot → ℕ → Bool) → Type 0

@@ -1,5 +1,5 @@
 -- An access of pages that stay mapped, and an event that only takes away, in either order.
-use Rattle.std.proofs.Common.{◌≡◌, ◌≢◌, ℕ, zero, suc, ◌+◌, ◌/◌, ◌%◌, ◌<◌, Bool, true, false, not, cond, ◌&&◌, ◌==◌, nat_lt, List, [], ◌∷◌, refl, ap, sym, ◌∙◌, subst, arith, inl, inr, Option, Some, None, unwrap_or, is_some}
+use Rattle.std.proofs.Common.{◌≡◌, ◌≢◌, ℕ, zero, suc, ◌+◌, ◌/◌, ◌%◌, ◌<◌, Bool, true, false, not, cond, ◌==◌, nat_lt, List, [], ◌∷◌, refl, ap, sym, ◌∙◌, subst, arith, inl, inr, Option, Some, None, unwrap_or, is_some}
 use Rattle.std.specs.Prelude.{◌⊎◌, if◌then◌else◌, IfSome}
 use Rattle.std.specs.Option.{option_map}
 use Rattle.page_words.specs.Addresses.{page_number, offset_number, page_and, second_page, byte_count, touched, EachTouched, is_user_page}
@@ -7,16 +7,15 @@ use Rattle.page_words.specs.declared.addresses.Size.{Size}
 use Rattle.page_words.specs.FiniteMap as map
 use Rattle.page_words.specs.FiniteMap.{same}
 use Rattle.page_words.specs.FiniteSet as set
-use Rattle.page_words.proofs.MapLemmas.{same_or_not, same-true, same_itself, get-insert, get-map_values}
+use Rattle.page_words.proofs.MapLemmas.{same_or_not, get-insert, get-map_values}
 use Rattle.page_words.proofs.OptionLemmas.{some_value}
 use Rattle.address_space.specs.Spaces.{Slot, slot_order, Cell, Spaces, at_page, slot_at, cell_or_fresh, fresh, with_bytes, set_bytes, write_at, stored, all_stored, bytes_of, accessed, all_accessed, with_pages, protected, without, is_slot, is_of}
 use Rattle.address_space.proofs.costs.MapFirst.{IsThere, with_touched-same}
 use Rattle.address_space.proofs.steps.Bytes.{each_byte}
-use Rattle.process_table.specs.Calls.{after_load, after_store}
-use Rattle.process_table.specs.State.{State, is_live, is_mapped}
+use Rattle.process_table.specs.State.{State, is_live}
 use Rattle.quota_tree.specs.Book.{Book, number_of_children}
 use Rattle.process_table.specs.declared.causes.Cause.TheVariants as cause
-use Rattle.process_table.proofs.CellLaws.{get-inserted, get-inserted_other}
+use Rattle.process_table.proofs.CellLaws.{get-inserted}
 use Rattle.fault_handler.proofs.Settled.{each_page}
 use Rattle.kernel_calls.specs.Machine.{answer, answer_of, after, next, completes, refused_or}
 use Rattle.kernel_calls.specs.declared.calls.Call.{Call}
@@ -24,7 +23,6 @@ use Rattle.kernel_calls.specs.declared.calls.Call.TheVariants as call
 use Rattle.kernel_calls.specs.declared.calls.Event.{Event}
 use Rattle.kernel_calls.specs.declared.calls.Reply.{Reply}
 use Rattle.kernel_calls.specs.declared.calls.Reply.TheVariants as reply
-use Rattle.kernel_calls.proofs.CommutingGone.{fewer, get_gone}
 use Rattle.kernel_calls.proofs.Decided.{next-stays, next-goes}
 use Rattle.shootdowns.specs.Windows.{only_takes}
 use Rattle.shootdowns.proofs.Alike.{AlikeCell, same_cell}
@@ -67,9 +65,12 @@ grows_set S b c y at alike accessed dirty = record {
         → (e : Cell) × (map.get (map.insert S b y) slot ≡ Some e) × AlikeCell d e × ((d.accessed ≡ true → e.accessed ≡ true) × (d.dirty ≡ true → e.dirty ≡ true))
     into slot d there (inl is) =
         let k : Some c ≡ Some d = sym at ∙ sym (ap (map.get S) is.0) ∙ there in
-        let e : c ≡ d = cc in
-        (y, get-insert S b y slot ∙ ap (λ q. cond q (Some y) (map.get S slot)) is.1, subst (λ (z : Cell). AlikeCell z y) e alike,
-        subst (λ (z : Cell). (z.accessed ≡ true → y.accessed ≡ true) × (z.dirty ≡ true → y.dirty ≡ true)) e (accessed, dirty))
+        let e : c ≡ d = cc in (
+          y,
+          get-insert S b y slot ∙ ap (λ q. cond q (Some y) (map.get S slot)) is.1,
+          subst (λ (z : Cell). AlikeCell z y) e alike,
+          subst (λ (z : Cell). (z.accessed ≡ true → y.accessed ≡ true) × (z.dirty ≡ true → y.dirty ≡ true)) e (accessed, dirty),
+        )
     into slot d there (inr other) =
         (d, get-insert S b y slot ∙ ap (λ q. cond q (Some y) (map.get S slot)) other ∙ there, same_cell d, (λ h. h, λ h. h))
 
@@ -235,9 +236,6 @@ module _ (s : State) (e : Event) (p : ℕ) where
   Pages _ = ⊥
 
   module _ (done : completes (answer s e) ≡ true) where
-    stays_for : (c : Call) → e.call ≡ c → next s e ≡ after s e.pid c
-    stays_for c is = next-goes s e done ∙ ap (after s e.pid) is
-
     gone_turned : (gone : Slot → Bool) → (next s e).spaces ≡ without s.spaces gone → (c : Call) → Pages c
         → (after (record s { spaces = without s.spaces gone }) p c).spaces ≡ without (after s p c).spaces gone
     gone_turned gone is (call.Load addr size) h = sym (load_turned addr size s.spaces (λ T. without T gone)

@@ -6,9 +6,9 @@ use Rattle.page_words.specs.Addresses.{page_number, offset_number, page_and, sec
 use Rattle.page_words.specs.FiniteMap as map
 use Rattle.page_words.specs.FiniteMap.{same}
 use Rattle.page_words.specs.FiniteSet as set
-use Rattle.page_words.proofs.MapLemmas.{same_or_not, same_itself, get-insert, get-map_values}
+use Rattle.page_words.proofs.MapLemmas.{same_or_not, get-insert, get-map_values}
 use Rattle.page_words.proofs.OptionLemmas.{some_value}
-use Rattle.address_space.specs.Spaces.{Slot, slot_order, Cell, Spaces, at_page, slot_at, cell_or_fresh, fresh, with_bytes, set_bytes, write_at, stored, all_stored, bytes_of, accessed, all_accessed, with_pages, protected, without, is_slot, is_of}
+use Rattle.address_space.specs.Spaces.{Slot, slot_order, Cell, Spaces, at_page, slot_at, cell_or_fresh, fresh, with_bytes, set_bytes, write_at, stored, all_stored, bytes_of, accessed, all_accessed, protected, without, is_slot, is_of}
 use Rattle.address_space.proofs.costs.MapFirst.{IsThere, with_touched-same}
 use Rattle.address_space.proofs.steps.Bytes.{each_byte}
 use Rattle.process_table.specs.State.{State}
@@ -21,7 +21,7 @@ use Rattle.kernel_calls.proofs.CommutingGone.{fewer, get_gone}
 use Rattle.kernel_calls.proofs.Decided.{next-stays, next-goes}
 use Rattle.shootdowns.specs.Windows.{only_takes}
 use Rattle.shootdowns.proofs.Filled.{protects_mapped, completed}
-use Rattle.shootdowns.proofs.Turned.{Grows, Has, has_then, grows_accessed, grows_stored}
+use Rattle.shootdowns.proofs.Turned.{Grows, has_then, grows_accessed, grows_stored}
 
 -- ---- Bytes of a slot that an access leaves
 

@@ -1,22 +1,16 @@
 -- An access by a walk, while an event that only takes away isn't in the order.
-use Rattle.std.proofs.Common.{◌≡◌, ◌≢◌, ℕ, ◌+◌, ◌*◌, ◌<◌, Bool, true, false, List, length, refl, ap, sym, ◌∙◌, subst, arith, inl, inr, Option, Some, None, unwrap_or, is_some}
-use Rattle.std.specs.Prelude.{◌⊎◌, ◌&&◌, not, if◌then◌else◌, IfSome, IsTrue, slice_get, slice_index}
-use Rattle.std.specs.Option.{option_map}
-use Rattle.page_words.specs.Addresses.{page_number, offset_number, second_page, byte_count, EachTouched}
+use Rattle.std.proofs.Common.{◌≡◌, ℕ, ◌+◌, Bool, true, false, List, refl, ap, sym, ◌∙◌, subst, Option, Some, unwrap_or, is_some}
+use Rattle.std.specs.Prelude.{◌&&◌, not, if◌then◌else◌, slice_index}
+use Rattle.page_words.specs.Addresses.{page_number, offset_number, byte_count}
 use Rattle.page_words.specs.declared.addresses.Size.{Size}
 use Rattle.page_words.specs.FiniteMap as map
 use Rattle.page_words.specs.FiniteSet as set
-use Rattle.page_words.specs.Words.{frame_number}
-use Rattle.page_words.proofs.MapLemmas.{same_map}
-use Rattle.page_words.proofs.OptionLemmas.{some_value, is_some-map}
-use Rattle.phys_memory.specs.Bytes.{frame_bytes}
-use Rattle.alloc_table.specs.declared.Role.{Role}
-use Rattle.alloc_table.specs.declared.Role.TheVariants.{Free, Page}
+use Rattle.page_words.proofs.OptionLemmas.{some_value}
 use Rattle.table_walk.specs.declared.Access.{Access}
 use Rattle.table_walk.specs.declared.Access.TheVariants.{Read, Write}
 use Rattle.address_space.specs.ByWalk.{finds_at, finds}
-use Rattle.address_space.specs.Image.{directory_at, page_word, is_lazy_at, takes_stores}
-use Rattle.address_space.specs.Spaces.{Slot, Cell, Spaces, at_page, slot_at, byte_at, value_of, cell_or_fresh, fresh, with_bytes}
+use Rattle.address_space.specs.Image.{directory_at, is_lazy_at, takes_stores}
+use Rattle.address_space.specs.Spaces.{Slot, Cell, at_page, slot_at, byte_at, value_of, cell_or_fresh, fresh}
 use Rattle.address_space.proofs.steps.Bytes.{each_byte}
 use Rattle.address_space.proofs.steps.Finding.{same_each}
 use Rattle.process_table.specs.Calls.{loaded}
@@ -26,26 +20,22 @@ use Rattle.process_table.specs.View.{View}
 use Rattle.process_table.specs.WellFormed.{IsWellFormed}
 use Rattle.process_table.specs.declared.causes.Cause.TheVariants as cause
 use Rattle.process_table.proofs.SharingLaws.{touched_user}
-use Rattle.fault_handler.specs.Plans.{plan_of, plan_at, goes_on, takes_no_frame}
-use Rattle.fault_handler.specs.declared.plans.Plan.{Plan}
-use Rattle.fault_handler.specs.declared.plans.Plan.TheVariants as plan
+use Rattle.fault_handler.specs.Plans.{plan_of, plan_at, takes_no_frame}
 use Rattle.fault_handler.proofs.Settled.{each_page}
 use Rattle.fault_handler.proofs.Walked.{walk_completes}
-use Rattle.kernel_calls.specs.Decisions.{plan_of_call}
-use Rattle.kernel_calls.specs.Machine.{answer, answer_of, after, next, completes, planned_or}
+use Rattle.kernel_calls.specs.Machine.{answer, answer_of, next, completes}
 use Rattle.kernel_calls.specs.Processors.{IsCore}
 use Rattle.kernel_calls.specs.Walked.{finds_call, finds_event, reply_found}
 use Rattle.kernel_calls.specs.declared.calls.Call.{Call}
 use Rattle.kernel_calls.specs.declared.calls.Call.TheVariants as call
 use Rattle.kernel_calls.specs.declared.calls.Event.{Event}
-use Rattle.kernel_calls.specs.declared.calls.Reply.{Reply}
 use Rattle.kernel_calls.specs.declared.calls.Reply.TheVariants as reply
 use Rattle.kernel_calls.proofs.Decided.{goes-call, next-goes}
 use Rattle.kernel_calls.proofs.Runs.{kept-next}
 use Rattle.kernel_calls.proofs.WalkedReplies.{answered, each_found, page_mapped, page_takes}
 use Rattle.shootdowns.specs.Windows.{only_takes}
 use Rattle.shootdowns.proofs.Accesses.{goes_frameless, told_planned, both}
-use Rattle.shootdowns.proofs.Turned.{Has, Pages, StaysMapped, Mapped, mapped_before, mapped_after}
+use Rattle.shootdowns.proofs.Turned.{Pages, StaysMapped, Mapped, mapped_before, mapped_after}
 use Rattle.shootdowns.proofs.Taking.{left_next}
 use Rattle.shootdowns.proofs.Untouched.{was, Beside, Besides, after_beside}
 

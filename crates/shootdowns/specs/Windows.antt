@@ -1,5 +1,5 @@
--- Events whose end takes time: the core carries one out, and each processor goes on by what it keeps until it
--- invalidates what was ended. Which events that is, in which order.
+-- Shootdowns as they happen: the core carries out an event, and each processor uses what it keeps until it invalidates
+-- what the event ended. Which events such steps are, and in which order.
 use Rattle.std.specs.Prelude.{◌≡◌, ℕ, Bool, true, false, not, List, [], ◌∷◌, ◌++◌, Some, slice_get}
 use Rattle.phys_memory.specs.Bytes.{frame_bytes}
 use Rattle.alloc_table.specs.declared.Role.TheVariants.{Free}
@@ -29,7 +29,7 @@ only_takes (call.Protect page write) = not write
 only_takes call.Exit = true
 only_takes _ = false
 
--- The core carries out an event, and its reply isn't told yet (`Core::step_ending`). Each way that the event doesn't
+-- The core carries out an event, and its reply is not yet returned (`Core::step_ending`). Each way that the event doesn't
 -- take leads where it led. One that gives frames back leaves their bytes: a frame is cleared when it is given.
 pub record Begins (v : View) (e : Event) (r : Reply) (w : View) : Type 0 where
   pub carried : IsCarried v e r w
@@ -64,11 +64,12 @@ LeavesFree v w = (f : ℕ) → slice_get v.roles f ≡ Some Free → frame_bytes
 
 -- ---- Steps
 
--- One step, with the events that come next in the order, and what is told or read. A window begins when the core
--- carries out an event. While the event isn't in the order, and only takes away, processors load and store by all that
--- they keep. Then it is in the order, and processors do what they do between windows, except by what it ended. The
--- window closes when no processor keeps that: the reply is told, and the next event may begin. At all times a processor
--- may forget some of what it keeps, as one does that invalidates.
+-- One step, with the events that come next in the order, and their replies or the values read. A window begins when
+-- the core carries out an event, which comes in the order later. Until then, and if it only takes away, each processor
+-- makes accesses by all that it keeps or by its walk, and marks directories' words. Then the event comes in
+-- the order, and processors do what they do outside windows, except by what it ended. The window ends when no processor
+-- keeps that: then the event is replied to, and the next may begin. At each moment a processor may begin to keep what a
+-- walk reads then, or forget some of what it keeps, as one does that invalidates.
 pub data Step : Moment → Processors → List Event → List Reply → Moment → Processors → Type 0 where
   begun : {v w : View} {keeps : Processors} {e : Event} {r : Reply} → Begins v e r w
       → Step (settled end.Nothing v) keeps [] [] (under_way (ended_by v e) e r v.state w) keeps
@@ -119,7 +120,7 @@ Stands (settled x w) keeps = IsCore w × AllAreRead w (all_left_by x keeps)
 Stands (under_way x e r s w) keeps =
     IsCore w × AllAreRead w (all_left_by x keeps) × (w.state ≡ next s e) × (r ≡ answer s e)
 
--- what is told and read is what the events are answered, in the order, and so stands each moment
+-- replies and values read are the answers to the events in the order, and so it stands at each moment
 pub record AreInOrder (v : View) (events : List Event) (told : List Reply) (m : Moment) (last : Processors) : Type 0 where
   pub replies : told ≡ answers v.state events
   pub state : state_of m ≡ end_of v.state events
