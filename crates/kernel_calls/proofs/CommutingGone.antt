@@ -86,7 +86,7 @@ module _ (gone : Slot → Bool) (b : Slot) (stays : gone b ≡ false) where
           ∙ sym is)
 
 -- bytes of a group
-bytes_gone : (S : Spaces) (gone : Slot → Bool) (h : Set slot_order) (ys : List ℕ)
+pub bytes_gone : (S : Spaces) (gone : Slot → Bool) (h : Set slot_order) (ys : List ℕ)
     → without (set_bytes S h ys) gone ≡ set_bytes (without S gone) h ys
 bytes_gone S gone h ys = same_map _ _ (λ r.
     get_gone (set_bytes S h ys) gone r

@@ -70,7 +70,7 @@ module _ (v : View) (core : IsCore v) (p d : ℕ) (live : directory_at (memory_o
       (f.0, some_frame (walk_of v.bytes d a access) f.1)
 
   -- its page is mapped
-  page_mapped : (access : Access) (a : ℕ) → finds_at (memory_of v) p access a ≡ true
+  pub page_mapped : (access : Access) (a : ℕ) → finds_at (memory_of v) p access a ≡ true
       → is_some (map.get v.state.spaces (slot_at p a)) ≡ true
   page_mapped access a h =
       let f = frame_found access a h in
@@ -78,14 +78,14 @@ module _ (v : View) (core : IsCore v) (p d : ℕ) (live : directory_at (memory_o
       (core.ways.lead p d a f.1.0 access live f.0 f.1.1)).1
 
   -- and takes stores, where it is found for one
-  page_takes : (a : ℕ) → finds_at (memory_of v) p Write a ≡ true
+  pub page_takes : (a : ℕ) → finds_at (memory_of v) p Write a ≡ true
       → takes_stores v.state.spaces (memory_of v) (slot_at p a) ≡ true
   page_takes a h =
       let f = frame_found Write a h in
       walk_takes v core.image core.walks core.ways p d a f.1.0 live f.0 f.1.1
 
   -- what holds of the page of each address whose walk finds a frame holds of each page of an access
-  each_found : (access : Access) (address : ℕ) (size : Size) (P : ℕ → Type 0)
+  pub each_found : (access : Access) (address : ℕ) (size : Size) (P : ℕ → Type 0)
       → ((a : ℕ) → finds_at (memory_of v) p access a ≡ true → P (page_number a))
       → finds (memory_of v) p address size access ≡ true → EachTouched address size P
   each_found access address size P at h =
@@ -98,10 +98,10 @@ module _ (v : View) (core : IsCore v) (p d : ℕ) (live : directory_at (memory_o
           subst P e (at (start_number page) (finds_second (memory_of v) p address size access page is h))
 
   module _ (address : ℕ) (size : Size) (access : Access) (h : finds (memory_of v) p address size access ≡ true) where
-    all_mapped : EachTouched address size (λ page. is_mapped v.state (at_page p page) ≡ true)
+    pub all_mapped : EachTouched address size (λ page. is_mapped v.state (at_page p page) ≡ true)
     all_mapped = each_found access address size (λ page. is_mapped v.state (at_page p page) ≡ true) (page_mapped access) h
 
-    all_user : EachTouched address size IsUserPage
+    pub all_user : EachTouched address size IsUserPage
     all_user = touched_user v.state p address size core.well_formed all_mapped
 
     -- the access takes no frame, and so completes

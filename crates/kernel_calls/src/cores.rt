@@ -200,8 +200,9 @@ impl Core {
         }
     }
 
-    /// Decides an event and carries it out. It writes in no frame but those that the event may write: a page of another
-    /// process keeps its bytes, and a table or a directory its words but for accessed.
+    /// Decides an event and carries it out. It writes only frames that the event may write. Each other page keeps its
+    /// bytes, each other table its words, and each other directory its words except for accessed. An event that gives
+    /// frames back leaves the bytes of pages and of free frames.
     #[inline(always)]
     pub fn step(&mut self, event: &Event) -> Reply
         ensures reply { result ≡ answer self.old.state event.now }

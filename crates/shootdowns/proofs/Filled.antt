@@ -1,23 +1,16 @@
 -- A state with the bytes of frames in its cells: events that only take away leave these as they are, and a store
 -- changes one frame's.
-use Rattle.std.proofs.Common.{◌≡◌, ◌≢◌, ℕ, zero, suc, ◌+◌, ◌*◌, ◌/◌, ◌%◌, ◌<◌, Bool, true, false, cond, List, [], ◌∷◌, length, refl, ap, sym, ◌∙◌, subst, arith, inl, inr, Option, Some, None, unwrap_or}
-use Rattle.std.specs.Prelude.{◌⊎◌, ◌&&◌, not, if◌then◌else◌, is_some, slice_set, slice_index}
+use Rattle.std.proofs.Common.{◌≡◌, ℕ, Bool, true, false, cond, List, refl, ap, sym, ◌∙◌, inl, inr, Option, Some, None, unwrap_or}
+use Rattle.std.specs.Prelude.{◌⊎◌, not, if◌then◌else◌, is_some}
 use Rattle.std.specs.Option.{option_map}
-use Rattle.page_words.specs.Addresses.{page_number, offset_number, is_user_page}
+use Rattle.page_words.specs.Addresses.{is_user_page}
 use Rattle.page_words.specs.FiniteMap as map
 use Rattle.page_words.specs.FiniteMap.{same}
-use Rattle.page_words.specs.FiniteSet as set
-use Rattle.page_words.specs.FiniteSet.{Set}
 use Rattle.page_words.proofs.MapLemmas.{same_map, same_or_not, get-insert, get-map_values}
 use Rattle.page_words.proofs.OptionLemmas.{is_some-map}
-use Rattle.phys_memory.specs.Bytes.{frame_bytes, IsInside, with_frame}
-use Rattle.phys_memory.proofs.Frames.{frames-with_byte, with_frame-same, with_frame-other, length-frame}
-use Rattle.address_space.specs.Kept.{kept_place, written_at}
-use Rattle.address_space.specs.Spaces.{Slot, slot_order, Cell, Spaces, at_page, slot_at, cell_or_fresh, fresh, with_bytes, with_holders, set_bytes, write_at, store_in, stored, all_stored, bytes_of, protected, without, is_slot, is_of}
-use Rattle.address_space.proofs.steps.Stores.{byte_is_write}
+use Rattle.phys_memory.specs.Bytes.{frame_bytes}
+use Rattle.address_space.specs.Spaces.{Slot, slot_order, Cell, Spaces, at_page, cell_or_fresh, fresh, with_bytes, protected, without, is_slot, is_of}
 use Rattle.process_table.specs.State.{State, is_live, is_mapped}
-use Rattle.process_table.specs.Calls.{unmap_refusal, protect_refusal}
-use Rattle.process_table.specs.declared.causes.Cause.{Cause}
 use Rattle.process_table.specs.declared.causes.Cause.TheVariants as cause
 use Rattle.kernel_calls.specs.Machine.{answer, answer_of, after, next, completes, refused_or}
 use Rattle.kernel_calls.specs.declared.calls.Call.{Call}

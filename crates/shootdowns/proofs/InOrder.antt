@@ -1,22 +1,29 @@
 -- Steps of windows are events in an order.
-use Rattle.std.proofs.Common.{◌≡◌, ℕ, Bool, true, false, List, [], ◌∷◌, ◌++◌, length, refl, ap, sym, ◌∙◌, subst, inl, inr, Option, Some, None}
-use Rattle.std.specs.Prelude.{◌⊎◌, slice_get}
+use Rattle.std.proofs.Common.{◌≡◌, ◌≢◌, ℕ, arith, true, false, List, [], ◌∷◌, ◌++◌, length, refl, ap, sym, ◌∙◌, subst, inl, inr, Option, Some, None}
+use Rattle.std.specs.Prelude.{◌⊎◌, ◌*◌, is_some, slice_get}
 use Rattle.std.specs.Option.{option_map}
+use Rattle.std.proofs.lemmas.Option.{slice_get_within}
+use Rattle.page_words.specs.Addresses.{slot_number}
 use Rattle.page_words.specs.FiniteMap as map
+use Rattle.page_words.specs.FiniteSet as set
+use Rattle.page_words.proofs.MapLemmas.{same_map}
 use Rattle.page_words.specs.Words.{frame_number}
-use Rattle.phys_memory.specs.Bytes.{frame_bytes}
+use Rattle.phys_memory.specs.Bytes.{frame_bytes, word_at, word_place, with_word_in}
+use Rattle.phys_memory.proofs.Frames.{frames-with_word, with_frame-other}
 use Rattle.alloc_table.specs.declared.Role.{Role}
-use Rattle.alloc_table.specs.declared.Role.TheVariants.{Free, Page}
-use Rattle.address_space.specs.Image.{page_word}
-use Rattle.address_space.specs.Spaces.{Slot, Cell}
+use Rattle.alloc_table.specs.declared.Role.TheVariants.{Free, Directory, Page}
+use Rattle.address_space.specs.ByWalk.{with_walked, walked_word}
+use Rattle.address_space.specs.Image.{directory_at, table_at, page_word}
+use Rattle.address_space.specs.View.{directory_of}
+use Rattle.address_space.specs.Spaces.{Slot, Cell, Spaces, with_bytes}
 use Rattle.process_table.specs.Image.{memory_of}
 use Rattle.process_table.specs.State.{State}
 use Rattle.process_table.specs.View.{View}
 use Rattle.process_table.specs.WellFormed.{IsWellFormed}
-use Rattle.kernel_calls.specs.Kept.{ServesEvent, reply_kept, bytes_kept, IsLoad}
+use Rattle.kernel_calls.specs.Kept.{ServesEvent, bytes_kept, IsLoad}
 use Rattle.kernel_calls.specs.Machine.{answer, answers, next, end_of}
-use Rattle.kernel_calls.specs.Processors.{IsCore, Processors, with_kept, all_left_by, AllAreRead, AreAmong, IsLoaded}
-use Rattle.kernel_calls.specs.Translations.{Kept, IsRead, AreRead, ended_by, is_invalidated, left_by}
+use Rattle.kernel_calls.specs.Processors.{IsCore, Processors, with_kept, AllAreRead, AreAmong, IsWalked, IsLoaded, IsMarked}
+use Rattle.kernel_calls.specs.Translations.{Kept, IsRead, AreRead, Ends, ended_by, left_by}
 use Rattle.kernel_calls.specs.declared.calls.Call.{Call}
 use Rattle.kernel_calls.specs.declared.calls.Call.TheVariants as call
 use Rattle.kernel_calls.specs.declared.calls.Event.{Event}
@@ -26,22 +33,30 @@ use Rattle.kernel_calls.specs.declared.translations.Ended.TheVariants as end
 use Rattle.kernel_calls.proofs.Leaving.{left_read}
 use Rattle.kernel_calls.proofs.MixedRuns.{among_read, read_with, serves_call, one}
 use Rattle.kernel_calls.proofs.Runs.{kept-next}
-use Rattle.shootdowns.specs.Windows.{only_takes, Begins, Moment, settled, under_way, IsStale, Step, begun, loaded, stored, ordered, usual, refilled, forgotten, told, Steps, none, first, state_of, Stands, AreInOrder, ShootdownsMakeEvents}
+use Rattle.kernel_calls.proofs.WalkedReplies.{answered, lives}
+use Rattle.shootdowns.specs.Windows.{only_takes, Moment, settled, under_way, IsStale, LeavesFree, Step, begun, loaded, stored, walked, marked, ordered, usual, refilled, forgotten, told, Steps, none, first, memory_in, state_of, Stands, ShootdownsMakeEvents}
 use Rattle.shootdowns.proofs.Accesses.{frame_at, kept_answer, kept_next, kept_beside, kept_long}
+use Rattle.shootdowns.proofs.Alike.{Alike, with_state, FlagsGrow, flags_read, alike_same, alike_then, alike_filled, again}
 use Rattle.shootdowns.proofs.Filled.{fill, filled_state, get_filled, answer_filled, next_filled}
-use Rattle.shootdowns.proofs.Kept.{spared, sparing, reading, none_left, left_more, left_fewer}
-use Rattle.shootdowns.proofs.Rewritten.{is_fixed, rewritten, names_same, read_same}
-use Rattle.shootdowns.proofs.Taking.{pages_stand, names_stay, filled_first, filled_after, long_stays}
+use Rattle.shootdowns.proofs.Kept.{spared, reading, none_left, left_more, left_fewer}
+use Rattle.shootdowns.proofs.Onward.{names_onward, tables_onward, full_onward}
+use Rattle.shootdowns.proofs.Refilled.{read_before}
+use Rattle.shootdowns.proofs.Rewritten.{is_fixed, rewritten, names_same, word_same, linked_same, read_same}
+use Rattle.shootdowns.proofs.Turned.{Grows, grows_same, keys_of, mapped_before, mapped_after, next_grows, next_book, answer_alike, turned}
+use Rattle.shootdowns.proofs.WalkedIn.{pages_in, done_in, done_after, same_answer, bytes_beside}
+use Rattle.shootdowns.proofs.Taking.{pages_stand, names_stay, homes_stay, tables_stay, filled_first, long_stays}
 
--- An event under way only takes away. The order's state, and that after the event, are those when it began, with the
--- bytes that memory has now; all that is kept was read then.
+-- An event under way only takes away. The order's state is that when it began but for bytes and flags, and its cells
+-- have the bytes that memory has now in their frames then. All that is kept was read then, with the flags of now.
 record Taken (v : View) (e : Event) (s : State) (w : View) (keeps : Processors) : Type 0 where
   before : IsCore v
   well : IsWellFormed s
-  read : AllAreRead v keeps
-  state : s ≡ filled_state (frame_at v) w.bytes v.state
-  after : w.state ≡ filled_state (frame_at v) w.bytes (next v.state e)
+  alike : Alike v.state s
+  read : AllAreRead (with_state v s) keeps
+  state : s ≡ filled_state (frame_at v) w.bytes s
   names : (slot : Slot) (word : ℕ) → page_word (memory_of w) slot ≡ Some word → frame_at v slot ≡ frame_number word
+  homes : (slot : Slot) (word d : ℕ) → page_word (memory_of w) slot ≡ Some word → directory_at (memory_of w) slot.pid ≡ Some d → directory_at (memory_of v) slot.pid ≡ Some d
+  tables : (p region t : ℕ) → table_at (memory_of w) p region ≡ Some t → table_at (memory_of v) p region ≡ Some t
   pages : (f c : ℕ) → slice_get v.roles f ≡ Some (Page c) → (slice_get w.roles f ≡ Some Free) ⊎ ((d : ℕ) × (slice_get w.roles f ≡ Some (Page d)))
   long : length w.bytes ≡ length v.bytes
 
@@ -102,34 +117,37 @@ module _ (x : Ended) (e : Event) (r : Reply) (s : State) (w : View) (keeps : Pro
 
   one_loaded : (a : Event) (q : Reply) → IsLoaded (keeps i) w a q → IsOne (under_way x e r s w) (a ∷ []) (q ∷ []) (under_way x e r s w) keeps
   one_loaded a q l =
-      let served = serves_call v (keeps i) a.pid l.frames a.call (t.read i) l.through in
+      let served = serves_call (with_state v s) (keeps i) a.pid l.frames a.call (t.read i) l.through in
       is_event (under_way x e r s w) (under_way x e r s w) a q keeps
-      (l.found ∙ sym (kept_answer v t.before w.bytes l.frames a served) ∙ ap (λ (z : State). answer z a) (sym t.state))
-      (t.state ∙ ap (λ b. filled_state (frame_at v) b v.state) (sym (load_leaves l.frames w.bytes a.call l.load))
-      ∙ sym (kept_next v t.before w.bytes l.frames a served t.long) ∙ ap (λ (z : State). next z a) (sym t.state))
+      (l.found ∙ sym (kept_answer v t.before s t.alike t.well w.bytes l.frames a served) ∙ ap (λ (z : State). answer z a) (sym t.state))
+      (t.state ∙ ap (λ b. filled_state (frame_at v) b s) (sym (load_leaves l.frames w.bytes a.call l.load))
+      ∙ sym (kept_next v t.before s t.alike t.well w.bytes l.frames a served t.long) ∙ ap (λ (z : State). next z a) (sym t.state))
       good
 
   module _ (a : Event) (q : Reply) (bytes : List ℕ) (l : IsStale (keeps i) w a q bytes) where
-    served : ServesEvent v l.frames a
-    served = serves_call v (keeps i) a.pid l.frames a.call (t.read i) l.through
+    served : ServesEvent (with_state v s) l.frames a
+    served = serves_call (with_state v s) (keeps i) a.pid l.frames a.call (t.read i) l.through
 
     abbrev later : View
     later = record w { bytes = bytes; state = next (next s a) e }
 
     -- the order's state has the bytes that the store leaves
-    state_now : next s a ≡ filled_state (frame_at v) bytes v.state
+    state_now : next s a ≡ filled_state (frame_at v) bytes s
     state_now =
-        ap (λ (z : State). next z a) t.state ∙ kept_next v t.before w.bytes l.frames a served t.long
-        ∙ ap (λ b. filled_state (frame_at v) b v.state) (sym l.left)
+        ap (λ (z : State). next z a) t.state ∙ kept_next v t.before s t.alike t.well w.bytes l.frames a served t.long
+        ∙ ap (λ b. filled_state (frame_at v) b s) (sym l.left)
 
-    after_now : next (next s a) e ≡ filled_state (frame_at v) bytes (next v.state e)
-    after_now = ap (λ (z : State). next z e) state_now ∙ next_filled (frame_at v) bytes v.state e takes
+    after_now : next (next s a) e ≡ filled_state (frame_at v) bytes (next s e)
+    after_now = ap (λ (z : State). next z e) state_now ∙ next_filled (frame_at v) bytes s e takes
+
+    after_then : w.state ≡ filled_state (frame_at v) w.bytes (next s e)
+    after_then = good.stands.2 ∙ ap (λ (z : State). next z e) t.state ∙ next_filled (frame_at v) w.bytes s e takes
 
     long_now : length bytes ≡ length w.bytes
-    long_now = ap length l.left ∙ kept_long v t.before w.bytes l.frames a served
+    long_now = ap length l.left ∙ kept_long v t.before s t.alike t.well w.bytes l.frames a served
 
     fixed_now : (f : ℕ) (role : Role) → slice_get w.roles f ≡ Some role → is_fixed role ≡ true → frame_bytes bytes f ≡ frame_bytes w.bytes f
-    fixed_now f role is fixed = ap (λ b. frame_bytes b f) l.left ∙ kept_beside v t.before w.bytes l.frames a served f t.long (λ c page. by (t.pages f c page))
+    fixed_now f role is fixed = ap (λ b. frame_bytes b f) l.left ∙ kept_beside v t.before s t.alike t.well w.bytes l.frames a served f t.long (λ c page. by (t.pages f c page))
       where
         by : ((slice_get w.roles f ≡ Some Free) ⊎ ((d : ℕ) × (slice_get w.roles f ≡ Some (Page d)))) → ⊥
         by (inl free) =
@@ -144,16 +162,16 @@ module _ (x : Ended) (e : Event) (r : Reply) (s : State) (w : View) (keeps : Pro
             cc
 
     book_now : (next (next s a) e).book ≡ w.state.book
-    book_now = ap (λ (z : State). z.book) after_now ∙ sym (ap (λ (z : State). z.book) t.after)
+    book_now = ap (λ (z : State). z.book) after_now ∙ sym (ap (λ (z : State). z.book) after_then)
 
     well_now : IsWellFormed (next s a)
     well_now = (kept-next s a t.well).0
 
     cells_now : (slot : Slot) → map.get (next (next s a) e).spaces slot ≡ option_map (fill (frame_at v) bytes slot) (map.get w.state.spaces slot)
     cells_now slot =
-        ap (λ (z : State). map.get z.spaces slot) after_now ∙ get_filled (frame_at v) bytes (next v.state e).spaces slot
-        ∙ by (map.get (next v.state e).spaces slot)
-        ∙ ap (option_map (fill (frame_at v) bytes slot)) (sym (ap (λ (z : State). map.get z.spaces slot) t.after ∙ get_filled (frame_at v) w.bytes (next v.state e).spaces slot))
+        ap (λ (z : State). map.get z.spaces slot) after_now ∙ get_filled (frame_at v) bytes (next s e).spaces slot
+        ∙ by (map.get (next s e).spaces slot)
+        ∙ ap (option_map (fill (frame_at v) bytes slot)) (sym (ap (λ (z : State). map.get z.spaces slot) after_then ∙ get_filled (frame_at v) w.bytes (next s e).spaces slot))
       where
         by : (z : Option Cell) → option_map (fill (frame_at v) bytes slot) z ≡ option_map (fill (frame_at v) bytes slot) (option_map (fill (frame_at v) w.bytes slot) z)
         by None = refl
@@ -170,14 +188,25 @@ module _ (x : Ended) (e : Event) (r : Reply) (s : State) (w : View) (keeps : Pro
       read_now kept all.1,
     )
 
+    get_now : (slot : Slot) → map.get (next s a).spaces slot ≡ option_map (fill (frame_at v) bytes slot) (map.get s.spaces slot)
+    get_now slot = ap (λ (z : State). map.get z.spaces slot) state_now ∙ get_filled (frame_at v) bytes s.spaces slot
+
+    alike_now : Alike v.state (next s a)
+    alike_now = alike_then v.state s (next s a) t.alike (alike_filled s (next s a) (frame_at v) bytes (ap (λ (z : State). z.book) state_now) get_now)
+
+    flags_now : FlagsGrow s (next s a)
+    flags_now slot c at = (fill (frame_at v) bytes slot c, get_now slot ∙ ap (option_map (fill (frame_at v) bytes slot)) at, λ h. h, λ h. h)
+
     taken_now : Taken v e (next s a) later keeps
     taken_now = record {
       before = t.before;
       well = well_now;
-      read = t.read;
-      state = state_now;
-      after = after_now;
+      alike = alike_now;
+      read = λ j. flags_read v s (next s a) flags_now (keeps j) (t.read j);
+      state = again (frame_at v) bytes s (next s a) state_now;
       names = names_same w good.stands.0 bytes (next (next s a) e) (frame_at v) long_now fixed_now book_now (kept-next (next s a) e well_now).0 t.names cells_now;
+      homes = λ slot word d is live. t.homes slot word d (word_same w good.stands.0 bytes (next (next s a) e) (frame_at v) long_now fixed_now book_now (kept-next (next s a) e well_now).0 t.names cells_now slot word is) live;
+      tables = λ p region f is. t.tables p region f (linked_same w good.stands.0 bytes (next (next s a) e) (frame_at v) long_now fixed_now book_now (kept-next (next s a) e well_now).0 t.names cells_now p region f is);
       pages = t.pages;
       long = long_now ∙ t.long;
     }
@@ -185,18 +214,157 @@ module _ (x : Ended) (e : Event) (r : Reply) (s : State) (w : View) (keeps : Pro
     one_stored : IsOne (under_way x e r s w) (a ∷ []) (q ∷ []) (under_way x e r (next s a) later) keeps
     one_stored =
         is_event (under_way x e r s w) (under_way x e r (next s a) later) a q keeps
-        (l.found ∙ sym (kept_answer v t.before w.bytes l.frames a served) ∙ ap (λ (z : State). answer z a) (sym t.state))
+        (l.found ∙ sym (kept_answer v t.before s t.alike t.well w.bytes l.frames a served) ∙ ap (λ (z : State). answer z a) (sym t.state))
         refl
         (record {
           stands = (
             core_now,
             λ j. read_now (left_by x (keeps j)) (good.stands.1 j),
             refl,
-            good.stands.3 ∙ ap (λ (z : State). answer z e) t.state ∙ answer_filled (frame_at v) w.bytes v.state e takes
-                ∙ sym (ap (λ (z : State). answer z e) state_now ∙ answer_filled (frame_at v) bytes v.state e takes),
+            good.stands.3 ∙ sym (ap (λ (z : State). answer z e) state_now ∙ answer_filled (frame_at v) bytes s e takes),
           );
           taken = λ _. (v, taken_now);
         })
+
+-- ---- An access by a walk, and a mark
+
+-- what is read after a step without end
+stay_read : (w u : View) → Ends end.Nothing w u → (kept : List Kept) → AreRead w kept → AreRead u kept
+stay_read w u ends kept all = subst (AreRead u) (none_left kept) (left_read end.Nothing w u kept ends all)
+
+-- a mark writes in a directory
+mark_leaves : (w : View) → IsCore w → (u : View) → (k : IsMarked w u) → u.bytes ≡ with_walked w.bytes k.directory k.page k.walked → LeavesFree w u
+mark_leaves w core u k is f free =
+    let role = (core.image.memory.sound.directories k.directory k.pid).1 k.live in
+    let within = slice_get_within w.roles k.directory (Directory k.pid) role in
+    let size = core.image.memory.sound.size in
+    let user = k.user in
+    let high = user.1 in
+    let apart : f ≢ k.directory = λ same. (
+    let n : ◌≡◌ {A = Option Role} (Some Free) (Some (Directory k.pid)) = sym free ∙ ap (slice_get w.roles) same ∙ role in
+    cc) in
+    ap (λ b. frame_bytes b f) is
+    ∙ ap (λ (m : ℕ → List ℕ). m f) (frames-with_word w.bytes k.directory (slot_number k.page) (walked_word k.walked (word_at w.bytes (word_place k.directory (slot_number k.page)))) (omega (arith, high)) (omega (arith, within, size)))
+    ∙ with_frame-other (frame_bytes w.bytes) k.directory f (with_word_in (frame_bytes w.bytes k.directory) (slot_number k.page) (walked_word k.walked (word_at w.bytes (word_place k.directory (slot_number k.page))))) apart
+
+-- what any such step leaves, where the order's state grows to another
+onward : (x : Ended) (e : Event) (r : Reply) (s t : State) (w u : View) (keeps : Processors) → only_takes e.call ≡ true → (v : View) → Taken v e s w keeps → IsCore w → IsCore u
+    → w.state ≡ next s e → u.state ≡ next t e → u.directories ≡ w.directories → u.roles ≡ w.roles → Ends end.Nothing w u → LeavesFree w u → IsWellFormed t → t.book ≡ s.book → Grows s.spaces t.spaces
+    → ((slot : Slot) → map.contains_key u.state.spaces slot ≡ map.contains_key w.state.spaces slot)
+    → ((slot : Slot) (c d : Cell) → map.get s.spaces slot ≡ Some c → map.get t.spaces slot ≡ Some d → is_some (map.get w.state.spaces slot) ≡ false
+    → ((b : Slot) (k : Cell) → is_some (map.get w.state.spaces b) ≡ true → map.get s.spaces b ≡ Some k → set.contains k.holders slot ≡ false) → d.bytes ≡ c.bytes)
+    → Taken v e t u keeps
+onward x e r s t w u keeps takes v k core later state_w state_u dirs roles ends free well book grows keys beside = record {
+  before = k.before;
+  well = well;
+  alike = alike;
+  read = λ j. flags_read v s t flags (keeps j) (k.read j);
+  state = ap (λ (S : Spaces). record t { spaces = S }) (same_map _ _ (λ slot. full slot (map.get t.spaces slot) refl ∙ sym (get_filled (frame_at v) u.bytes t.spaces slot)));
+  names = names_u;
+  homes = λ slot word d is live.
+      let old = names_onward w u core later ends (λ q h. sym (keys q) ∙ h) slot word is in
+      k.homes slot old.0 d old.1 (ap (λ (l : List (Option ℕ)). directory_of l slot.pid) (sym dirs) ∙ live);
+  tables = λ p region f is. k.tables p region f (tables_onward w u core later ends (λ q h. sym (keys q) ∙ h) p region f is);
+  pages = λ f c is. subst (λ (l : List Role). (slice_get l f ≡ Some Free) ⊎ ((d : ℕ) × (slice_get l f ≡ Some (Page d)))) (sym roles) (k.pages f c is);
+  long = later.image.memory.sound.size ∙ ap (λ (l : List Role). 4096 * length l) roles ∙ sym core.image.memory.sound.size ∙ k.long;
+}
+  where
+    names_u : (slot : Slot) (word : ℕ) → page_word (memory_of u) slot ≡ Some word → frame_at v slot ≡ frame_number word
+    names_u slot word is = let old = names_onward w u core later ends (λ q h. sym (keys q) ∙ h) slot word is in k.names slot old.0 old.1 ∙ old.2
+
+    alike : Alike v.state t
+    alike = alike_then v.state s t k.alike (record { book = book; cells = λ slot c at. (let d = grows.cells slot c at in (d.0, d.1, d.2)); back = grows.back })
+
+    flags : FlagsGrow s t
+    flags slot c at = let d = grows.cells slot c at in (d.0, d.1, d.3.0, d.3.1)
+
+    bytes : (slot : Slot) (d : Cell) → map.get t.spaces slot ≡ Some d → d.bytes ≡ frame_bytes u.bytes (frame_at v slot)
+    bytes = full_onward v k.before s t k.alike (alike_then v.state s t k.alike (record { book = book; cells = λ slot c at. (let d = grows.cells slot c at in (d.0, d.1, d.2)); back = grows.back }))
+        well e takes w u core later state_w state_u k.names
+        (λ slot word is. (let old = names_onward w u core later ends (λ q h. sym (keys q) ∙ h) slot word is in k.names slot old.0 old.1 ∙ old.2))
+        (λ slot. sym (keys slot)) k.pages free k.state beside
+
+    full : (slot : Slot) (z : Option Cell) → map.get t.spaces slot ≡ z → map.get t.spaces slot ≡ option_map (fill (frame_at v) u.bytes slot) (map.get t.spaces slot)
+    full slot None is = is ∙ sym (ap (option_map (fill (frame_at v) u.bytes slot)) is)
+    full slot (Some d) is = is ∙ ap (λ l. Some (with_bytes d l)) (bytes slot d is) ∙ sym (ap (option_map (fill (frame_at v) u.bytes slot)) is)
+
+one_walked : (x : Ended) (e : Event) (r : Reply) (s : State) (w u : View) (keeps : Processors) → only_takes e.call ≡ true → Good (under_way x e r s w) keeps
+    → (a : Event) (q : Reply) → IsWalked w a q u → LeavesFree w u → IsOne (under_way x e r s w) (a ∷ []) (q ∷ []) (under_way x e r (next s a) u) keeps
+one_walked x e r s w u keeps takes good a q k free =
+    let core = good.stands.0 in
+    let state = good.stands.2 in
+    let t = good.taken takes in
+    let pages = pages_in s t.1.well e takes w core state a k.directory k.live k.finds in
+    let done = done_in s t.1.well e takes w core state a k.directory k.live k.finds in
+    let later = done_after s t.1.well e takes w core state a k.directory k.live k.finds in
+    let mapped = mapped_before s e a.pid a.call pages in
+    let now : u.state ≡ next (next s a) e = k.left.state ∙ ap (λ (z : State). next z a) state ∙ turned s e a takes pages done later in
+    let grows = next_grows s a done mapped in
+    let book = next_book s a done mapped in
+    let keys : (slot : Slot) → map.contains_key u.state.spaces slot ≡ map.contains_key w.state.spaces slot = λ slot.
+    ap (λ (z : State). map.contains_key z.spaces slot) (k.left.state ∙ ap (λ (z : State). next z a) state)
+    ∙ keys_of (next s e).spaces (next (next s e) a).spaces (next_grows (next s e) a later (mapped_after s e a.pid a.call (next s e) refl pages)) slot
+    ∙ sym (ap (λ (z : State). map.contains_key z.spaces slot) state) in
+    is_event (under_way x e r s w) (under_way x e r (next s a) u) a q keeps
+    (k.found ∙ sym (answered w a k.directory core k.finds k.live) ∙ same_answer s t.1.well e takes w core state a k.directory k.live k.finds)
+    refl
+    (record {
+      stands = (
+        k.left.core,
+        λ j. stay_read w u k.left.ends (left_by x (keeps j)) (good.stands.1 j),
+        now,
+        good.stands.3 ∙ sym (answer_alike s (next s a) e takes book grows),
+      );
+      taken = λ _. (
+        t.0,
+        onward x e r s (next s a) w u keeps takes t.0 t.1 core k.left.core state now k.left.directories k.left.roles k.left.ends free (kept-next s a t.1.well).0 book grows keys
+            (bytes_beside s t.1.well e takes w core state a k.directory k.live k.finds),
+      );
+    })
+
+one_marked : (x : Ended) (e : Event) (r : Reply) (s : State) (w u : View) (keeps : Processors) → only_takes e.call ≡ true → Good (under_way x e r s w) keeps
+    → IsMarked w u → IsOne (under_way x e r s w) [] [] (under_way x e r s u) keeps
+one_marked x e r s w u keeps takes good k =
+    let core = good.stands.0 in
+    let t = good.taken takes in
+    let left = k.left (lives w core k.pid k.directory k.live) in
+    is_none (under_way x e r s w) (under_way x e r s u) keeps refl
+    (record {
+      stands = (left.core, λ j. stay_read w u left.ends (left_by x (keeps j)) (good.stands.1 j), left.state ∙ good.stands.2, good.stands.3);
+      taken = λ _. (
+        t.0,
+        onward x e r s s w u keeps takes t.0 t.1 core left.core good.stands.2 (left.state ∙ good.stands.2) left.directories left.roles left.ends (mark_leaves w core u k left.bytes) t.1.well refl (grows_same s.spaces)
+            (λ slot. ap (λ (z : State). map.contains_key z.spaces slot) left.state)
+            (λ slot c d at now gone out. (let e : Some d ≡ Some c = sym now ∙ at in let q : d ≡ c = cc in ap (λ (z : Cell). z.bytes) q)),
+      );
+    })
+
+-- a processor keeps one more
+more_kept : (m : Moment) (keeps : Processors) (i : ℕ) (k : Kept) → IsRead (memory_in m) k → Good m keeps → Good m (with_kept keeps i (k ∷ keeps i))
+more_kept (settled x w) keeps i k read good = record {
+  stands = (good.stands.0, left_more x w keeps i k read good.stands.1);
+  taken = tt;
+}
+more_kept (under_way x e r s w) keeps i k read good = record {
+  stands = (good.stands.0, left_more x w keeps i k read good.stands.1, good.stands.2, good.stands.3);
+  taken = λ takes.
+      let t = good.taken takes in (
+        t.0,
+        record {
+          before = t.1.before;
+          well = t.1.well;
+          alike = t.1.alike;
+          read = read_with (with_state t.0 s) keeps i (k ∷ keeps i) t.1.read
+              (read_before t.0 t.1.before s t.1.alike e takes w good.stands.0 good.stands.2 t.1.names t.1.homes t.1.tables k read, t.1.read i);
+          state = t.1.state;
+          names = t.1.names;
+          homes = t.1.homes;
+          tables = t.1.tables;
+          pages = t.1.pages;
+          long = t.1.long;
+        },
+      );
+}
 
 -- ---- One step
 
@@ -213,10 +381,12 @@ fewer_kept (under_way x e r s w) keeps i left among good = record {
         record {
           before = t.1.before;
           well = t.1.well;
-          read = read_with t.0 keeps i left t.1.read (among_read t.0 left (keeps i) among (t.1.read i));
+          alike = t.1.alike;
+          read = read_with (with_state t.0 s) keeps i left t.1.read (among_read (with_state t.0 s) left (keeps i) among (t.1.read i));
           state = t.1.state;
-          after = t.1.after;
           names = t.1.names;
+          homes = t.1.homes;
+          tables = t.1.tables;
           pages = t.1.pages;
           long = t.1.long;
         },
@@ -236,10 +406,12 @@ step (begun {v = v} {w = w} {keeps = keeps} {e = e} {r = r} b) good =
             record {
               before = good.stands.0;
               well = good.stands.0.well_formed;
+              alike = alike_same v.state;
               read = read;
               state = filled_first v w good.stands.0 b.carried.core e takes b.carried.state b.stay stand;
-              after = filled_after v w good.stands.0 b.carried.core e takes b.carried.state b.stay stand;
               names = names_stay v w good.stands.0 b.carried.core e takes b.carried.state b.stay stand;
+              homes = homes_stay v w good.stands.0 b.carried.core e takes b.carried.state b.stay stand;
+              tables = tables_stay v w good.stands.0 b.carried.core e takes b.carried.state b.stay stand;
               pages = λ f c is. (stand.each f c is).1;
               long = long_stays v w good.stands.0 b.carried.core e takes b.carried.state b.stay stand;
             },
@@ -248,15 +420,15 @@ step (begun {v = v} {w = w} {keeps = keeps} {e = e} {r = r} b) good =
 step (loaded {x = x} {w = w} {s = s} {keeps = keeps} {e = e} {a = a} {r = r} {q = q} i takes l) good = one_loaded x e r s w keeps takes good i a q l
 step (stored {x = x} {w = w} {s = s} {keeps = keeps} {e = e} {a = a} {r = r} {q = q} {bytes = bytes} i takes l) good =
     one_stored x e r s w keeps takes good i a q bytes l
+step (walked {x = x} {w = w} {u = u} {s = s} {keeps = keeps} {e = e} {a = a} {r = r} {q = q} takes k free) good = one_walked x e r s w u keeps takes good a q k free
+step (marked {x = x} {w = w} {u = u} {s = s} {keeps = keeps} {e = e} {r = r} takes k) good = one_marked x e r s w u keeps takes good k
 step (ordered {x = x} {w = w} {s = s} {keeps = keeps} {e = e} {r = r}) good =
     is_event (under_way x e r s w) (settled x w) e r keeps good.stands.3 good.stands.2
     (record { stands = (good.stands.0, good.stands.1); taken = tt })
 step (usual {x = x} {v = v} {w = w} {keeps = keeps} {es = es} {rs = rs} own) good =
     let now = one own good.stands.0 good.stands.1 in
     record { replies = now.replies; state = now.state; good = record { stands = (now.core, now.kept); taken = tt } }
-step (refilled {x = x} {v = v} {keeps = keeps} i k read) good =
-    is_none (settled x v) (settled x v) (with_kept keeps i (k ∷ keeps i)) refl
-    (record { stands = (good.stands.0, left_more x v keeps i k read good.stands.1); taken = tt })
+step (refilled {m = m} {keeps = keeps} i k read) good = is_none m m (with_kept keeps i (k ∷ keeps i)) refl (more_kept m keeps i k read good)
 step (forgotten {m = m} {keeps = keeps} i left among) good = is_none m m (with_kept keeps i left) refl (fewer_kept m keeps i left among good)
 step (told {x = x} {v = v} {keeps = keeps} not) good =
     is_none (settled x v) (settled end.Nothing v) keeps refl

@@ -1,5 +1,5 @@
 -- What processors keep apart from what was ended.
-use Rattle.std.proofs.Common.{◌≡◌, ℕ, zero, suc, Bool, true, false, ◌==◌, List, [], ◌∷◌, refl, ap, sym, ◌∙◌, subst, Some}
+use Rattle.std.proofs.Common.{◌≡◌, ℕ, zero, suc, Bool, true, false, ◌==◌, List, [], ◌∷◌, refl, ap, ◌∙◌, subst, Some}
 use Rattle.std.specs.Prelude.{if◌then◌else◌, slice_get}
 use Rattle.process_table.specs.View.{View}
 use Rattle.kernel_calls.specs.Processors.{Processors, with_kept, all_left_by, AllAreRead, AreAmong}

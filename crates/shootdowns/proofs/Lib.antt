@@ -1,8 +1,15 @@
 pub mod Accesses
+pub mod Alike
 pub mod Filled
 pub mod InOrder
 pub mod Kept
+pub mod Onward
 pub mod Played
+pub mod Refilled
 pub mod Rewritten
 pub mod Stored
+pub mod Swapped
 pub mod Taking
+pub mod Turned
+pub mod Untouched
+pub mod WalkedIn

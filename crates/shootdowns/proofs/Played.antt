@@ -1,6 +1,5 @@
 -- Turns that are walks, in a window.
-use Rattle.std.proofs.Common.{◌≡◌, ℕ, true, false, List, [], ◌∷◌, ◌++◌, refl, ap, sym, ◌∙◌, subst, Option, Some, None}
-use Rattle.process_table.specs.State.{State}
+use Rattle.std.proofs.Common.{◌≡◌, true, List, [], ◌∷◌, sym, subst, Option, Some, None}
 use Rattle.process_table.specs.View.{View}
 use Rattle.address_space.specs.Stays.{FramesStay, LooseStay}
 use Rattle.process_table.specs.Image.{memory_of}
@@ -16,7 +15,7 @@ use Rattle.kernel_calls.specs.declared.translations.Ended.TheVariants as end
 use Rattle.kernel_calls.specs.declared.turns.Turn.{Turn}
 use Rattle.kernel_calls.specs.declared.turns.Turn.TheVariants as turn
 use Rattle.shootdowns.specs.Played.{all_walk, IsWindow}
-use Rattle.shootdowns.specs.Windows.{Begins, settled, under_way, begun, ordered, usual, Steps, none, first}
+use Rattle.shootdowns.specs.Windows.{settled, begun, ordered, usual, Steps, none, first}
 
 pub walks_steps : (turns : List Turn) (told : List (Option Reply)) (ended : List Ended) (x : Ended) (v w : View) → AreTurns turns told ended v w
     → all_walk turns ≡ true → (keeps : Processors) → Steps (settled x v) keeps (taken turns told) (told_in told) (settled x w) keeps

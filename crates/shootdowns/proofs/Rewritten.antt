@@ -1,6 +1,6 @@
 -- Memory in which bytes of pages and of free frames were written: its words stand, so that it is a core's as before.
-use Rattle.std.proofs.Common.{◌≡◌, ℕ, suc, zero, ◌+◌, ◌<◌, ◌^◌, Bool, true, false, cond, List, [], ◌∷◌, length, refl, ap, sym, ◌∙◌, subst, arith, Option, Some, None}
-use Rattle.std.specs.Prelude.{◌↔◌, ◌*◌, ◌&&◌, not, nat_le, if◌then◌else◌, IsTrue, MatchBool, is_some, nat_lt, slice_get, sum_by, Ok, Err, Result}
+use Rattle.std.proofs.Common.{◌≡◌, ℕ, ◌<◌, ◌^◌, Bool, true, false, List, [], ◌∷◌, length, refl, ap, sym, ◌∙◌, subst, arith, Option, Some, None}
+use Rattle.std.specs.Prelude.{◌↔◌, ◌*◌, ◌&&◌, not, nat_le, if◌then◌else◌, IsTrue, MatchBool, is_some, slice_get, sum_by, Ok, Err, Result}
 use Rattle.std.specs.Option.{option_and_then, option_map, unwrap_or}
 use Rattle.std.specs.List.{range_with_len}
 use Rattle.page_words.specs.Addresses.{page_number, slot_number, index_number}
@@ -20,13 +20,13 @@ use Rattle.table_walk.specs.Walk.{walk_of, first_that_applies, is_outside, is_wr
 use Rattle.address_space.specs.Image as memory
 use Rattle.address_space.specs.Image.{directory_at, table_at, word_of, named_by, is_user_slot, present_word, page_word, page_frame, is_lazy_at, IsCount, SlotStands, CellStands, IsOneGroup}
 use Rattle.address_space.specs.ImageWords.{is_lazy_word, own_frame, IsTableWord}
-use Rattle.address_space.specs.Spaces.{Slot, slot_order, Cell, with_bytes, slot_at, cost, at_page}
+use Rattle.address_space.specs.Spaces.{Slot, slot_order, Cell, with_bytes, slot_at, at_page}
 use Rattle.address_space.specs.Stays.{way_of, WaysAgree}
 use Rattle.address_space.specs.Walks.{WalksAgree, WalkEndsBy, FindsBytes, lacks_right}
 use Rattle.address_space.proofs.costs.AccessCosts.{cost-same}
 use Rattle.address_space.proofs.standing.FramesStand.{way_parts}
 use Rattle.address_space.proofs.standing.Restored.{from_map}
-use Rattle.process_table.specs.Image.{StandsFor, IsSoundImage, Account, IsCharge, image_of, memory_of, account_of, quota_from}
+use Rattle.process_table.specs.Image.{IsSoundImage, Account, IsCharge, image_of, memory_of, account_of, quota_from}
 use Rattle.process_table.specs.State.{State}
 use Rattle.process_table.specs.View.{View}
 use Rattle.process_table.specs.WellFormed.{IsWellFormed}
@@ -324,6 +324,12 @@ module _ (w : View) (core : IsCore w) (bytes : List ℕ) (t : State) (F : Slot �
 
   pub names_same : (slot : Slot) (word : ℕ) → page_word (memory_of x) slot ≡ Some word → F slot ≡ frame_number word
   names_same slot word is = names slot word (sym (page_same slot) ∙ is)
+
+  pub word_same : (slot : Slot) (word : ℕ) → page_word (memory_of x) slot ≡ Some word → page_word (memory_of w) slot ≡ Some word
+  word_same slot word is = sym (page_same slot) ∙ is
+
+  pub linked_same : (p s f : ℕ) → table_at (memory_of x) p s ≡ Some f → table_at (memory_of w) p s ≡ Some f
+  linked_same p s f is = sym (table_same p s) ∙ is
 
   -- ---- What is kept
 

@@ -11,7 +11,7 @@ use Rattle.page_words.proofs.MapLemmas.{same_map, same_or_not, get-insert, get-m
 use Rattle.phys_memory.specs.Bytes.{frame_bytes, IsInside, with_frame}
 use Rattle.phys_memory.proofs.Frames.{frames-with_byte, with_frame-same, with_frame-other, length-frame}
 use Rattle.address_space.specs.Kept.{kept_place, written_at}
-use Rattle.address_space.specs.Spaces.{Slot, slot_order, Cell, Spaces, at_page, slot_at, cell_or_fresh, fresh, with_bytes, set_bytes, write_at, stored, all_stored, bytes_of}
+use Rattle.address_space.specs.Spaces.{Slot, slot_order, Cell, Spaces, at_page, cell_or_fresh, fresh, with_bytes, set_bytes, write_at, stored, all_stored, bytes_of}
 use Rattle.address_space.proofs.steps.Stores.{byte_is_write}
 use Rattle.shootdowns.proofs.Filled.{fill, filled, get_filled}
 

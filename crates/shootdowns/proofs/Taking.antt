@@ -1,6 +1,6 @@
 -- Events that only take away: which slots stay, and on which frames.
-use Rattle.std.proofs.Common.{◌≡◌, ℕ, ◌*◌, ◌+◌, Bool, true, false, not, cond, List, [], ◌∷◌, length, refl, ap, sym, ◌∙◌, subst, arith, inl, inr, Option, Some, None, is_some, unwrap_or, ◌<◌}
-use Rattle.std.specs.Prelude.{◌⊎◌, if◌then◌else◌, IsTrue, slice_get}
+use Rattle.std.proofs.Common.{◌≡◌, ℕ, ◌*◌, Bool, true, false, not, cond, List, [], ◌∷◌, length, refl, ap, sym, ◌∙◌, arith, inl, inr, Option, Some, None, is_some, unwrap_or, ◌<◌}
+use Rattle.std.specs.Prelude.{◌⊎◌, if◌then◌else◌, slice_get}
 use Rattle.std.proofs.lemmas.Option.{slice_get_within}
 use Rattle.std.specs.FinMap.Entries.{find}
 use Rattle.std.specs.Option.{option_map, option_and_then}
@@ -14,16 +14,16 @@ use Rattle.page_words.specs.Words.{frame_number, is_lazy}
 use Rattle.phys_memory.specs.Bytes.{frame_bytes}
 use Rattle.alloc_table.specs.declared.Role.{Role}
 use Rattle.alloc_table.specs.declared.Role.TheVariants.{Reserved, Free, Page}
-use Rattle.address_space.specs.Image.{directory_at, page_word, page_frame, SlotStands, CellStands}
+use Rattle.address_space.specs.Image.{directory_at, table_at, page_word, page_frame, SlotStands}
 use Rattle.address_space.specs.ImageWords.{own_frame}
 use Rattle.address_space.specs.Spaces.{Slot, slot_order, Cell, Spaces, at_page, cell_or_fresh, fresh, with_bytes, without, protected, is_slot, is_of}
-use Rattle.address_space.specs.Stays.{way_of, FramesStay, LooseStay}
-use Rattle.address_space.proofs.standing.FramesStand.{way_parts, way_whole}
+use Rattle.address_space.specs.Stays.{FramesStay, LooseStay}
+use Rattle.address_space.proofs.standing.FramesStand.{way_parts}
 use Rattle.address_space.proofs.standing.TablesStand.{owned, own_is}
 use Rattle.address_space.proofs.standing.Restored.{from_map, from_then}
 use Rattle.process_table.specs.Image.{Account, memory_of, as_account}
 use Rattle.quota_tree.specs.Book.{Member}
-use Rattle.process_table.specs.State.{State, is_live, is_mapped}
+use Rattle.process_table.specs.State.{State}
 use Rattle.process_table.specs.View.{View}
 use Rattle.kernel_calls.specs.Gone.{gone_of_call, gone_by, gives_back}
 use Rattle.kernel_calls.specs.Machine.{answer, answer_of, after, next, completes}
@@ -33,16 +33,17 @@ use Rattle.kernel_calls.specs.declared.calls.Call.TheVariants as call
 use Rattle.kernel_calls.specs.declared.calls.Event.{Event}
 use Rattle.kernel_calls.proofs.CommutingGone.{fewer, get_gone}
 use Rattle.kernel_calls.proofs.Decided.{next-stays, next-goes}
+use Rattle.kernel_calls.proofs.Linked.{tables_map}
 use Rattle.kernel_calls.proofs.Runs.{kept-next}
 use Rattle.shootdowns.specs.Windows.{only_takes}
-use Rattle.shootdowns.proofs.Accesses.{frame_at, frame_is, word_mapped, way_at, lazy_zero}
-use Rattle.shootdowns.proofs.Filled.{fill, filled, filled_state, get_filled, next_filled, protects_mapped, completed}
+use Rattle.shootdowns.proofs.Accesses.{frame_at, frame_is, word_mapped, way_at, table_of_word, lazy_zero}
+use Rattle.shootdowns.proofs.Filled.{fill, filled_state, get_filled, protects_mapped, completed}
 
 -- a slot that is mapped afterwards was mapped before, and isn't gone
 abbrev Left : State → State → (Slot → ℕ → Bool) → Type 0
 Left s t gone = (slot : Slot) → is_some (map.get t.spaces slot) ≡ true → (is_some (map.get s.spaces slot) ≡ true) × ((f : ℕ) → gone slot f ≡ false)
 
-left_gone : (S : Spaces) (gone : Slot → Bool) (slot : Slot) → is_some (map.get (without S gone) slot) ≡ true
+pub left_gone : (S : Spaces) (gone : Slot → Bool) (slot : Slot) → is_some (map.get (without S gone) slot) ≡ true
     → (is_some (map.get S slot) ≡ true) × (gone slot ≡ false)
 left_gone S gone slot h = by (gone slot) refl (map.get S slot) (sym (ap is_some (get_gone S gone slot)) ∙ h)
   where
@@ -51,7 +52,7 @@ left_gone S gone slot h = by (gone slot) refl (map.get S slot) (sym (ap is_some 
     by false is None k = absurd (let e : false ≡ true = sym (ap (λ b. is_some (option_map (fewer gone) (cond (not b) None None))) is) ∙ k in cc)
     by false is (Some c) k = (refl, is)
 
-left_right : (S : Spaces) (at slot : Slot) (w : Bool) → is_some (map.get S at) ≡ true → is_some (map.get (protected S at w) slot) ≡ true
+pub left_right : (S : Spaces) (at slot : Slot) (w : Bool) → is_some (map.get S at) ≡ true → is_some (map.get (protected S at w) slot) ≡ true
     → is_some (map.get S slot) ≡ true
 left_right S at slot w there h = by (same_or_not slot_order slot at)
   where
@@ -109,7 +110,7 @@ by_loose : (v w : View) → LooseStay (memory_of v) (memory_of w) → PagesStand
 by_loose v w loose = record { each = λ f c is. loose.each f (inr (c, is)) }
 
 -- the bytes of a cell, by its word
-cell_bytes : (v : View) → IsCore v → (slot : Slot) (c : Cell) (word : ℕ) → map.get v.state.spaces slot ≡ Some c → page_word (memory_of v) slot ≡ Some word
+pub cell_bytes : (v : View) → IsCore v → (slot : Slot) (c : Cell) (word : ℕ) → map.get v.state.spaces slot ≡ Some c → page_word (memory_of v) slot ≡ Some word
     → c.bytes ≡ frame_bytes v.bytes (frame_number word)
 cell_bytes v core slot c word at is = by (page_word (memory_of v) slot) is (map.get v.state.spaces slot) at (core.image.memory.cells slot)
   where
@@ -163,7 +164,7 @@ none_gone s e page write is slot f =
     by false = refl
 
 -- a set that isn't empty has a member
-some_member : (s : Set slot_order) → 0 < set.len s → (slot : Slot) × (set.contains s slot ≡ true)
+pub some_member : (s : Set slot_order) → 0 < set.len s → (slot : Slot) × (set.contains s slot ≡ true)
 some_member s up = go s.entries up
   where
     go : (es : List (Slot × Unit {0})) → 0 < length es → (slot : Slot) × (is_some (find slot_order.cmp slot es) ≡ true)
@@ -240,6 +241,34 @@ module _ (v w : View) (before : IsCore v) (later : IsCore w) (e : Event) (takes 
       let same : frame_number word ≡ frame_number old.0 = cc in
       frame_is v slot old.0 old.1 ∙ sym same
 
+  -- its process has the directory that it had
+  pub homes_stay : (slot : Slot) (word d : ℕ) → page_word (memory_of w) slot ≡ Some word → directory_at (memory_of w) slot.pid ≡ Some d → directory_at (memory_of v) slot.pid ≡ Some d
+  homes_stay slot word d is live =
+      let left = left_next v.state e takes slot (sym (ap (λ (t : State). is_some (map.get t.spaces slot)) state) ∙ mapped_word w later slot word is) in
+      let cell = some_value (map.get v.state.spaces slot) left.0 in
+      let old = word_mapped v before slot cell.0 cell.1 in
+      let way = way_at v slot old.0 old.1 in
+      let first = way_parts (memory_of v) slot way.0 (frame_number old.0) way.1 in
+      let now = way_parts (memory_of w) slot way.0 (frame_number old.0) (stay.ways slot way.0 (frame_number old.0) (left.1 (frame_number old.0)) way.1) in
+      let e : Some way.0 ≡ Some d = sym now.live ∙ live in
+      let same : way.0 ≡ d = cc in
+      first.live ∙ ap Some same
+
+  -- a table that is linked afterwards was linked before
+  pub tables_stay : (p region t : ℕ) → table_at (memory_of w) p region ≡ Some t → table_at (memory_of v) p region ≡ Some t
+  tables_stay p region t is =
+      let maps = tables_map w later.image p region t is in
+      let slot : Slot = at_page p maps.page in
+      let left = left_next v.state e takes slot (sym (ap (λ (t : State). is_some (map.get t.spaces slot)) state) ∙ maps.mapped) in
+      let cell = some_value (map.get v.state.spaces slot) left.0 in
+      let old = word_mapped v before slot cell.0 cell.1 in
+      let way = way_at v slot old.0 old.1 in
+      let table = table_of_word v slot old.0 old.1 in
+      let now = stay.tables slot way.0 (frame_number old.0) table.0 (left.1 (frame_number old.0)) way.1 table.1 in
+      let e : Some table.0 ≡ Some t = sym now ∙ ap (table_at (memory_of w) p) maps.inside ∙ is in
+      let same : table.0 ≡ t = cc in
+      sym (ap (table_at (memory_of v) p) maps.inside) ∙ table.1 ∙ ap Some same
+
   -- the bytes of its frame stand
   bytes_stay : (slot : Slot) (word : ℕ) → page_word (memory_of v) slot ≡ Some word → frame_bytes v.bytes (frame_number word) ≡ frame_bytes w.bytes (frame_number word)
   bytes_stay slot word is = by (is_lazy word) refl
@@ -265,9 +294,6 @@ module _ (v w : View) (before : IsCore v) (later : IsCore w) (e : Event) (takes 
       by : (slot : Slot) (z : Option Cell) → map.get v.state.spaces slot ≡ z → map.get v.state.spaces slot ≡ option_map (fill (frame_at v) w.bytes slot) (map.get v.state.spaces slot)
       by slot None is = is ∙ sym (ap (option_map (fill (frame_at v) w.bytes slot)) is)
       by slot (Some c) is = is ∙ ap (λ l. Some (with_bytes c l)) (stands slot c is) ∙ sym (ap (option_map (fill (frame_at v) w.bytes slot)) is)
-
-  pub filled_after : w.state ≡ filled_state (frame_at v) w.bytes (next v.state e)
-  filled_after = state ∙ ap (λ (s : State). next s e) filled_first ∙ next_filled (frame_at v) w.bytes v.state e takes
 
   pub long_stays : length w.bytes ≡ length v.bytes
   long_stays =

@@ -1,5 +1,5 @@
 -- Windows that are played on a core: the event begins, and processors make accesses by their walks before it ends.
-use Rattle.std.specs.Prelude.{◌≡◌, Bool, true, false, ◌&&◌, List, [], ◌∷◌, Option}
+use Rattle.std.specs.Prelude.{◌≡◌, Bool, true, false, List, [], ◌∷◌, Option}
 use Rattle.process_table.specs.View.{View}
 use Rattle.kernel_calls.specs.Processors.{Processors}
 use Rattle.kernel_calls.specs.Translations.{ended_by}

@@ -1,6 +1,8 @@
--- Events whose end takes time: the core carries one out, and each processor goes on by what it keeps until it
--- invalidates what was ended. Which events that is, in which order.
+-- Shootdowns as they happen: the core carries out an event, and each processor uses what it keeps until it invalidates
+-- what the event ended. Which events such steps are, and in which order.
 use Rattle.std.specs.Prelude.{◌≡◌, ℕ, Bool, true, false, not, List, [], ◌∷◌, ◌++◌, Some, slice_get}
+use Rattle.phys_memory.specs.Bytes.{frame_bytes}
+use Rattle.alloc_table.specs.declared.Role.TheVariants.{Free}
 use Rattle.address_space.specs.Stays.{FramesStay, LooseStay}
 use Rattle.process_table.specs.Image.{memory_of}
 use Rattle.process_table.specs.State.{State}
@@ -9,7 +11,7 @@ use Rattle.kernel_calls.specs.Gone.{gone_by, gives_back}
 use Rattle.kernel_calls.specs.Kept.{reply_kept, bytes_kept, IsStore}
 use Rattle.kernel_calls.specs.Machine.{answer, answers, next, end_of}
 use Rattle.kernel_calls.specs.Processors as base
-use Rattle.kernel_calls.specs.Processors.{IsCore, Processors, with_kept, all_left_by, AllAreRead, AreAmong, LetCall, IsCarried, IsLoaded}
+use Rattle.kernel_calls.specs.Processors.{IsCore, Processors, with_kept, all_left_by, AllAreRead, AreAmong, LetCall, IsCarried, IsWalked, IsLoaded, IsMarked}
 use Rattle.kernel_calls.specs.Translations.{Kept, IsRead, ended_by, is_invalidated}
 use Rattle.kernel_calls.specs.declared.calls.Call.{Call}
 use Rattle.kernel_calls.specs.declared.calls.Call.TheVariants as call
@@ -27,7 +29,7 @@ only_takes (call.Protect page write) = not write
 only_takes call.Exit = true
 only_takes _ = false
 
--- The core carries out an event, and its reply isn't told yet (`Core::step_ending`). Each way that the event doesn't
+-- The core carries out an event, and its reply is not yet returned (`Core::step_ending`). Each way that the event doesn't
 -- take leads where it led. One that gives frames back leaves their bytes: a frame is cleared when it is given.
 pub record Begins (v : View) (e : Event) (r : Reply) (w : View) : Type 0 where
   pub carried : IsCarried v e r w
@@ -43,6 +45,11 @@ pub data Moment : Type 0 where
   -- all but the last, which ends these and is answered so, are in the order, whose state this is
   under_way : Ended → Event → Reply → State → View → Moment
 
+-- the memory then
+abbrev pub memory_in : Moment → View
+memory_in (settled x w) = w
+memory_in (under_way x e r s w) = w
+
 -- a processor stores by what it keeps, and makes memory this; that it is a core's isn't assumed
 pub record IsStale (kept : List Kept) (w : View) (a : Event) (q : Reply) (bytes : List ℕ) : Type 0 where
   pub store : IsStore a.call
@@ -51,13 +58,18 @@ pub record IsStale (kept : List Kept) (w : View) (a : Event) (q : Reply) (bytes 
   pub found : q ≡ reply_kept frames w.bytes a.call
   pub left : bytes ≡ bytes_kept frames w.bytes a.call
 
+-- no byte of a free frame is written
+abbrev pub LeavesFree : View → View → Type 0
+LeavesFree v w = (f : ℕ) → slice_get v.roles f ≡ Some Free → frame_bytes w.bytes f ≡ frame_bytes v.bytes f
+
 -- ---- Steps
 
--- One step, with the events that come next in the order, and what is told or read. A window begins when the core
--- carries out an event. While the event isn't in the order, and only takes away, processors load and store by all that
--- they keep. Then it is in the order, and processors do what they do between windows, except by what it ended. The
--- window closes when no processor keeps that: the reply is told, and the next event may begin. At all times a processor
--- may forget some of what it keeps, as one does that invalidates.
+-- One step, with the events that come next in the order, and their replies or the values read. A window begins when
+-- the core carries out an event, which comes in the order later. Until then, and if it only takes away, each processor
+-- makes accesses by all that it keeps or by its walk, and marks directories' words. Then the event comes in
+-- the order, and processors do what they do outside windows, except by what it ended. The window ends when no processor
+-- keeps that: then the event is replied to, and the next may begin. At each moment a processor may begin to keep what a
+-- walk reads then, or forget some of what it keeps, as one does that invalidates.
 pub data Step : Moment → Processors → List Event → List Reply → Moment → Processors → Type 0 where
   begun : {v w : View} {keeps : Processors} {e : Event} {r : Reply} → Begins v e r w
       → Step (settled end.Nothing v) keeps [] [] (under_way (ended_by v e) e r v.state w) keeps
@@ -68,13 +80,19 @@ pub data Step : Moment → Processors → List Event → List Reply → Moment �
       → only_takes e.call ≡ true → IsStale (keeps i) w a q bytes
       → Step (under_way x e r s w) keeps (a ∷ []) (q ∷ [])
       (under_way x e r (next s a) (record w { bytes = bytes; state = next (next s a) e })) keeps
+  walked : {x : Ended} {w u : View} {s : State} {keeps : Processors} {e a : Event} {r q : Reply}
+      → only_takes e.call ≡ true → IsWalked w a q u → LeavesFree w u
+      → Step (under_way x e r s w) keeps (a ∷ []) (q ∷ []) (under_way x e r (next s a) u) keeps
+  marked : {x : Ended} {w u : View} {s : State} {keeps : Processors} {e : Event} {r : Reply}
+      → only_takes e.call ≡ true → IsMarked w u
+      → Step (under_way x e r s w) keeps [] [] (under_way x e r s u) keeps
   ordered : {x : Ended} {w : View} {s : State} {keeps : Processors} {e : Event} {r : Reply}
       → Step (under_way x e r s w) keeps (e ∷ []) (r ∷ []) (settled x w) keeps
   usual : {x : Ended} {v w : View} {keeps : Processors} {es : List Event} {rs : List Reply}
       → base.Step v (all_left_by x keeps) es rs w (all_left_by x keeps)
       → Step (settled x v) keeps es rs (settled x w) keeps
-  refilled : {x : Ended} {v : View} {keeps : Processors} (i : ℕ) (k : Kept) → IsRead v k
-      → Step (settled x v) keeps [] [] (settled x v) (with_kept keeps i (k ∷ keeps i))
+  refilled : {m : Moment} {keeps : Processors} (i : ℕ) (k : Kept) → IsRead (memory_in m) k
+      → Step m keeps [] [] m (with_kept keeps i (k ∷ keeps i))
   forgotten : {m : Moment} {keeps : Processors} (i : ℕ) (left : List Kept) → AreAmong left (keeps i)
       → Step m keeps [] [] m (with_kept keeps i left)
   told : {x : Ended} {v : View} {keeps : Processors}
@@ -102,7 +120,7 @@ Stands (settled x w) keeps = IsCore w × AllAreRead w (all_left_by x keeps)
 Stands (under_way x e r s w) keeps =
     IsCore w × AllAreRead w (all_left_by x keeps) × (w.state ≡ next s e) × (r ≡ answer s e)
 
--- what is told and read is what the events are answered, in the order, and so stands each moment
+-- replies and values read are the answers to the events in the order, and so it stands at each moment
 pub record AreInOrder (v : View) (events : List Event) (told : List Reply) (m : Moment) (last : Processors) : Type 0 where
   pub replies : told ≡ answers v.state events
   pub state : state_of m ≡ end_of v.state events

@@ -2,8 +2,10 @@
 
 ghost use Rattle.shootdowns.specs.Windows.{ShootdownsMakeEvents};
 
-/// States which events any steps of a core and its processors are, if no processor stops for another's. It computes
-/// nothing.
+/// States which events the steps of a core and its processors are, where invalidating takes time. The accesses come in
+/// the order in which they are made. Each event comes in it between its begin and the last invalidation, after each
+/// access by what it ended. Only an event that only takes away may have such accesses. Replies and values are the answers to the events in that order,
+/// and memory is a core's at each moment. It computes nothing.
 pub fn shootdowns_make_events()
     ensures { ShootdownsMakeEvents }
 {}

@@ -1,7 +1,7 @@
-//! Shootdowns as they happen: events whose end takes time, on a core among processors.
+//! Shootdowns as they happen: a core carries out events, and processors invalidate what those end when they do.
 //!
-//! The core carries out an event, and each processor invalidates what that ended when it does. Until then it goes on
-//! by what it keeps. This crate says which events such steps are, and in which order (specs/Windows.antt).
+//! Until the last processor has invalidated, each uses what it keeps. This crate says which events such steps are, and
+//! in which order (specs/Windows.antt).
 #![tactic(auto)]
 
 mod laws;

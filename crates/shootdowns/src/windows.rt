@@ -1,13 +1,14 @@
-//! A window played on a core: the event begins, others go on, and only then all have invalidated.
+//! A window on a core: an event, and accesses of processors before all have invalidated what it ended.
 
 ghost use Rattle.std.specs.Prelude.{◌≡◌, length};
 ghost use Rattle.shootdowns.specs.Played.{IsWindow};
 
 use kernel_calls::{Core, Ended, Event, Reply, Turn};
 
-/// Carries out an event, and takes turns before any processor has invalidated what it ended. Returns the reply, which
-/// is told once all have, and what they have to invalidate. Each turn's value stands in its place, and so does what it
-/// ended: nothing, where the turn is an access.
+/// Carries out an event, and takes turns before any processor has invalidated what the event ended. Returns the reply,
+/// which its process gets once all have, and what they have to invalidate. The value of each turn is written in its
+/// place, and so is what it ended: nothing, if it is an access. If all turns are accesses by walks, these are the steps
+/// of a window, whatever processors keep.
 pub fn window(
     core: &mut Core,
     event: &Event,

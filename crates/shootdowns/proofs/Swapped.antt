@@ -1,0 +1,174 @@
+-- Accesses of mapped pages, and slots that go or lose a right, in either order.
+use Rattle.std.proofs.Common.{◌≡◌, ◌≢◌, ℕ, Bool, true, false, not, cond, ◌&&◌, List, refl, ap, sym, ◌∙◌, subst, inl, inr, Option, Some, None, unwrap_or}
+use Rattle.std.specs.Prelude.{◌⊎◌, if◌then◌else◌}
+use Rattle.std.specs.Option.{option_map}
+use Rattle.page_words.specs.FiniteMap as map
+use Rattle.page_words.specs.FiniteMap.{same}
+use Rattle.page_words.specs.FiniteSet as set
+use Rattle.page_words.specs.FiniteSet.{Set}
+use Rattle.page_words.proofs.MapLemmas.{same_map, same_or_not, same_itself, get-insert, get-map_values, contains-retain}
+use Rattle.address_space.specs.Spaces.{Slot, slot_order, Cell, Spaces, cell_or_fresh, fresh, with_bytes, set_bytes, write_at, stored, accessed, protected, without}
+use Rattle.process_table.proofs.CellLaws.{get-inserted, get-inserted_other}
+use Rattle.kernel_calls.proofs.Commuting.{two_slots}
+use Rattle.kernel_calls.proofs.CommutingGone.{fewer, get_gone, bytes_gone}
+
+-- what stands at a slot that stays
+pub get_staying : (S : Spaces) (gone : Slot → Bool) (b : Slot) → gone b ≡ false → map.get (without S gone) b ≡ option_map (fewer gone) (map.get S b)
+get_staying S gone b stays = get_gone S gone b ∙ ap (λ k. option_map (fewer gone) (cond (not k) (map.get S b) None)) stays
+
+cell_staying : (S : Spaces) (gone : Slot → Bool) (b : Slot) (c : Cell) → gone b ≡ false → map.get S b ≡ Some c → cell_or_fresh (without S gone) b ≡ fewer gone c
+cell_staying S gone b c stays at = ap (λ (z : Option Cell). unwrap_or z (fresh b true)) (get_staying S gone b stays ∙ ap (option_map (fewer gone)) at)
+
+cell_at : (S : Spaces) (b : Slot) (c : Cell) → map.get S b ≡ Some c → cell_or_fresh S b ≡ c
+cell_at S b c at = ap (λ (z : Option Cell). unwrap_or z (fresh b true)) at
+
+-- a slot that stays is set
+set_gone : (S : Spaces) (gone : Slot → Bool) (b : Slot) (y : Cell) → gone b ≡ false → without (map.insert S b y) gone ≡ map.insert (without S gone) b (fewer gone y)
+set_gone S gone b y stays = same_map _ _ (λ r.
+    get_gone (map.insert S b y) gone r
+    ∙ ap (λ (z : Option Cell). option_map (fewer gone) (cond (not (gone r)) z None)) (get-insert S b y r)
+    ∙ by r (same_or_not slot_order r b)
+    ∙ sym (get-insert (without S gone) b (fewer gone y) r ∙ ap (cond (same slot_order r b) (Some (fewer gone y))) (get_gone S gone r)))
+  where
+    by : (r : Slot) → ((r ≡ b) × (same slot_order r b ≡ true)) ⊎ (same slot_order r b ≡ false)
+        → option_map (fewer gone) (cond (not (gone r)) (cond (same slot_order r b) (Some y) (map.get S r)) None)
+        ≡ cond (same slot_order r b) (Some (fewer gone y)) (option_map (fewer gone) (cond (not (gone r)) (map.get S r) None))
+    by r (inl is) =
+        let here : gone r ≡ false = ap gone is.0 ∙ stays in
+        (λ i. option_map (fewer gone) (cond (not (here i)) (cond (is.1 i) (Some y) (map.get S r)) None))
+        ∙ sym (ap (λ k. cond k (Some (fewer gone y)) (option_map (fewer gone) (cond (not (gone r)) (map.get S r) None))) is.1)
+    by r (inr other) =
+        ap (λ k. option_map (fewer gone) (cond (not (gone r)) (cond k (Some y) (map.get S r)) None)) other
+        ∙ sym (ap (λ k. cond k (Some (fewer gone y)) (option_map (fewer gone) (cond (not (gone r)) (map.get S r) None))) other)
+
+-- a group's bytes, where some of the group are gone
+group_gone : (S : Spaces) (gone : Slot → Bool) (h : Set slot_order) (new : List ℕ)
+    → set_bytes (without S gone) (set.retain h (λ x. not (gone x))) new ≡ set_bytes (without S gone) h new
+group_gone S gone h new = same_map _ _ (λ r.
+    get-map_values slot_order (λ k (c : Cell). if set.contains (set.retain h (λ x. not (gone x))) k then with_bytes c new else c) (without S gone) r
+    ∙ by r (gone r) refl
+    ∙ sym (get-map_values slot_order (λ k (c : Cell). if set.contains h k then with_bytes c new else c) (without S gone) r))
+  where
+    none : (r : Slot) → gone r ≡ true → map.get (without S gone) r ≡ None
+    none r is = get_gone S gone r ∙ ap (λ k. option_map (fewer gone) (cond (not k) (map.get S r) None)) is
+
+    inside : (b : Bool) → (b && not false) ≡ b
+    inside true = refl
+    inside false = refl
+
+    by : (r : Slot) (b : Bool) → gone r ≡ b
+        → option_map (λ (c : Cell). if set.contains (set.retain h (λ x. not (gone x))) r then with_bytes c new else c) (map.get (without S gone) r)
+        ≡ option_map (λ (c : Cell). if set.contains h r then with_bytes c new else c) (map.get (without S gone) r)
+    by r true is =
+        ap (option_map (λ (c : Cell). if set.contains (set.retain h (λ x. not (gone x))) r then with_bytes c new else c)) (none r is)
+        ∙ sym (ap (option_map (λ (c : Cell). if set.contains h r then with_bytes c new else c)) (none r is))
+    by r false is =
+        ap (λ k. option_map (λ (c : Cell). if k then with_bytes c new else c) (map.get (without S gone) r))
+        (contains-retain h (λ x. not (gone x)) r ∙ ap (λ k. set.contains h r && not k) is ∙ inside (set.contains h r))
+
+-- ---- One page
+
+pub accessed_gone : (S : Spaces) (gone : Slot → Bool) (b : Slot) (c : Cell) → gone b ≡ false → map.get S b ≡ Some c
+    → without (accessed S b) gone ≡ accessed (without S gone) b
+accessed_gone S gone b c stays at =
+    ap (λ (k : Cell). without (map.insert S b (record k { accessed = true })) gone) (cell_at S b c at)
+    ∙ set_gone S gone b (record c { accessed = true }) stays
+    ∙ sym (ap (λ (k : Cell). map.insert (without S gone) b (record k { accessed = true })) (cell_staying S gone b c stays at))
+
+pub stored_gone : (S : Spaces) (gone : Slot → Bool) (b : Slot) (c : Cell) (o : ℕ) (ys : List ℕ) → gone b ≡ false → map.get S b ≡ Some c
+    → without (stored S b o ys) gone ≡ stored (without S gone) b o ys
+stored_gone S gone b c o ys stays at =
+    ap (λ (k : Cell). without (map.insert (set_bytes S k.holders (write_at k.bytes o ys)) b (record k { bytes = write_at k.bytes o ys; accessed = true; dirty = true })) gone) (cell_at S b c at)
+    ∙ set_gone (set_bytes S c.holders new) gone b (record c { bytes = new; accessed = true; dirty = true }) stays
+    ∙ ap (λ (T : Spaces). map.insert T b (fewer gone (record c { bytes = new; accessed = true; dirty = true })))
+    (bytes_gone S gone c.holders new ∙ sym (group_gone S gone c.holders new))
+    ∙ sym (ap (λ (k : Cell). map.insert (set_bytes (without S gone) k.holders (write_at k.bytes o ys)) b (record k { bytes = write_at k.bytes o ys; accessed = true; dirty = true })) (cell_staying S gone b c stays at))
+  where
+    new : List ℕ
+    new = write_at c.bytes o ys
+
+twice : (S : Spaces) (a : Slot) (x y : Cell) → map.insert (map.insert S a x) a y ≡ map.insert S a y
+twice S a x y = same_map _ _ (λ r.
+    get-insert (map.insert S a x) a y r ∙ ap (cond (same slot_order r a) (Some y)) (get-insert S a x r)
+    ∙ by (same slot_order r a) (map.get S r) ∙ sym (get-insert S a y r))
+  where
+    by : (b : Bool) (z : Option Cell) → cond b (Some y) (cond b (Some x) z) ≡ cond b (Some y) z
+    by true z = refl
+    by false z = refl
+
+pub accessed_right : (S : Spaces) (a b : Slot) (w : Bool) → protected (accessed S b) a w ≡ accessed (protected S a w) b
+accessed_right S a b w = by (same_or_not slot_order a b)
+  where
+    set_right : Option Cell → Cell
+    set_right z = record (unwrap_or z (fresh a true)) { write = w }
+
+    set_accessed : Option Cell → Cell
+    set_accessed z = record (unwrap_or z (fresh b true)) { accessed = true }
+
+    apart : same slot_order a b ≡ false → a ≢ b
+    apart other is = let k : true ≡ false = sym (same_itself slot_order b) ∙ sym (ap (λ q. same slot_order q b) is) ∙ other in cc
+
+    own : (T : Spaces) → protected (accessed T a) a w ≡ accessed (protected T a w) a
+    own T =
+        ap (λ (z : Option Cell). map.insert (accessed T a) a (record (unwrap_or z (fresh a true)) { write = w })) (get-inserted T a (record (cell_or_fresh T a) { accessed = true }))
+        ∙ twice T a (record (cell_or_fresh T a) { accessed = true }) (record (cell_or_fresh T a) { accessed = true; write = w })
+        ∙ sym (twice T a (record (cell_or_fresh T a) { write = w }) (record (cell_or_fresh T a) { accessed = true; write = w }))
+        ∙ sym (ap (λ (z : Option Cell). map.insert (protected T a w) a (record (unwrap_or z (fresh a true)) { accessed = true })) (get-inserted T a (record (cell_or_fresh T a) { write = w })))
+
+    by : ((a ≡ b) × (same slot_order a b ≡ true)) ⊎ (same slot_order a b ≡ false) → protected (accessed S b) a w ≡ accessed (protected S a w) b
+    by (inl is) = subst (λ q. protected (accessed S q) a w ≡ accessed (protected S a w) q) is.0 (own S)
+    by (inr other) = two_slots a b (apart other) (λ z. record (unwrap_or z (fresh a true)) { write = w }) (λ z. record (unwrap_or z (fresh b true)) { accessed = true }) S
+
+pub stored_right : (S : Spaces) (a b : Slot) (c d : Cell) (w : Bool) (o : ℕ) (ys : List ℕ) → a ≢ b → map.get S b ≡ Some c → map.get S a ≡ Some d
+    → protected (stored S b o ys) a w ≡ stored (protected S a w) b o ys
+stored_right S a b c d w o ys apart at there = same_map _ _ (λ r.
+    get-insert (stored S b o ys) a (record (cell_or_fresh (stored S b o ys) a) { write = w }) r
+    ∙ (λ i. cond (same slot_order r a) (Some (record (left i) { write = w })) (one r i))
+    ∙ by r (same_or_not slot_order r a) (same_or_not slot_order r b)
+    ∙ sym (ap (λ (k : Cell). map.get (map.insert (set_bytes (protected S a w) k.holders (write_at k.bytes o ys)) b (record k { bytes = write_at k.bytes o ys; accessed = true; dirty = true })) r) right
+    ∙ get-insert (set_bytes (protected S a w) c.holders (write_at c.bytes o ys)) b (record c { bytes = write_at c.bytes o ys; accessed = true; dirty = true }) r
+    ∙ ap (cond (same slot_order r b) (Some (record c { bytes = write_at c.bytes o ys; accessed = true; dirty = true })))
+    (get-map_values slot_order (λ q (k : Cell). if set.contains c.holders q then with_bytes k (write_at c.bytes o ys) else k) (protected S a w) r
+    ∙ ap (option_map (λ (k : Cell). if set.contains c.holders r then with_bytes k (write_at c.bytes o ys) else k))
+    (get-insert S a (record (cell_or_fresh S a) { write = w }) r ∙ ap (λ (k : Cell). cond (same slot_order r a) (Some (record k { write = w })) (map.get S r)) (cell_at S a d there)))))
+  where
+    one : (r : Slot) → map.get (stored S b o ys) r ≡ cond (same slot_order r b) (Some (record c { bytes = write_at c.bytes o ys; accessed = true; dirty = true })) (option_map (λ (k : Cell). if set.contains c.holders r then with_bytes k (write_at c.bytes o ys) else k) (map.get S r))
+    one r =
+        ap (λ (k : Cell). map.get (map.insert (set_bytes S k.holders (write_at k.bytes o ys)) b (record k { bytes = write_at k.bytes o ys; accessed = true; dirty = true })) r) (cell_at S b c at)
+        ∙ get-insert (set_bytes S c.holders (write_at c.bytes o ys)) b (record c { bytes = write_at c.bytes o ys; accessed = true; dirty = true }) r
+        ∙ ap (cond (same slot_order r b) (Some (record c { bytes = write_at c.bytes o ys; accessed = true; dirty = true })))
+        (get-map_values slot_order (λ q (k : Cell). if set.contains c.holders q then with_bytes k (write_at c.bytes o ys) else k) S r)
+
+    other_slot : same slot_order a b ≡ false
+    other_slot = flip (same_or_not slot_order a b)
+      where
+        flip : ((a ≡ b) × (same slot_order a b ≡ true)) ⊎ (same slot_order a b ≡ false) → same slot_order a b ≡ false
+        flip (inl is) = absurd (apart is.0)
+        flip (inr is) = is
+
+    left : cell_or_fresh (stored S b o ys) a ≡ (if set.contains c.holders a then with_bytes d (write_at c.bytes o ys) else d)
+    left = ap (λ (z : Option Cell). unwrap_or z (fresh a true))
+        (one a ∙ ap (λ k. cond k (Some (record c { bytes = write_at c.bytes o ys; accessed = true; dirty = true })) (option_map (λ (k : Cell). if set.contains c.holders a then with_bytes k (write_at c.bytes o ys) else k) (map.get S a))) other_slot
+        ∙ ap (option_map (λ (k : Cell). if set.contains c.holders a then with_bytes k (write_at c.bytes o ys) else k)) there)
+
+    right : cell_or_fresh (protected S a w) b ≡ c
+    right = ap (λ (z : Option Cell). unwrap_or z (fresh b true)) (get-inserted_other S a (record (cell_or_fresh S a) { write = w }) b (λ is. apart (sym is)) ∙ at)
+
+    pick : (k : Bool) → record (if k then with_bytes d (write_at c.bytes o ys) else d) { write = w } ≡ (if k then with_bytes (record d { write = w }) (write_at c.bytes o ys) else record d { write = w })
+    pick true = refl
+    pick false = refl
+
+    by : (r : Slot) → ((r ≡ a) × (same slot_order r a ≡ true)) ⊎ (same slot_order r a ≡ false) → ((r ≡ b) × (same slot_order r b ≡ true)) ⊎ (same slot_order r b ≡ false)
+        → cond (same slot_order r a) (Some (record (if set.contains c.holders a then with_bytes d (write_at c.bytes o ys) else d) { write = w }))
+        (cond (same slot_order r b) (Some (record c { bytes = write_at c.bytes o ys; accessed = true; dirty = true })) (option_map (λ (k : Cell). if set.contains c.holders r then with_bytes k (write_at c.bytes o ys) else k) (map.get S r)))
+        ≡ cond (same slot_order r b) (Some (record c { bytes = write_at c.bytes o ys; accessed = true; dirty = true })) (option_map (λ (k : Cell). if set.contains c.holders r then with_bytes k (write_at c.bytes o ys) else k) (cond (same slot_order r a) (Some (record d { write = w })) (map.get S r)))
+    by r (inl one) (inl two) = absurd (apart (sym one.0 ∙ two.0))
+    by r (inl one) (inr two) =
+        (λ i. cond (one.1 i) (Some (record (if set.contains c.holders (sym one.0 i) then with_bytes d (write_at c.bytes o ys) else d) { write = w }))
+        (cond (same slot_order r b) (Some (record c { bytes = write_at c.bytes o ys; accessed = true; dirty = true })) (option_map (λ (k : Cell). if set.contains c.holders r then with_bytes k (write_at c.bytes o ys) else k) (map.get S r))))
+        ∙ ap (λ (k : Cell). Some k) (pick (set.contains c.holders r))
+        ∙ sym (λ i. cond (two i) (Some (record c { bytes = write_at c.bytes o ys; accessed = true; dirty = true })) (option_map (λ (k : Cell). if set.contains c.holders r then with_bytes k (write_at c.bytes o ys) else k) (cond (one.1 i) (Some (record d { write = w })) (map.get S r))))
+    by r (inr one) two =
+        ap (λ q. cond q (Some (record (if set.contains c.holders a then with_bytes d (write_at c.bytes o ys) else d) { write = w }))
+        (cond (same slot_order r b) (Some (record c { bytes = write_at c.bytes o ys; accessed = true; dirty = true })) (option_map (λ (k : Cell). if set.contains c.holders r then with_bytes k (write_at c.bytes o ys) else k) (map.get S r)))) one
+        ∙ sym (ap (λ q. cond (same slot_order r b) (Some (record c { bytes = write_at c.bytes o ys; accessed = true; dirty = true })) (option_map (λ (k : Cell). if set.contains c.holders r then with_bytes k (write_at c.bytes o ys) else k) (cond q (Some (record d { write = w })) (map.get S r)))) one)
