@@ -10,12 +10,12 @@ use Prelude.{cost-insert, kept, given, quota_of, OfferKey, State, is_live, is_ma
 use Prelude.{after_map, after_load, after_store, BadPage, Mapped, Quota, IsCellAt, IsOfferIn, IsWellFormed, same_Some}
 use Prelude.{some_value, no_value}
 use Rattle.std.proofs.Common.{◌/◌, ◌%◌, ◌++◌, take, drop}
+use Rattle.page_words.specs.Addresses.{page_and}
+use Rattle.address_space.specs.Spaces.{store_in}
 use Rattle.std.proofs.lemmas.List.{length-replicate}
 use Rattle.std.proofs.lemmas.Bool.{cases_lt, cases_eq, le-ltb}
 use Rattle.std.proofs.lemmas.List.Elements.{All-nil, All-cons, All-append, All-take, All-drop, All-replicate}
-use Rattle.page_words.specs.Addresses.{page_and}
 use Rattle.page_words.specs.declared.addresses.Size.TheVariants.{One}
-use Rattle.address_space.specs.Spaces.{store_in}
 use Rattle.address_space.proofs.costs.AccessNeeds.{need-in_one, need-in_two, cost-with_page}
 use Rattle.address_space.proofs.costs.MapFirst.{IsThere, AreThere, touched-there, first_there, rest_there, bytes_there}
 use Rattle.address_space.proofs.steps.Stores.{length-write_at, written_long}

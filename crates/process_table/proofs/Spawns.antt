@@ -7,10 +7,10 @@ use Prelude.{Cell, Spaces, cost, at_page, directory_of, live_cost, total_cost, B
 use Prelude.{number_of_children, next_number, Containers, IsLive, used_of, total_used, split_answer, after_split}
 use Prelude.{Offers, room, child_of, as_container, container_of, spawn_refusal, state_of, IsProcesses, Cause, not-true}
 use Rattle.std.proofs.Common.{Result}
+use Rattle.quota_tree.specs.Containers.{room_of, fitting, opening}
 use Rattle.page_words.specs.declared.addresses.Pid.{Pid}
 use Rattle.address_space.specs.Image.{Image, StandsFor, SlotStands, directory_at, page_word, image_of}
 use Rattle.quota_tree.specs.declared.QuotaFault.{QuotaFault}
-use Rattle.quota_tree.specs.Containers.{room_of, fitting, opening}
 use Rattle.process_table.specs.TestAnswers.{translated, child_unless, spawn_answer}
 use Rattle.process_table.proofs.Charged.{differ, room-for}
 use Rattle.process_table.proofs.Ranges.{found}

@@ -2,7 +2,7 @@
 use Rattle.address_space.proofs.Prelude
 use Prelude.{◌≡◌, ℕ, zero, suc, ◌+◌, ◌*◌, ◌<◌, ◌≤◌, Bool, true, false, cond, List, [], ◌∷◌, length, refl, ap, sym, ◌∙◌}
 use Prelude.{subst, arith, inl, inr, Option, Some, None, ◌⊎◌, ◌↔◌, ◌&&◌, is_some, slice_get, slice_index, nat_lt}
-use Prelude.{nat_le, IsTrue, unwrap_or, if◌then◌else◌, option_and_then, option_map, cases_lt, nat_tests}
+use Prelude.{nat_le, IsTrue, if◌then◌else◌, unwrap_or, option_and_then, option_map, cases_lt, nat_tests}
 use Prelude.{slice_get_within, slot_number, index_number, frame_number, is_present, is_lazy, NamesPage, Set, same_set}
 use Prelude.{frame_bytes, word_in, length-frame, byte-frame, Role, Reserved, Free, Directory, Table, Page, PageEntry}
 use Prelude.{Frames, dir_word, word_table, table_of, word_entry, entry_from, count_range-same, Slot, slot_order, Cell}
@@ -10,9 +10,9 @@ use Prelude.{at_page, Entries, holders_of, spaces_of, Image, IsSoundImage, Stand
 use Prelude.{is_user_slot, named_by, table_at, page_word, page_frame, own_frame, Directories, directory_of, table_in}
 use Prelude.{entry_in, entries_in, spaces_in, IsCounted, pages_by, Tables, HoldsPage, IsSound, InUse, IsSpaces}
 use Rattle.std.proofs.Common.{map as list_map}
+use Rattle.address_space.specs.Image.{CellStands, IsCount}
 use Rattle.std.specs.List.{All, range_with_len}
 use Rattle.std.proofs.lemmas.List.{get_or_default}
-use Rattle.address_space.specs.Image.{CellStands, IsCount}
 use Rattle.address_space.specs.Restored.{HasRoom, words_by, words_where, counted_at}
 use Rattle.address_space.proofs.costs.CostSteps.{keys}
 use Rattle.address_space.proofs.costs.Weighed.{weighs}

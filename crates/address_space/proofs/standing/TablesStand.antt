@@ -1,14 +1,15 @@
 -- Tables and pages as an image names them, where directories and tables agree with the roles.
 use Rattle.address_space.proofs.Prelude
 use Prelude.{◌≡◌, ℕ, ◌+◌, ◌*◌, ◌<◌, ◌≤◌, Bool, true, false, cond, List, [], ◌∷◌, length, drop, refl, ap, sym, ◌∙◌}
-use Prelude.{subst, arith, inl, inr, Option, Some, None, length-drop, ◌⊎◌, ◌↔◌, ◌&&◌, slice_get, slice_index, nat_lt}
-use Prelude.{nat_le, IsTrue, MatchBool, ◌==◌, ◌||◌, unwrap_or, if◌then◌else◌, option_and_then, option_map, list_any}
-use Prelude.{cases_lt, nat_tests, slice_get_within, slot_number, index_number, frame_number, is_present, is_lazy}
-use Prelude.{IsKernelTableWord, NamesPage, same, same_or_not, same_itself, contains-insert, frame_bytes, word_at}
-use Prelude.{word_in, Role, Directory, Table, PageEntry, Frames, dir_word, word_table, table_of, word_entry, entry_from}
-use Prelude.{is_lazy_entry, Slot, slot_order, user_slots, Entries, names, group_of, cell_of, spaces_of, holders_of}
-use Prelude.{Image, word_of, is_user_slot, named_by, table_at, is_lazy_at, page_word, page_frame, SlotStands}
-use Prelude.{image_from, own_frame, Directories, directory_of, table_in, entry_in, entries_in, Tables, eqb-true, eq-eqb}
+use Prelude.{subst, arith, inl, inr, Option, Some, None, length-drop, ◌==◌, ◌||◌, ◌⊎◌, ◌↔◌, ◌&&◌, slice_get}
+use Prelude.{slice_index, nat_lt, nat_le, IsTrue, MatchBool, if◌then◌else◌, unwrap_or, option_and_then, option_map}
+use Prelude.{list_any, cases_lt, nat_tests, slice_get_within, slot_number, index_number, frame_number, is_present}
+use Prelude.{is_lazy, IsKernelTableWord, NamesPage, same, same_or_not, same_itself, contains-insert, frame_bytes}
+use Prelude.{word_at, word_in, Role, Directory, Table, PageEntry, Frames, dir_word, word_table, table_of, word_entry}
+use Prelude.{entry_from, is_lazy_entry, Slot, slot_order, user_slots, Entries, names, group_of, cell_of, spaces_of}
+use Prelude.{holders_of, Image, word_of, is_user_slot, named_by, table_at, is_lazy_at, page_word, page_frame}
+use Prelude.{SlotStands, image_from, own_frame, Directories, directory_of, table_in, entry_in, entries_in, Tables}
+use Prelude.{eqb-true, eq-eqb}
 use Rattle.address_space.specs.Image.{IsOneGroup, present_word}
 use Rattle.address_space.proofs.entries.UserSlots.{in_user_slots}
 use Rattle.address_space.proofs.entries.EntrySteps.{get-entries_in, entry_by_table}
