@@ -2,8 +2,8 @@
 use Rattle.process_table.proofs.Prelude
 use Prelude.{◌≡◌, ℕ, ◌+◌, ◌<◌, ◌≤◌, ◌&&◌, Bool, true, false, cond, List, [], ◌∷◌, length, refl, sym, ap, subst, ◌∙◌}
 use Prelude.{Option, Some, None, is_some, sum_by, arith, unwrap_or, nat_lt, if◌then◌else◌, option_and_then, option_map}
-use Prelude.{range_with_len, nat_tests, sum_by-cons, slice_get_within, slot_number, index_number, nat_order, Set, Slot}
-use Prelude.{Cell, Spaces, pages_of, regions_of, cost, at_page, directory_at, table_at, page_word, present_word}
+use Prelude.{range_with_len, nat_tests, sum_by-cons, slice_get_within, slot_number, index_number, Slot}
+use Prelude.{Cell, Spaces, pages_of, regions_of, cost, at_page, table_at, page_word, present_word}
 use Prelude.{word_of, directory_of, contains-pages_of, Member, is_child, given, quota_of, State, is_live, View, Account}
 use Prelude.{as_account, account_of, memory_of, IsCharge, quota_from, IsSoundImage, StandsFor, is_some-map, some_value}
 use Rattle.std.proofs.Common.{◌*◌, filter}

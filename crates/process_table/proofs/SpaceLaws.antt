@@ -3,7 +3,7 @@ use Rattle.process_table.proofs.Prelude
 use Prelude.{◌≡◌, ◌≢◌, ℕ, ◌+◌, ◌<◌, ◌≤◌, ◌&&◌, not, Bool, true, false, List, [], ◌∷◌, length, refl, sym, ap, subst, ◌∙◌}
 use Prelude.{Option, Some, None, is_some, unwrap_or, arith, inl, inr, zero, suc, if◌then◌else◌, nat_lt, nat_le, IfSome}
 use Prelude.{option_map, All, nat_tests, IsUserPage, is_user_page, byte_count, offset_number, page_number, second_page}
-use Prelude.{touched, EachTouched, Size, same, Set, get-map_values, same_cases, Slot, slot_order, Cell, Spaces, cost}
+use Prelude.{touched, EachTouched, Size, get-map_values, same_cases, Slot, slot_order, Cell, Spaces, cost}
 use Prelude.{cost_of, need, page_need, access_need, fresh, cell_or_fresh, accessed, stored, with_page, with_pages}
 use Prelude.{all_accessed, all_stored, set_bytes, with_bytes, write_at, bytes_of, slot_at, at_page, same_pages}
 use Prelude.{cost-insert, kept, given, quota_of, OfferKey, State, is_live, is_mapped, overdrawn, room, map_refusal}

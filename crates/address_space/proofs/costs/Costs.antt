@@ -1,7 +1,7 @@
 -- The pages of a process, and what one more page adds to the costs.
 use Rattle.address_space.proofs.Prelude
 use Prelude.{◌≡◌, ℕ, ◌+◌, Bool, true, false, cond, ◌||◌, ◌==◌, List, [], ◌∷◌, map, refl, sym, ap, ◌∙◌, Option, Some}
-use Prelude.{None, arith, ◌&&◌, if◌then◌else◌, is_some, list_any, where_key, is_some-find, Order, Map, nat_order, same}
+use Prelude.{None, arith, ◌&&◌, if◌then◌else◌, is_some, list_any, where_key, is_some-find, nat_order, same}
 use Prelude.{Set, slot_number, Slot, slot_order, slot_cmp, Cell, Spaces, cost, cost_of, need, pages_of, regions_of}
 use Prelude.{at_page, get-insert, same_set, contains-insert, contains-from_list, len-insert, list_any-map}
 use Rattle.page_words.proofs.MapLemmas.{list_any-put}

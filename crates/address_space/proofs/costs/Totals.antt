@@ -1,6 +1,6 @@
 -- What each process and all together cost after each kind of change, as laws of the definitions.
 use Rattle.address_space.proofs.Prelude.{◌≡◌, ◌≢◌, ℕ, ◌+◌, ◌<◌, ◌≤◌, Bool, true, false, cond, not, List, refl, ap, sym}
-use Rattle.address_space.proofs.Prelude.{◌∙◌, arith, Option, Some, None, is_some, if◌then◌else◌, option_map, same, Set}
+use Rattle.address_space.proofs.Prelude.{◌∙◌, arith, Option, Some, None, is_some, if◌then◌else◌, option_map, same}
 use Rattle.address_space.proofs.Prelude.{get-map_values, Slot, slot_order, Cell, Spaces, cost, cost_of, need, accessed}
 use Rattle.address_space.proofs.Prelude.{stored, protected, joined, set_holders, with_holders, cell_or_fresh, without}
 use Rattle.address_space.proofs.Prelude.{at_page, directory_of, total_cost, some_value}

@@ -4,7 +4,7 @@ use Prelude.{◌≡◌, ◌≢◌, ℕ, ◌^◌, ◌<◌, ◌≤◌, Bool, true,
 use Prelude.{Option, Some, None, option_and_then, list_any, cases_eq, slot_number, index_number, IsKernelDirWord}
 use Prelude.{IsKernelTableWord, is_present, word_in, with_word_in, with_frame, with_frame-same, with_frame-other}
 use Prelude.{word_in_same, word_in_other, length-with_word_in, Reserved, Directory, Table, PageEntry, Frames}
-use Prelude.{word_table, table_of, word_entry, entry_at, Slot, slot_order, at_page, collect, same, user_slots}
+use Prelude.{word_table, table_of, word_entry, entry_at, Slot, slot_order, at_page, same, user_slots}
 use Prelude.{same_or_not, same_itself, get-insert, same_map, get-collect, Directories, Roles, table_in, entry_in}
 use Prelude.{entries_in, Tables, InUseAt}
 use Rattle.address_space.proofs.entries.UserSlots.{in_user_slots}

@@ -2,7 +2,7 @@
 use Rattle.address_space.proofs.Prelude
 use Prelude.{◌≡◌, ℕ, ◌+◌, ◌*◌, ◌<◌, ◌≤◌, Bool, true, false, cond, List, [], ◌∷◌, length, take, drop, refl, ap, sym, ◌∙◌}
 use Prelude.{arith, Option, Some, None, length-drop, slice_index, slice_get, is_some, option_and_then, option_map}
-use Prelude.{get_or-drop, is_some-map, slot_number, same, frame_bytes, word_at, Role, Page, Frames, entry_at}
+use Prelude.{get_or-drop, is_some-map, slot_number, frame_bytes, word_at, Role, Page, Frames, entry_at}
 use Prelude.{IsKernelEntry, PageEntry, nat_tests, Slot, need, value_of, bytes_at, at_page, Entries, group_of, cell_of}
 use Prelude.{spaces_of, holders_of, Directories, directory_of, entry_in, entries_in, spaces_in, table_in, IsSound}
 use Prelude.{InUse, Inside}

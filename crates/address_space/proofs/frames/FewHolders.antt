@@ -2,7 +2,7 @@
 use Rattle.address_space.proofs.Prelude
 use Prelude.{◌≡◌, ℕ, zero, suc, ◌+◌, ◌*◌, ◌<◌, ◌≤◌, Bool, true, false, cond, List, [], ◌∷◌, length, refl, ap, arith}
 use Prelude.{Option, Some, None, length-append, range_with_len, Page, PageEntry, Frames, change_each, collect, put_some}
-use Prelude.{same, where_key, length-map, Slot, slot_order, at_page, user_slots, slots_below, len-insert, Entries}
+use Prelude.{where_key, length-map, Slot, slot_order, at_page, user_slots, slots_below, len-insert, Entries}
 use Prelude.{names, holders_of, nothing, Directories, Roles, entry_in, entries_in, Pages}
 use Rattle.std.proofs.Common.{map as map_list}
 use Rattle.std.proofs.Math.Nat.{add-mul}

@@ -1,7 +1,7 @@
 -- How pages and their counts change with one entry, and what the bytes of pages give.
 use Rattle.address_space.proofs.Prelude
 use Prelude.{Bool, ◌≡◌, ◌≢◌, ℕ, ◌+◌, true, false, cond, List, refl, ap, sym, ◌∙◌, subst, arith, inl, inr, Option, Some}
-use Prelude.{None, ◌⊎◌, option_map, cases_eq, ne_eqb, Reserved, Free, Directory, Table, Page, PageEntry, Map, same}
+use Prelude.{None, ◌⊎◌, option_map, cases_eq, ne_eqb, Reserved, Free, Directory, Table, Page, PageEntry, same}
 use Prelude.{Slot, slot_order, same_or_not, same_itself, get-insert, same_map, same_set, len-insert, Entries, names}
 use Prelude.{holders_of, group_of, lazy_count, cell_of, spaces_of, Roles, Pages, HoldsPage}
 use Rattle.address_space.proofs.entries.Removal.{put_back, removed, kept_other}

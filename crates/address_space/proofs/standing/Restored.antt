@@ -3,7 +3,7 @@ use Rattle.address_space.proofs.Prelude
 use Prelude.{◌≡◌, ℕ, zero, suc, ◌+◌, ◌*◌, ◌<◌, ◌≤◌, Bool, true, false, cond, List, [], ◌∷◌, length, refl, ap, sym, ◌∙◌}
 use Prelude.{subst, arith, inl, inr, Option, Some, None, ◌⊎◌, ◌↔◌, ◌&&◌, is_some, slice_get, slice_index, nat_lt}
 use Prelude.{nat_le, IsTrue, if◌then◌else◌, unwrap_or, option_and_then, option_map, cases_lt, nat_tests}
-use Prelude.{slice_get_within, slot_number, index_number, frame_number, is_present, is_lazy, NamesPage, Set, same_set}
+use Prelude.{slice_get_within, slot_number, index_number, frame_number, is_present, is_lazy, NamesPage, same_set}
 use Prelude.{frame_bytes, word_in, length-frame, byte-frame, Role, Reserved, Free, Directory, Table, Page, PageEntry}
 use Prelude.{Frames, dir_word, word_table, table_of, word_entry, entry_from, count_range-same, Slot, slot_order, Cell}
 use Prelude.{at_page, Entries, holders_of, spaces_of, Image, IsSoundImage, StandsFor, image_from, directory_at, word_of}

@@ -1,34 +1,34 @@
 -- What a copy of a page leaves, and then a copy of all pages of a process.
 use Rattle.address_space.proofs.Prelude
-use Prelude.{names, Entries, group_of, lazy_count, cell_of, spaces_of, ◌≡◌, ◌≢◌, ℕ, ◌+◌, ◌*◌, ◌^◌, ◌<◌, ◌≤◌, true}
+use Prelude.{names, Entries, group_of, spaces_of, ◌≡◌, ◌≢◌, ℕ, ◌+◌, ◌<◌, ◌≤◌, true}
 use Prelude.{false, cond, List, length, refl, ap, sym, ◌∙◌, subst, arith, inl, inr, Option, Some, None, length-set}
 use Prelude.{◌==◌, unwrap_or, option_and_then, option_map, ◌⊎◌, is_some, slice_get, if◌then◌else◌, slot_number}
 use Prelude.{IsUserPage, frame_number, Map, get-insert, same_itself, same_map, same_apart, some_value, frame_bytes}
 use Prelude.{with_frame, with_frame_bytes, with_frame-same, with_frame-other, length-frame, frames-with_frame_bytes}
-use Prelude.{Role, Free, Table, Page, frames_weight, IsTaken, weight-taken, PageEntry, Frames, dir_word, table_of}
-use Prelude.{entry_at, with_entry, entry_word, is_lazy_entry, IsKernelEntry, entry_word-names, entry_word-lt}
-use Prelude.{entry_word-present, word_entry-entry_word, Slot, slot_order, Cell, Spaces, cell_or_fresh, copy_of, copied}
+use Prelude.{Role, Free, Page, IsTaken, weight-taken, PageEntry, Frames, dir_word, table_of}
+use Prelude.{entry_at, with_entry, is_lazy_entry}
+use Prelude.{Slot, slot_order, Cell, Spaces, cell_or_fresh, copy_of, copied}
 use Prelude.{copied_at, cost, cost_of, fresh, pages_of, regions_of, at_page, Directories, Roles, directory_of, table_in}
-use Prelude.{entry_in, entries_in, spaces_in, live_cost, total_cost, Tables, Pages, IsSound, IsSpaces, InUseAt}
+use Prelude.{entry_in, entries_in, spaces_in, live_cost, total_cost, Tables, IsSound, IsSpaces, InUseAt}
 use Prelude.{TableGiven, IsEmptySpace, SlotCopied, PageCopied, CopiedBelow, PagesCopied, cases_eq, cases_lt, ne_eqb}
 use Prelude.{eq-eqb, nat_eq_equiv, none_goes}
 use Rattle.address_space.proofs.costs.Copied.{get-copied}
 use Rattle.address_space.proofs.costs.Costed.{Room, mapped}
 use Rattle.address_space.proofs.costs.Costs.{same_pages}
-use Rattle.address_space.proofs.costs.CostSteps.{total-entry, total-insert, sum_one}
+use Rattle.address_space.proofs.costs.CostSteps.{total-insert, sum_one}
 use Rattle.address_space.proofs.costs.Sizes.{cost-within}
-use Rattle.address_space.proofs.entries.EntrySteps.{Loose, get-entries_in, entries-insert, tables-entry, tables_kept, use_own, use_kept}
+use Rattle.address_space.proofs.entries.EntrySteps.{Loose, get-entries_in}
 use Rattle.address_space.proofs.entries.Refinement.{get-spaces_of, lone_refines, alone_lazy, alone_real, cell_at}
 use Rattle.address_space.proofs.entries.Readings.{mapped_read}
 use Rattle.address_space.proofs.entries.UserSlots.{in_user_slots}
 use Rattle.address_space.proofs.frames.FrameSteps.{loose-tables, loose-entries, tables-loose, tables-role, use_loose}
-use Rattle.address_space.proofs.frames.PageSteps.{same_bytes, pages-fresh, pages-lazy, lazy-more, lazy-real, no_free, no_table, unused}
-use Rattle.address_space.proofs.steps.Steps.{IsReady, entry_added, inside, live_small, none_before, table_by_word, role_own, role_other, free_loose, page_loose, holds_inside, MapStays, map_kept}
+use Rattle.address_space.proofs.frames.PageSteps.{same_bytes, pages-fresh, pages-lazy, lazy-more, lazy-real, no_free, unused}
+use Rattle.address_space.proofs.steps.Steps.{IsReady, entry_added, inside, live_small, none_before, role_own, role_other, free_loose, page_loose, holds_inside, MapStays, map_kept}
 use Rattle.address_space.proofs.steps.Stores.{get_user, entry_rules}
 use Rattle.address_space.proofs.steps.Departures.{no_cell_outside, no_cell_unmapped}
 use Rattle.address_space.proofs.steps.Openings.{empty_cost}
 use Rattle.address_space.proofs.standing.Standing.{same_entry, read_entry}
-use Rattle.address_space.proofs.entries.Staying.{stay_same, stay_then, stay_new, places_by, places_then}
+use Rattle.address_space.proofs.entries.Staying.{stay_same, places_by, places_then}
 use Rattle.page_words.specs.FiniteMap as map
 use Rattle.page_words.specs.FiniteSet as set
 

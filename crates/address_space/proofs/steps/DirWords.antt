@@ -1,15 +1,15 @@
 -- Accessed of a directory word says nothing of the spaces.
 use Rattle.address_space.proofs.Prelude
 use Prelude.{◌≡◌, ◌≢◌, ℕ, ◌^◌, ◌<◌, Bool, true, false, List, length, refl, ap, sym, ◌∙◌, subst, arith, inl, inr, Option}
-use Prelude.{Some, None, slice_get, if◌then◌else◌, option_and_then, cases_eq, cases_lt, slot_number, index_number}
+use Prelude.{Some, None, slice_get, if◌then◌else◌, option_and_then, cases_eq, cases_lt, slot_number}
 use Prelude.{frame_bytes, word_at, word_place, with_word, word_in, with_word_in, with_frame, with_frame-same}
 use Prelude.{with_frame-other, word_in_same, word_in_other, length-with_word_in, frames-with_word, word_in-frame, Role}
-use Prelude.{Reserved, Free, Directory, Table, Page, PageEntry, Frames, word_table, table_of, word_entry, with_flag_lt}
+use Prelude.{Reserved, Free, Directory, Table, Page, PageEntry, Frames, word_table, table_of, with_flag_lt}
 use Prelude.{walked_word, with_walked, Slot, holders_of, spaces_of, Directories, Roles, directory_of, table_in}
 use Prelude.{entry_in, entries_in, spaces_in, total_cost, Tables, Pages, IsSound, InUse, Touched, none_goes}
 use Rattle.page_words.specs.Words.{with_flag, frame_number, is_present, IsKernelDirWord, IsKernelTableWord, NamesTable}
 use Rattle.page_words.proofs.Flags.{flag-with_flag_other, frame-with_flag}
-use Rattle.address_space.proofs.entries.EntrySteps.{same_entries, entry_by_table, entry_kept}
+use Rattle.address_space.proofs.entries.EntrySteps.{same_entries, entry_kept}
 use Rattle.address_space.proofs.frames.PageSteps.{same_bytes, no_directory}
 use Rattle.address_space.proofs.standing.TablesStand.{past_end}
 use Rattle.address_space.proofs.steps.Steps.{inside, sound_by}

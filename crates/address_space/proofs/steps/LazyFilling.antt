@@ -1,6 +1,6 @@
 -- What a lazy page that got a frame of its own leaves.
 use Rattle.address_space.proofs.Prelude
-use Prelude.{EntriesStay, of_lazy, ◌≡◌, ◌≢◌, ℕ, ◌+◌, ◌*◌, ◌^◌, ◌<◌, ◌≤◌, true, false, List, length, replicate, refl, ap}
+use Prelude.{EntriesStay, of_lazy, ◌≡◌, ◌≢◌, ℕ, ◌+◌, ◌^◌, ◌<◌, ◌≤◌, true, false, List, length, replicate, refl, ap}
 use Prelude.{sym, ◌∙◌, subst, arith, inr, Option, Some, None, length-set, slice_get, option_and_then, length-replicate}
 use Prelude.{slot_number, frame_number, frame_bytes, with_frame, with_frame-same, with_frame-other, Role, Reserved}
 use Prelude.{Free, Table, Page, free_frames, frames_weight, IsTaken, weight-taken, PageEntry, Frames, dir_word}
@@ -15,7 +15,7 @@ use Rattle.address_space.proofs.frames.FrameSteps.{tables-role}
 use Rattle.address_space.proofs.frames.PageSteps.{same_bytes, pages-more, unused, unused_count, no_free, no_table, lazy-filled, lazy-fewer, holders-less}
 use Rattle.address_space.proofs.entries.Refinement.{fill_refines}
 use Rattle.address_space.proofs.steps.Stores.{found, get_user, entry_rules, frame_written}
-use Rattle.address_space.proofs.entries.Staying.{stay_same, stay_then, stay_filled, places_by}
+use Rattle.address_space.proofs.entries.Staying.{stay_filled, places_by}
 use Rattle.page_words.specs.FiniteMap as map
 use Rattle.page_words.specs.FiniteSet as set
 

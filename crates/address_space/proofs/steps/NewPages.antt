@@ -2,14 +2,14 @@
 use Rattle.address_space.proofs.Prelude
 use Prelude.{◌≡◌, ℕ, ◌+◌, ◌*◌, ◌^◌, ◌<◌, ◌≤◌, Bool, false, List, length, refl, ap, sym, ◌∙◌, subst, arith, inl, inr}
 use Prelude.{Option, Some, None, ◌≢◌, true, length-set, is_some, slice_get, slice_set, option_and_then, slot_number}
-use Prelude.{IsUserPage, frame_number, frame_bytes, Role, Page, Table, free_frames, IsPageBelow, frames_weight}
-use Prelude.{PageEntry, Frames, dir_word, table_of, entry_at, with_entry, entry_word, IsKernelEntry, Slot, at_page}
-use Prelude.{fresh, cell_or_fresh, copy_of, joined, directory_of, table_in, entries_in, spaces_in, Directories, Roles}
-use Prelude.{total_cost, IsSound, IsSpaces, Names, Inside, Tables, Pages, InUseAt, IsCounted, AreCountedSpaces}
+use Prelude.{IsUserPage, frame_number, frame_bytes, Role, Page, free_frames, IsPageBelow, frames_weight}
+use Prelude.{PageEntry, Frames, dir_word, table_of, entry_at, with_entry, Slot, at_page}
+use Prelude.{fresh, cell_or_fresh, copy_of, joined, directory_of, table_in, entries_in, spaces_in, Roles}
+use Prelude.{IsSound, IsSpaces, Names, Inside, Tables, IsCounted, AreCountedSpaces}
 use Prelude.{KeepsCounts, AlwaysMapsAlike, MapsOneMore, region_pages, pages_under, table_need, TableGiven, SlotAdded}
-use Prelude.{PageAdded, SlotJoined, SlotCopied, PageCopied, with_frame-other, weight-set, entry_word-names}
-use Prelude.{entry_word-lt, entry_word-present, word_entry-entry_word, change_each, collect, put_some, same, Entries}
-use Prelude.{lazy_count, cell_of, spaces_of, some_value, ne_eqb, none_goes}
+use Prelude.{PageAdded, SlotJoined, SlotCopied, PageCopied, weight-set}
+use Prelude.{Entries}
+use Prelude.{spaces_of, some_value, ne_eqb}
 use Rattle.address_space.specs.Finds.{TableReady, CountedUp, EntryCopied}
 use Rattle.address_space.proofs.costs.Costed.{Room, room_for_table, room_for_page, mapped}
 use Rattle.address_space.proofs.steps.CountSteps.{counted_roles, table_counted, table_count, count_there, count_fits, page_counted, one_inserted, alike_taken}
@@ -18,12 +18,9 @@ use Rattle.address_space.proofs.steps.Stores.{HasPage, page_of_name}
 use Rattle.address_space.proofs.frames.FewHolders.{count_few}
 use Rattle.address_space.proofs.costs.Totals.{key-joined}
 use Rattle.address_space.proofs.steps.Copies.{copied_entry, lazy_copied, real_copied, frame_copied, entry_stays, page_copied}
-use Rattle.address_space.proofs.costs.CostSteps.{total-entry}
-use Rattle.address_space.proofs.entries.EntrySteps.{entries-insert, tables-entry, tables_kept, use_own, use_kept}
 use Rattle.address_space.proofs.frames.FrameSteps.{tables-role}
-use Rattle.address_space.proofs.frames.PageSteps.{same_bytes, pages-join, no_table, lazy-real}
+use Rattle.address_space.proofs.frames.PageSteps.{same_bytes, pages-join, lazy-real}
 use Rattle.address_space.proofs.entries.Refinement.{get-spaces_of, join_refines}
-use Rattle.address_space.proofs.entries.Staying.{stay_same, stay_then, stay_new, places_by}
 use Rattle.page_words.specs.FiniteMap as map
 
 -- ---- What a slot that joins a group leaves.

@@ -3,7 +3,7 @@ use Rattle.address_space.proofs.Prelude
 use Prelude.{◌≡◌, ◌≢◌, ℕ, zero, suc, ◌+◌, ◌*◌, ◌<◌, ◌≤◌, Bool, true, false, cond, List, length, replicate, refl, ap}
 use Prelude.{sym, ◌∙◌, subst, arith, inl, inr, Option, Some, None, length-set, drop, ◌⊎◌, is_some, slice_get, slice_set}
 use Prelude.{if◌then◌else◌, sum_by, option_and_then, option_map, unwrap_or, list_any, range_with_len, cases_eq}
-use Prelude.{length-replicate, get_or-drop, sum_by-cons, slice_get_within, is_present, collect, same, slot_number}
+use Prelude.{length-replicate, get_or-drop, sum_by-cons, slice_get_within, is_present, same, slot_number}
 use Prelude.{index_number, same_map, same_set, get-collect, frame_bytes, blank_bytes, word_at, word_in, with_frame}
 use Prelude.{Role, Reserved, Free, Directory, Table, Page, frames_weight, weight, IsTaken, opening_roles, free_frames}
 use Prelude.{weight-taken, get-set_same, get-set_other, PageEntry, Frames, dir_word, word_table, word_entry, table_of}

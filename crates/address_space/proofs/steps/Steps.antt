@@ -9,7 +9,7 @@ use Prelude.{frames-with_frame_bytes, entry_word-names, entry_word-lt, entry_wor
 use Prelude.{length-replicate, PageEntry, Frames, dir_word, word_table, table_of, with_table, with_entry, entry_word}
 use Prelude.{IsKernelEntry, IsPageMap, Slot, fresh, at_page, slot_order, Entries, lazy_count, cell_of, spaces_of}
 use Prelude.{Directories, Roles, directory_of, table_in, entry_in, entries_in, spaces_in, total_cost, Tables, Pages}
-use Prelude.{HoldsPage, IsSound, InUseAt, Inside, TableGiven, PageAdded, table_need, SlotAdded, none_goes, get-insert}
+use Prelude.{HoldsPage, IsSound, InUseAt, Inside, TableGiven, PageAdded, table_need, SlotAdded, get-insert}
 use Prelude.{same_itself}
 use Rattle.address_space.proofs.entries.Refinement.{lazy_refines, get-spaces_of}
 use Rattle.address_space.proofs.costs.CostSteps.{total-entry}

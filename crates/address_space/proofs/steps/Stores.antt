@@ -6,10 +6,10 @@ use Prelude.{is_some, slice_get, slice_set, if◌then◌else◌, splice, option_
 use Prelude.{byte_count, Size, is_present, frame_number, IsKernelTableWord, frame_bytes, word_in, with_word, with_frame}
 use Prelude.{Role, Table, Page, PageEntry, Frames, dir_word, table_of, word_entry, entry_from, entry_at, with_entry}
 use Prelude.{entry_word, IsKernelEntry, entry_word-names, entry_word-lt, entry_word-present, word_entry-entry_word}
-use Prelude.{change_each, collect, put_some, same, Slot, Spaces, Cell, cell_or_fresh, write_at, bytes_of, stored}
+use Prelude.{same, Slot, Spaces, Cell, cell_or_fresh, write_at, bytes_of, stored}
 use Prelude.{protected, at_page, Entries, holders_of, cell_of, spaces_of, Directories, Roles, directory_of, table_in}
 use Prelude.{entry_in, entries_in, spaces_in, total_cost, Tables, Pages, HoldsPage, IsSound, InUseAt, Names, Inside}
-use Prelude.{InUse, ne_eqb, none_goes}
+use Prelude.{InUse, ne_eqb}
 use Rattle.std.proofs.Common.{append_assoc}
 use Rattle.address_space.specs.Spaces.{accessed as accessed_in}
 use Rattle.byteorder.specs.Endian.{little_bytes}
@@ -23,7 +23,7 @@ use Rattle.address_space.proofs.frames.FrameSteps.{loose-entry, loose-entries, l
 use Rattle.address_space.proofs.frames.PageSteps.{same_bytes, pages-same, no_table, lazy-same}
 use Rattle.address_space.proofs.entries.Refinement.{insert_there, store_refines, flags_refine, cell_at}
 use Rattle.address_space.proofs.steps.Steps.{inside, holds_inside, live_small, page_loose, table_by_word, sound_by}
-use Rattle.address_space.proofs.entries.Staying.{stay_same, stay_then, stay_put, places_by, places_put}
+use Rattle.address_space.proofs.entries.Staying.{places_put}
 use Rattle.page_words.specs.FiniteMap as map
 
 -- ---- Bytes
