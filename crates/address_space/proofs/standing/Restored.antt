@@ -19,7 +19,7 @@ use Rattle.address_space.proofs.costs.Weighed.{weighs}
 use Rattle.address_space.proofs.entries.EntrySteps.{get-entries_in, entry_by_table}
 use Rattle.address_space.proofs.entries.UserSlots.{in_user_slots}
 use Rattle.address_space.proofs.steps.Steps.{live_small}
-use Rattle.address_space.proofs.standing.TablesStand.{past_end, own_is}
+use Rattle.address_space.proofs.standing.TablesStand.{past_end, own_is, same_table_by}
 use Rattle.address_space.proofs.standing.Standing.{one_group}
 use Rattle.page_words.specs.FiniteMap as map
 use Rattle.page_words.specs.FiniteSet as set
@@ -77,15 +77,7 @@ module _ (directories : List (Option ℕ)) (bytes : List ℕ) (roles : List Role
   ]
 
   same_table : (p s : ℕ) → table_at image p s ≡ table_in D m p s
-  same_table p s = by (D p) refl
-    where
-      at : (d : ℕ) → D p ≡ Some d → (b : Bool) → is_user_slot s ≡ b → (if b && is_present (dir_word m d s) then Some (frame_number (dir_word m d s)) else None) ≡ word_table (dir_word m d s)
-      at d live true is = refl
-      at d live false is = let z = outside_word p d s live is in sym (ap word_table z)
-
-      by : (x : Option ℕ) → D p ≡ x → option_and_then (λ d. named_by s (word_of image d s)) x ≡ option_and_then (λ d. table_of m d s) x
-      by None is = refl
-      by (Some d) is = at d is (is_user_slot s) refl
+  same_table = same_table_by directories bytes roles outside_word
 
   wide : (p s t : ℕ) → slice_get roles t ≡ Some (Table p s) → s < 1024
   wide p s t is =
