@@ -21,10 +21,10 @@ use Rattle.page_words.specs.FiniteMap as map
 use Rattle.page_words.specs.FiniteSet as set
 
 -- the walk of the first page, and that of the second where there is one
-finds_first : (image : Image) (p address : ℕ) (size : Size) (access : Access) → finds image p address size access ≡ true → finds_at image p access address ≡ true
+pub finds_first : (image : Image) (p address : ℕ) (size : Size) (access : Access) → finds image p address size access ≡ true → finds_at image p access address ≡ true
 finds_first image p address size access h = (and_parts (finds_at image p access address) _ h).0
 
-finds_second : (image : Image) (p address : ℕ) (size : Size) (access : Access) (page : ℕ) → second_page address size ≡ Some page → finds image p address size access ≡ true → finds_at image p access (start_number page) ≡ true
+pub finds_second : (image : Image) (p address : ℕ) (size : Size) (access : Access) (page : ℕ) → second_page address size ≡ Some page → finds image p address size access ≡ true → finds_at image p access (start_number page) ≡ true
 finds_second image p address size access page is h =
     sym (ap (λ (x : Option ℕ). unwrap_or (option_map (λ page. finds_at image p access (start_number page)) x) true) is) ∙ (and_parts (finds_at image p access address) _ h).1
 
