@@ -18,7 +18,7 @@ pub use Rattle.std.specs.Prelude.{Err, IfSome, IsOk, IsTrue, MatchBool, Ok, Resu
 pub use Rattle.std.specs.Prelude.{nat_lt, slice_get, slice_index, slice_set, sum_by, ◌&&◌, ◌↔◌, ◌⊎◌}
 pub use Rattle.std.specs.Result.{is_ok}
 pub use borrow.Author.Tests.{eq-eqb, eqb-true}
-pub use Rattle.address_space.specs.ByWalk.{byte_place, finds, finds_at, walked_word, with_walked}
+pub use Rattle.address_space.specs.ByWalk.{byte_place, finds, finds_at, number_found, walked_word, with_walked}
 pub use Rattle.address_space.specs.Cells.{Entries, cell_of, group_of, holders_of, lazy_count, names, nothing, spaces_of}
 pub use Rattle.address_space.specs.Changes.{CopiedBelow, CopyIn, DirectoryDropped, DroppedBelow, EntryLeft, EntryPut}
 pub use Rattle.address_space.specs.Changes.{IsEmptySpace, PageAdded, PageCopied, PageFilled, PagesCopied, SlotAdded}
@@ -46,7 +46,8 @@ pub use Rattle.address_space.specs.Spaces.{fresh, is_slot, joined, need, number_
 pub use Rattle.address_space.specs.Spaces.{regions_of, set_bytes, set_holders, slot_at, slot_cmp, slot_order, store_in}
 pub use Rattle.address_space.specs.Spaces.{stored, value_of, with_bytes, with_holders, with_page, with_pages, without}
 pub use Rattle.address_space.specs.Spaces.{write_at}
-pub use Rattle.address_space.specs.Stays.{EntriesStay, FramesStay, PlacesStay, WaysAgree, none_goes, of_lazy, of_page}
+pub use Rattle.address_space.specs.Stays.{EntriesStay, FramesStay, Gone, PlacesStay, WaysAgree, entry_frame, none_goes}
+pub use Rattle.address_space.specs.Stays.{of_lazy, of_page}
 pub use Rattle.address_space.specs.View.{Directories, Roles, View, directory_of, entry_in, live_cost, table_in}
 unfoldable pub use Rattle.address_space.specs.View.{entries_in, spaces_in, total_cost}
 pub use Rattle.address_space.specs.Walks.{WalksAgree}
@@ -67,7 +68,7 @@ pub use Rattle.page_map.specs.Entries.{Frames, IsCleared, IsKernelEntry, IsPageM
 pub use Rattle.page_map.specs.Entries.{entry_word, is_lazy_entry, lets_writes, table_of, with_entry, with_table}
 pub use Rattle.page_map.specs.Entries.{without_table, word_entry, word_table}
 pub use Rattle.page_map.specs.Laws.{end_at_entry}
-pub use Rattle.page_map.specs.Pages.{counted, is_mapped}
+pub use Rattle.page_map.specs.Pages.{counted}
 unfoldable pub use Rattle.page_map.specs.Pages.{count_range}
 pub use Rattle.page_map.specs.declared.PageEntry.{PageEntry}
 pub use Rattle.page_words.proofs.Accesses.{crosses, some_bytes, stays}

@@ -6,13 +6,13 @@ use Prelude.{touched, Size, first_by_page, crosses, Spaces, at_page, cost, page_
 use Prelude.{Access, Read, Write, extra_touched, View, Quota, Plan, Planned, outside, is_read_only, forbidden, fault_or}
 use Prelude.{step_at, goes_on, look_of, planned_by_looks}
 use Rattle.std.proofs.Common.{◌-◌, ◌==◌}
+use Rattle.fault_handler.specs.Looks.{look_behind, barred, need_by, ready_by, fault_by, planned_at}
 use Rattle.address_space.proofs.costs.AccessNeeds.{need-in_one, need-in_two, second_need}
 use Rattle.quota_tree.specs.Book.{Member, given}
 use Rattle.quota_tree.specs.declared.Container.{Container}
 use Rattle.process_table.proofs.Charged.{used-container}
 use Rattle.process_table.specs.State.{State, room, extra_cost, as_container, container_of}
 use Rattle.fault_handler.specs.declared.plans.Look.{Look}
-use Rattle.fault_handler.specs.Looks.{look_behind, barred, need_by, ready_by, fault_by, planned_at}
 use Rattle.page_words.specs.FiniteMap as map
 use Rattle.page_words.specs.FiniteSet as set
 use Rattle.fault_handler.specs.declared.plans.Plan.TheVariants as plan

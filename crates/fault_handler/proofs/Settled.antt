@@ -8,11 +8,12 @@ use Prelude.{with_touched-same, touched-there, Access, Read, Write, View, memory
 use Prelude.{page_is_user, Plan, outside, is_read_only, forbidden, fault_or, step_at, maps_page, plan_at, goes_on}
 use Prelude.{takes_no_frame}
 use Rattle.std.proofs.Common.{◌≢◌, ◌≤◌, List, map as each, inl, inr, is_some}
+use Rattle.page_words.specs.Addresses.{offset_number, byte_count, page_and}
+use Rattle.address_space.specs.Spaces.{Cell, slot_order, fresh, bytes_of, value_of, with_pages, all_accessed, all_stored}
+use Rattle.fault_handler.specs.Plans.{planned_by}
 use Rattle.std.specs.Prelude.{if◌then◌else◌, nat_lt, IfSome, find, slice_index}
 use Rattle.std.proofs.lemmas.Bool.{le-ltb, not-false}
-use Rattle.page_words.specs.Addresses.{offset_number, byte_count, page_and}
 use Rattle.page_words.proofs.MapLemmas.{same_or_not, get-insert}
-use Rattle.address_space.specs.Spaces.{Cell, slot_order, fresh, bytes_of, value_of, with_pages, all_accessed, all_stored}
 use Rattle.page_words.proofs.SetLemmas.{same_apart}
 use Rattle.address_space.proofs.costs.AccessCosts.{key-insert}
 use Rattle.address_space.proofs.costs.AccessNeeds.{need-in_one, need-in_two, cost-with_page}
@@ -22,7 +23,6 @@ use Rattle.process_table.specs.State.{State, is_live, is_mapped, room, overdrawn
 use Rattle.quota_tree.specs.Book.{Member, quota_of}
 use Rattle.process_table.proofs.SpaceLaws.{user_page, not_less}
 use Rattle.fault_handler.specs.declared.plans.PageStep.{PageStep}
-use Rattle.fault_handler.specs.Plans.{planned_by}
 use Rattle.page_words.specs.FiniteMap as map
 use Rattle.page_words.specs.FiniteSet as set
 use Rattle.fault_handler.specs.declared.plans.PageStep.TheVariants as step

@@ -6,9 +6,9 @@ use Prelude.{touched, EachTouched, IsUserPage, is_user_page, Size, first_by_page
 use Prelude.{access_need, cost, is_lazy_at, takes_stores, with_touched-same, Access, Read, Write, extra_touched, State}
 use Prelude.{is_mapped, room, overdrawn, View, memory_of, Quota, page_is_user, outside, is_read_only, forbidden}
 use Prelude.{fault_or, step_at, plan_at, takes_no_frame}
+use Rattle.fault_handler.specs.Plans.{at_once}
 use Rattle.std.proofs.lemmas.Bool.{not-true, le-ltb, and_parts}
 use Rattle.address_space.proofs.costs.AccessNeeds.{cost-with_touched}
-use Rattle.fault_handler.specs.Plans.{at_once}
 use Rattle.fault_handler.proofs.Settled.{each_page}
 use Rattle.fault_handler.specs.declared.plans.PageStep.TheVariants as step
 use Rattle.fault_handler.specs.declared.plans.Plan.TheVariants as plan

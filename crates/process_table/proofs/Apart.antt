@@ -11,14 +11,14 @@ use Prelude.{same_pages, OfferKey, offer_order, offer_key, State, is_mapped, ext
 use Prelude.{unmap_refusal, protect_refusal, exit_refusal, after_map, after_unmap, after_protect, after_withdraw}
 use Prelude.{after_load, after_store, BadPage, Mapped, Quota, NoOffer, HasChildren, RootExit}
 use Rattle.page_words.specs.Addresses.{covered}
-use Rattle.page_words.proofs.SetLemmas.{same_apart}
 use Rattle.address_space.specs.Spaces.{value_of, missing}
+use Rattle.process_table.specs.Calls.{withdraw_refusal, loaded}
+use Rattle.process_table.specs.declared.causes.Cause.TheVariants.{NotMapped, Rights}
+use Rattle.page_words.proofs.SetLemmas.{same_apart}
 use Rattle.address_space.proofs.steps.Departures.{left, get-without}
 use Rattle.quota_tree.specs.Book.{Book, Member, children, given, number_of_children, quota_of}
 use Rattle.process_table.proofs.Overdrawn.{extra_page, extra_touched}
-use Rattle.process_table.specs.Calls.{withdraw_refusal, loaded}
 use Rattle.process_table.specs.Apart.{IsApart, AreAlike, Held, held, held_in, lone}
-use Rattle.process_table.specs.declared.causes.Cause.TheVariants.{NotMapped, Rights}
 use Rattle.process_table.proofs.BookLaws.{retained}
 use Rattle.process_table.proofs.CellLaws.{get-inserted, get-inserted_other}
 use Rattle.page_words.specs.FiniteMap as map

@@ -11,12 +11,12 @@ use Prelude.{get-insert_other, OfferKey, Offers, offer_order, offer_key, State, 
 use Prelude.{spawn_refusal, fork_refusal, offered, after_map, after_unmap, after_protect, after_offer, after_withdraw}
 use Prelude.{after_accept, after_spawn, after_fork, after_exit, after_load, after_store, IsWellFormed, IsApart}
 use Prelude.{AreAlike, held_in, lone}
+use Rattle.process_table.specs.Apart.{FirstPage, first_cell, first_page, pages_held, alone_with}
 use Rattle.std.specs.List.{list_any}
 use Rattle.std.specs.Cmp.{tied_then}
 use Rattle.std.specs.FinMap.Entries.{is_some-find}
 use Rattle.page_words.proofs.MapLemmas.{same_itself, get-insert, get-map_values, get-collect}
 use Rattle.quota_tree.proofs.Sums.{number-insert, number-remove, number-none}
-use Rattle.process_table.specs.Apart.{FirstPage, first_cell, first_page, pages_held, alone_with}
 use Rattle.process_table.proofs.Apart.{in_lone, pages_differ, pids_differ, set_bytes_outside, without_others}
 use Rattle.process_table.proofs.BookLaws.{retained, next_free, parents_in, spawn_allowed}
 use Rattle.process_table.proofs.CellLaws.{get-inserted, get-inserted_other}

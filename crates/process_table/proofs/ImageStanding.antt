@@ -1,17 +1,17 @@
 -- What memory and the book together represent: the image of a view is sound, and represents one state.
 use Rattle.process_table.proofs.Prelude
 use Prelude.{◌≡◌, ℕ, ◌+◌, ◌<◌, ◌≤◌, ◌&&◌, Bool, true, false, cond, List, [], ◌∷◌, length, refl, sym, ap, subst, ◌∙◌}
-use Prelude.{Option, Some, None, is_some, sum_by, arith, nat_lt, if◌then◌else◌, option_and_then, option_map, unwrap_or}
-use Prelude.{range_with_len, nat_tests, sum_by-cons, slice_get_within, slot_number, index_number, nat_order, Set, Slot}
-use Prelude.{Cell, Spaces, pages_of, regions_of, cost, at_page, directory_at, table_at, page_word, present_word}
+use Prelude.{Option, Some, None, is_some, sum_by, arith, unwrap_or, nat_lt, if◌then◌else◌, option_and_then, option_map}
+use Prelude.{range_with_len, nat_tests, sum_by-cons, slice_get_within, slot_number, index_number, Slot}
+use Prelude.{Cell, Spaces, pages_of, regions_of, cost, at_page, table_at, page_word, present_word}
 use Prelude.{word_of, directory_of, contains-pages_of, Member, is_child, given, quota_of, State, is_live, View, Account}
 use Prelude.{as_account, account_of, memory_of, IsCharge, quota_from, IsSoundImage, StandsFor, is_some-map, some_value}
 use Rattle.std.proofs.Common.{◌*◌, filter}
+use Rattle.process_table.specs.Image.{image_of, StandsForOne}
 use Rattle.page_words.proofs.MapLemmas.{same_map}
 use Rattle.alloc_table.specs.declared.Role.TheVariants.{Table}
 use Rattle.address_space.proofs.costs.CostSteps.{region_member, region_there}
 use Rattle.address_space.proofs.standing.Standing.{stands_for_one}
-use Rattle.process_table.specs.Image.{image_of, StandsForOne}
 use Rattle.process_table.proofs.Ranges.{found, sum-same, sum-range}
 use Rattle.page_words.specs.FiniteMap as map
 use Rattle.page_words.specs.FiniteSet as set

@@ -8,10 +8,10 @@ use Prelude.{as_container, container_of, map_refusal, protect_refusal, offer_ref
 use Prelude.{exit_refusal, after_map, after_protect, after_offer, after_accept, after_spawn, after_exit, child_unless}
 use Prelude.{map_answer, protect_answer, offer_answer, accept_answer, spawn_answer, exit_answer, IsProcesses, IsWhole}
 use Prelude.{state_of, IsWellFormed, Cause, NoProcess}
-use Rattle.address_space.proofs.steps.Bytes.{stored_in_page}
 use Rattle.address_space.proofs.costs.MapFirst.{with_touched-same}
-use Rattle.table_walk.specs.declared.Access.{Access}
 use Rattle.process_table.specs.Calls.{after_access}
+use Rattle.address_space.proofs.steps.Bytes.{stored_in_page}
+use Rattle.table_walk.specs.declared.Access.{Access}
 use Rattle.process_table.proofs.BookLaws.{well_formed-spawn, well_formed-exit}
 use Rattle.process_table.proofs.Charged.{charged-same}
 use Rattle.process_table.proofs.Refusals.{no_cause}

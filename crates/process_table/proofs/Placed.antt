@@ -1,6 +1,6 @@
 -- What the place of a page says, if there is one.
 use Rattle.process_table.proofs.Prelude.{◌≡◌, ℕ, Bool, true, false, not, refl, ap, ◌&&◌, ◌≤◌, Option, Some, None}
-use Rattle.process_table.proofs.Prelude.{unwrap_or, arith, and_parts, not-true, nat_tests, if◌then◌else◌, is_some}
+use Rattle.process_table.proofs.Prelude.{unwrap_or, arith, is_some, and_parts, not-true, nat_tests, if◌then◌else◌}
 use Rattle.process_table.proofs.Prelude.{nat_le, IfSome, option_map, option_and_then, IsUserPage, is_user_page}
 use Rattle.process_table.proofs.Prelude.{entry_found, Image, is_lazy_at, takes_stores, Spaces, Slot, Cell, at_page}
 use Rattle.process_table.proofs.Prelude.{cell_or_fresh, fresh, State, is_live, is_mapped, View, IsWellFormed}

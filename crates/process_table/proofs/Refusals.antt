@@ -1,7 +1,7 @@
 -- What follows where a call is not refused.
 use Rattle.process_table.proofs.Prelude
 use Prelude.{◌≡◌, ◌≢◌, ℕ, ◌+◌, ◌<◌, ◌&&◌, ◌==◌, Bool, true, false, not, [], ◌∷◌, refl, sym, ap, ◌∙◌, Option, Some, None}
-use Prelude.{Ok, Err, arith, if◌then◌else◌, is_some, IsOk, nat_le, nat_tests, is_user_page, fresh, cell_or_fresh}
+use Prelude.{Ok, Err, arith, is_some, if◌then◌else◌, IsOk, nat_le, nat_tests, is_user_page, fresh, cell_or_fresh}
 use Prelude.{joined, cost, need, at_page, cost-insert, cost-joined, offer_key, pending, State, is_live, is_mapped}
 use Prelude.{overdrawn, map_refusal, unmap_refusal, protect_refusal, offer_refusal, accept_refusal, offered, after_map}
 use Prelude.{after_accept, Cause, NoProcess, BadPage, Mapped, Quota, NoOffer, no_value}

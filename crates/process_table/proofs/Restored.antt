@@ -6,11 +6,12 @@ use Prelude.{index_number, IsUserPage, Order, nat_order, same_set, is_some-map, 
 use Prelude.{SlotStands, directory_at, table_at, present_word, page_word, word_of, Book, Member, given, quota_of}
 use Prelude.{Containers, IsLive, used_of, Offers, Account, as_account, account_of, IsCharge, quota_from, IsSoundImage}
 use Prelude.{StandsFor, State, IsWhole, IsCellAt, IsWellFormed}
+use Rattle.address_space.specs.Image.{IsCount, CellStands, IsOneGroup, image_from, named_by, page_frame}
+use Rattle.process_table.specs.Image.{Image}
 use Rattle.std.specs.Prelude.{◌↔◌, IsTrue, MatchBool, slice_index}
 use Rattle.page_words.specs.Words.{frame_number, is_lazy, NamesPage}
 use Rattle.alloc_table.specs.declared.Role.{Role}
 use Rattle.alloc_table.specs.declared.Role.TheVariants.{Page}
-use Rattle.address_space.specs.Image.{IsCount, CellStands, IsOneGroup, image_from, named_by, page_frame}
 use Rattle.address_space.specs.ImageWords.{own_frame}
 use Rattle.address_space.specs.Restored.{HasRoom, view_from}
 use Rattle.address_space.specs.View.{directory_of, spaces_in, total_cost}
@@ -20,7 +21,6 @@ use Rattle.address_space.proofs.standing.TablesStand.{owned, own_is}
 use Rattle.address_space.proofs.steps.Steps.{live_small}
 use Rattle.quota_tree.specs.Accounts.{account_at, member_in, book_in, containers_in, Agree}
 use Rattle.quota_tree.proofs.CollectedLemmas.{get-collected}
-use Rattle.process_table.specs.Image.{Image}
 use Rattle.process_table.specs.Restored.{account_told, image_in, RootIsItsParent}
 use Rattle.process_table.proofs.BookLaws.{total-within}
 use Rattle.process_table.proofs.ImageStanding.{charge-stands, given-range}

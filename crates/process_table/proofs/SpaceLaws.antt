@@ -3,19 +3,19 @@ use Rattle.process_table.proofs.Prelude
 use Prelude.{◌≡◌, ◌≢◌, ℕ, ◌+◌, ◌<◌, ◌≤◌, ◌&&◌, not, Bool, true, false, List, [], ◌∷◌, length, refl, sym, ap, subst, ◌∙◌}
 use Prelude.{Option, Some, None, is_some, unwrap_or, arith, inl, inr, zero, suc, if◌then◌else◌, nat_lt, nat_le, IfSome}
 use Prelude.{option_map, All, nat_tests, IsUserPage, is_user_page, byte_count, offset_number, page_number, second_page}
-use Prelude.{touched, EachTouched, Size, same, Set, get-map_values, same_cases, Slot, slot_order, Cell, Spaces, cost}
+use Prelude.{touched, EachTouched, Size, get-map_values, same_cases, Slot, slot_order, Cell, Spaces, cost}
 use Prelude.{cost_of, need, page_need, access_need, fresh, cell_or_fresh, accessed, stored, with_page, with_pages}
 use Prelude.{all_accessed, all_stored, set_bytes, with_bytes, write_at, bytes_of, slot_at, at_page, same_pages}
 use Prelude.{cost-insert, kept, given, quota_of, OfferKey, State, is_live, is_mapped, overdrawn, room, map_refusal}
 use Prelude.{after_map, after_load, after_store, BadPage, Mapped, Quota, IsCellAt, IsOfferIn, IsWellFormed, same_Some}
 use Prelude.{some_value, no_value}
 use Rattle.std.proofs.Common.{◌/◌, ◌%◌, ◌++◌, take, drop}
+use Rattle.page_words.specs.Addresses.{page_and}
+use Rattle.address_space.specs.Spaces.{store_in}
 use Rattle.std.proofs.lemmas.List.{length-replicate}
 use Rattle.std.proofs.lemmas.Bool.{cases_lt, cases_eq, le-ltb}
 use Rattle.std.proofs.lemmas.List.Elements.{All-nil, All-cons, All-append, All-take, All-drop, All-replicate}
-use Rattle.page_words.specs.Addresses.{page_and}
 use Rattle.page_words.specs.declared.addresses.Size.TheVariants.{One}
-use Rattle.address_space.specs.Spaces.{store_in}
 use Rattle.address_space.proofs.costs.AccessNeeds.{need-in_one, need-in_two, cost-with_page}
 use Rattle.address_space.proofs.costs.MapFirst.{IsThere, AreThere, touched-there, first_there, rest_there, bytes_there}
 use Rattle.address_space.proofs.steps.Stores.{length-write_at, written_long}

@@ -3,14 +3,14 @@ use Rattle.process_table.proofs.Prelude
 use Prelude.{◌≡◌, ◌≢◌, ℕ, ◌+◌, ◌-◌, ◌<◌, ◌≤◌, ◌==◌, Bool, true, false, cond, not, refl, sym, ap, subst, ◌∙◌, inl, inr}
 use Prelude.{List, [], ◌∷◌, Option, Some, None, unwrap_or, is_some, is_none, length, Ok, Err, arith, if◌then◌else◌}
 use Prelude.{nat_lt, find, range_with_len, option_map, same, nat_order, same_or_not, same_itself, get-insert, Slot}
-use Prelude.{Cell, Spaces, cost, at_page, directory_of, live_cost, total_cost, Book, Member, given, quota_of}
+use Prelude.{Cell, Spaces, cost, at_page, directory_of, total_cost, Book, Member, given, quota_of}
 use Prelude.{number_of_children, next_number, Containers, IsLive, used_of, total_used, split_answer, after_split}
 use Prelude.{Offers, room, child_of, as_container, container_of, spawn_refusal, state_of, IsProcesses, Cause, not-true}
 use Rattle.std.proofs.Common.{Result}
+use Rattle.quota_tree.specs.Containers.{room_of, fitting, opening}
 use Rattle.page_words.specs.declared.addresses.Pid.{Pid}
 use Rattle.address_space.specs.Image.{Image, StandsFor, SlotStands, directory_at, page_word, image_of}
 use Rattle.quota_tree.specs.declared.QuotaFault.{QuotaFault}
-use Rattle.quota_tree.specs.Containers.{room_of, fitting, opening}
 use Rattle.process_table.specs.TestAnswers.{translated, child_unless, spawn_answer}
 use Rattle.process_table.proofs.Charged.{differ, room-for}
 use Rattle.process_table.proofs.Ranges.{found}

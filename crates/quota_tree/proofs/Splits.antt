@@ -5,9 +5,9 @@ use Rattle.quota_tree.proofs.Prelude.{arith, subst, length-set, option_map, nat_
 use Rattle.quota_tree.proofs.Prelude.{given, number_of_children, next_number, collected, Containers, room_of}
 use Rattle.quota_tree.proofs.Prelude.{opened_container, charged_with, with_used, split_answer, after_split, member_of}
 use Rattle.quota_tree.proofs.Prelude.{seen_as, IsBooked, IsQuotas, same_Some}
+use Rattle.quota_tree.specs.Containers.{giver_after_split, fitting}
 use Rattle.std.specs.Prelude.{slice_set, nat_lt, position, Ok, Err}
 use Rattle.quota_tree.specs.declared.QuotaFault.TheVariants.{BadQuota, NoRoom}
-use Rattle.quota_tree.specs.Containers.{giver_after_split, fitting}
 use Rattle.quota_tree.proofs.CollectedLemmas.{get-collected, collected-set}
 use Rattle.quota_tree.proofs.Sums.{given-insert, number-insert, given-none, number-none, number-given}
 use Rattle.quota_tree.proofs.Views.{live-container, parents_live, each_quota, room_of-container, within_places, absent_at, next_number-position}

@@ -5,10 +5,10 @@ use Rattle.quota_tree.proofs.Prelude.{unwrap_or, arith, subst, find, range_with_
 use Rattle.quota_tree.proofs.Prelude.{nat_order, same, Container, Member, Book, given, quota_of, next_number, collected}
 use Rattle.quota_tree.proofs.Prelude.{IsLive, used_of, room_of, total_used, opened_container, container_of, member_of}
 use Rattle.quota_tree.proofs.Prelude.{seen_as, IsBooked, IsQuotas, same_Some}
+use Rattle.quota_tree.specs.Containers.{as_container, opening}
 use Rattle.std.specs.Prelude.{position, IfSome}
 use Rattle.std.proofs.lemmas.List.{get_or_past, length-replicate}
 use Rattle.std.proofs.lemmas.List.Quantifiers.{position-Some}
-use Rattle.quota_tree.specs.Containers.{as_container, opening}
 use Rattle.quota_tree.proofs.CollectedLemmas.{get-collected, collected_from-replicate, find-position}
 use Rattle.quota_tree.proofs.Sums.{Parents, costs_within}
 use Rattle.page_words.specs.FiniteMap as map

@@ -1,11 +1,11 @@
 -- What an access needs: what its first page needs, and what the second needs once the first is mapped.
 use Rattle.address_space.proofs.Prelude
-use Prelude.{◌≡◌, ◌≢◌, ℕ, ◌+◌, ◌==◌, Bool, true, false, cond, not, ◌||◌, ◌&&◌, [], ◌∷◌, refl, ap, sym, ◌∙◌, arith}
-use Prelude.{Option, Some, None, is_some, if◌then◌else◌, eqb-true, eq-eqb, slot_number, page_number, touched, page_and}
+use Prelude.{◌≡◌, ◌≢◌, ℕ, ◌+◌, ◌==◌, Bool, true, false, cond, not, ◌||◌, [], ◌∷◌, refl, ap, sym, ◌∙◌, arith, Option}
+use Prelude.{Some, None, ◌&&◌, is_some, if◌then◌else◌, eqb-true, eq-eqb, slot_number, page_number, touched, page_and}
 use Prelude.{second_page, Size, nat_order, same, Set, crosses, no_value, same_apart, Slot, slot_order, Spaces, Cell}
 use Prelude.{at_page, fresh, cost, pages_of, regions_of, need, page_need, with_page, with_pages, Place, found_of}
-use Rattle.page_words.proofs.MapLemmas.{same_itself, contains-insert, retain-insert, retain-insert_other, len-insert}
 use Rattle.address_space.specs.Spaces.{missing, need_of, access_need}
+use Rattle.page_words.proofs.MapLemmas.{same_itself, contains-insert, retain-insert, retain-insert_other, len-insert}
 use Rattle.address_space.proofs.costs.AccessCosts.{key-insert}
 use Rattle.address_space.proofs.costs.Costs.{pages-insert, regions-insert, cost-insert}
 use Rattle.page_words.specs.FiniteMap as map

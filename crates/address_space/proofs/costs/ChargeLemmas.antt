@@ -1,7 +1,7 @@
 -- What a process is charged for, as its directory and tables show it.
 use Rattle.address_space.proofs.Prelude
-use Prelude.{◌≡◌, ℕ, ◌+◌, ◌*◌, ◌<◌, ◌≤◌, Bool, true, false, cond, ◌&&◌, ◌||◌, List, refl, ap, sym, ◌∙◌, arith, inl, inr}
-use Prelude.{Option, Some, is_some, nat_lt, if◌then◌else◌, option_and_then, option_map, cases_lt, nat_tests}
+use Prelude.{◌≡◌, ℕ, ◌+◌, ◌*◌, ◌<◌, ◌≤◌, Bool, true, false, cond, ◌||◌, List, refl, ap, sym, ◌∙◌, arith, inl, inr}
+use Prelude.{Option, Some, ◌&&◌, is_some, nat_lt, if◌then◌else◌, option_and_then, option_map, cases_lt, nat_tests}
 use Prelude.{slot_number, nat_order, same, Set, same_or_not, same_itself, same_set, contains-insert}
 use Prelude.{contains-retain, len-insert, get-map_values, frame_bytes, Role, PageEntry, table_of, entry_at}
 use Prelude.{get-entries_user, get-entries_other, user_cases, Cell, Spaces, cost, pages_of, regions_of, at_page}

@@ -1,6 +1,6 @@
 -- What stands where after a process's pages were copied to another, and what they cost it.
-use Rattle.address_space.proofs.Prelude.{◌≡◌, ◌≢◌, ℕ, Bool, true, false, cond, ◌||◌, ◌==◌, if◌then◌else◌, List, [], ◌∷◌}
-use Rattle.address_space.proofs.Prelude.{◌++◌, map, refl, sym, ap, ◌∙◌, inl, inr, Option, Some, None, is_some, ◌⊎◌}
+use Rattle.address_space.proofs.Prelude.{◌≡◌, ◌≢◌, ℕ, Bool, true, false, cond, ◌||◌, ◌==◌, List, [], ◌∷◌, ◌++◌, map}
+use Rattle.address_space.proofs.Prelude.{refl, sym, ap, ◌∙◌, inl, inr, Option, Some, None, if◌then◌else◌, is_some, ◌⊎◌}
 use Rattle.address_space.proofs.Prelude.{option_map, list_any, is_some-find, or-true, ne_eqb, Order, same, same_or_not}
 use Rattle.address_space.proofs.Prelude.{same_itself, get-collect, list_any-map, Slot, slot_order, slot_cmp, Cell}
 use Rattle.address_space.proofs.Prelude.{Spaces, cost, cost_of, copy_of, copied_at, copied, at_page, eqb-true, eq-eqb}

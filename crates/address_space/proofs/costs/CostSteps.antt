@@ -1,14 +1,14 @@
 -- The costs of all processes, and what one more page adds.
 use Rattle.address_space.proofs.Prelude
 use Prelude.{◌≡◌, ◌≢◌, ℕ, zero, suc, ◌+◌, ◌<◌, ◌≤◌, Bool, true, false, cond, ◌||◌, List, [], ◌∷◌, map, refl, ap, sym}
-use Prelude.{◌∙◌, subst, arith, inl, inr, Option, Some, None, ◌⊎◌, is_some, if◌then◌else◌, sum_by, ◌*◌, option_map}
+use Prelude.{◌∙◌, subst, arith, inl, inr, Option, Some, None, ◌*◌, ◌⊎◌, is_some, if◌then◌else◌, sum_by, option_map}
 use Prelude.{option_and_then, list_any, range_with_len, is_some-find, cases_eq, sum_by-cons, slot_number, index_number}
 use Prelude.{Frames, word_entry, entry_from, PageEntry, word_in, Set, nat_order, same, Slot, slot_order, Cell, Spaces}
 use Prelude.{cost, cost_of, need, pages_of, regions_of, at_page, user_slots, same_itself, same_or_not, get-insert}
 use Prelude.{contains-from_list, list_any-map, Entries, cell_of, spaces_of, Directories, directory_of, table_in}
 use Prelude.{entry_in, entries_in, live_cost, total_cost, InUseAt, or-true, is_some-map}
-use Rattle.address_space.proofs.entries.UserSlots.{in_user_slots}
 use Rattle.page_words.proofs.MapLemmas.{same-true}
+use Rattle.address_space.proofs.entries.UserSlots.{in_user_slots}
 use Rattle.address_space.proofs.costs.Costs.{contains-pages_of, same_pages, cost-insert}
 use Rattle.address_space.proofs.entries.EntrySteps.{get-entries_in, entry_by_table}
 use Rattle.address_space.proofs.entries.Refinement.{get-spaces_of}

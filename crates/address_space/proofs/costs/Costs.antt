@@ -1,12 +1,12 @@
 -- The pages of a process, and what one more page adds to the costs.
 use Rattle.address_space.proofs.Prelude
-use Prelude.{◌≡◌, ℕ, ◌+◌, Bool, true, false, cond, ◌||◌, ◌&&◌, ◌==◌, if◌then◌else◌, List, [], ◌∷◌, map, refl, sym, ap}
-use Prelude.{◌∙◌, Option, Some, None, is_some, arith, list_any, where_key, is_some-find, nat_order, same}
+use Prelude.{◌≡◌, ℕ, ◌+◌, Bool, true, false, cond, ◌||◌, ◌==◌, List, [], ◌∷◌, map, refl, sym, ap, ◌∙◌, Option, Some}
+use Prelude.{None, arith, ◌&&◌, if◌then◌else◌, is_some, list_any, where_key, is_some-find, nat_order, same}
 use Prelude.{Set, slot_number, Slot, slot_order, slot_cmp, Cell, Spaces, cost, cost_of, need, pages_of, regions_of}
 use Prelude.{at_page, get-insert, same_set, contains-insert, contains-from_list, len-insert, list_any-map}
+use Rattle.page_words.proofs.MapLemmas.{list_any-put}
 use Rattle.std.specs.Ordering.{is_eq, nat_cmp}
 use Rattle.std.specs.Cmp.{unsigned_tied, eq_by_cmp_equiv, tied_then}
-use Rattle.page_words.proofs.MapLemmas.{list_any-put}
 use Rattle.page_words.specs.FiniteMap as map
 use Rattle.page_words.specs.FiniteSet as set
 

@@ -1,6 +1,6 @@
 -- A set of some of another's members is no larger, and fewer pages cost no more.
-use Rattle.address_space.proofs.Prelude.{◌≡◌, ℕ, suc, ◌≤◌, ◌&&◌, Bool, true, false, cond, List, [], ◌∷◌, length, refl}
-use Rattle.address_space.proofs.Prelude.{sym, subst, ◌∙◌, arith, where_key, Order, Set, same_set, contains-retain}
+use Rattle.address_space.proofs.Prelude.{◌≡◌, ℕ, suc, ◌≤◌, Bool, true, false, cond, List, [], ◌∷◌, length, refl, sym}
+use Rattle.address_space.proofs.Prelude.{subst, ◌∙◌, arith, ◌&&◌, where_key, Order, Set, same_set, contains-retain}
 use Rattle.address_space.proofs.Prelude.{Spaces, cost, pages_of, regions_of, at_page}
 use Rattle.std.specs.declared.cmp.Ordering.{Ordering}
 use Rattle.address_space.proofs.costs.Costs.{contains-pages_of}

@@ -1,7 +1,7 @@
 -- The spaces that a map from slots to page entries represents, given bytes for each frame; its steps are the machine's.
 use Rattle.address_space.proofs.Prelude
-use Prelude.{◌≡◌, ℕ, inl, inr, Bool, true, false, cond, not, ◌&&◌, ◌||◌, ◌==◌, if◌then◌else◌, List, refl, sym, ap, ◌∙◌}
-use Prelude.{Option, Some, None, is_some, unwrap_or, option_map, Map, same, Set, Slot, slot_order, Cell, Spaces}
+use Prelude.{◌≡◌, ℕ, inl, inr, Bool, true, false, cond, not, ◌||◌, ◌==◌, List, refl, sym, ap, ◌∙◌, Option, Some, None}
+use Prelude.{◌&&◌, if◌then◌else◌, is_some, unwrap_or, option_map, Map, same, Set, Slot, slot_order, Cell, Spaces}
 use Prelude.{write_at, stored, joined, set_bytes, set_holders, store_in, with_bytes, with_holders, without, fresh}
 use Prelude.{cell_or_fresh, same_or_not, get-insert, get-retain_keys, same_map, get-map_values, contains-insert}
 use Prelude.{contains-retain, same_set, nat_eq_equiv, PageEntry, with_frame, Entries, names, nothing, holders_of}

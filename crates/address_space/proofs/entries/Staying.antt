@@ -1,11 +1,11 @@
 -- Entries on the same frame, and in the same table, after a change.
-use Rattle.address_space.proofs.Prelude.{none_goes, subst}
+use Rattle.address_space.proofs.Prelude.{none_goes, Gone, of_page, of_lazy, entry_frame, EntriesStay, PlacesStay, subst}
 use Rattle.address_space.proofs.Prelude.{◌≡◌, ◌≢◌, ℕ, Bool, true, false, cond, refl, ap, sym, ◌∙◌, inl, inr, Option}
 use Rattle.address_space.proofs.Prelude.{Some, None, option_map, option_and_then, get-insert, same_or_not, same_itself}
 use Rattle.address_space.proofs.Prelude.{PageEntry, Slot, slot_order, at_page, is_slot, Entries, slot_number}
 use Rattle.address_space.proofs.Prelude.{index_number, word_in, Frames, word_entry, list_any, same, user_slots}
 use Rattle.address_space.proofs.Prelude.{Directories, table_in, entry_in, entries_in, ◌&&◌, eq-eqb}
-use Rattle.address_space.specs.Stays.{Gone, of_page, of_lazy, entry_frame, EntriesStay, slot_table, PlacesStay}
+use Rattle.address_space.specs.Stays.{slot_table}
 use Rattle.address_space.proofs.entries.EntrySteps.{get-entries_in, entry_by_table}
 use Rattle.address_space.proofs.entries.Removal.{kept_other}
 use Rattle.page_words.specs.FiniteMap as map

@@ -1,6 +1,6 @@
 -- Every slot of the user range is one of the user slots.
-use Rattle.address_space.proofs.Prelude.{◌≡◌, ℕ, zero, suc, ◌+◌, ◌<◌, ◌≤◌, Bool, true, false, ◌||◌, ◌&&◌, List, [], ◌∷◌}
-use Rattle.address_space.proofs.Prelude.{◌++◌, map, refl, sym, ap, ◌∙◌, arith, inl, inr, nat_cmp, list_any}
+use Rattle.address_space.proofs.Prelude.{◌≡◌, ℕ, zero, suc, ◌+◌, ◌<◌, ◌≤◌, Bool, true, false, ◌||◌, List, [], ◌∷◌, ◌++◌}
+use Rattle.address_space.proofs.Prelude.{map, refl, sym, ap, ◌∙◌, arith, inl, inr, ◌&&◌, nat_cmp, list_any}
 use Rattle.address_space.proofs.Prelude.{range_with_len, same, nat_order, same_or_not, same_itself, list_any-map}
 use Rattle.address_space.proofs.Prelude.{slot_order, at_page, user_slots, slots_below, or-true, tied_then}
 

@@ -80,6 +80,10 @@ tables-role D m R R' f was T known before after others = record {
 
 -- ---- A blank table is linked
 
+-- a process has one directory
+one_directory : (D : Directories) (p q d d' : ℕ) → D p ≡ Some d → D q ≡ Some d' → q ≡ p → d' ≡ d
+one_directory D p q d d' live is side = let here : D q ≡ D p = ap D side in cc
+
 pub here_or_not : (p s q r : ℕ) → ((q ≡ p) × (r ≡ s)) ⊎ (q ≡ p → r ≡ s → ⊥)
 here_or_not p s q r = elim (cases_eq q p) [
   | inl a ↦ elim (cases_eq r s) [ inl b ↦ inl (a, b) | inr n ↦ inr (λ _ b. n b) ]
@@ -130,9 +134,7 @@ module _ (D : Directories) (m : Frames) (R : Roles) (T : Tables D m R) (p d s t 
       by None is side = refl
       by (Some d') is (inr side) = ap (λ l. word_table (word_in l r)) (dir_other q d' is side)
       by (Some d') is (inl side) =
-          let here : D q ≡ D p = ap D side in
-          let l = live in
-          let same : d' ≡ d = cc in
+          let same = one_directory D p q d d' live is side in
           ap (λ g. word_table (word_in (with_table m d s t g) r)) same
           ∙ ap (λ l. word_table (word_in l r)) own_directory
           ∙ ap word_table (word_in_other (m d) s r (link_word t) long_d (omega arith) (λ e. n side e))
@@ -161,9 +163,7 @@ module _ (D : Directories) (m : Frames) (R : Roles) (T : Tables D m R) (p d s t 
   dir_word_kept : (q d' r : ℕ) → D q ≡ Some d' → (q ≡ p → r ≡ s → ⊥) → word_in (with_table m d s t d') r ≡ word_in (m d') r
   dir_word_kept q d' r is n = elim (cases_eq q p) [
     | inl side ↦
-        let here : D q ≡ D p = ap D side in
-        let l = live in
-        let same : d' ≡ d = cc in
+        let same = one_directory D p q d d' live is side in
         ap (λ g. word_in (with_table m d s t g) r) same ∙ ap (λ l. word_in l r) own_directory ∙ word_in_other (m d) s r (link_word t) long_d (omega arith) (λ e. n side e) ∙ ap (λ g. word_in (m g) r) (sym same)
     | inr side ↦ ap (λ l. word_in l r) (dir_other q d' is side)
   ]
@@ -194,9 +194,7 @@ module _ (D : Directories) (m : Frames) (R : Roles) (T : Tables D m R) (p d s t 
     ];
     dir_words = λ q d' r is h. elim (here_or_not p s q r) [
       | inl x ↦
-          let here : D q ≡ D p = ap D x.0 in
-          let l = live in
-          let same : d' ≡ d = cc in
+          let same = one_directory D p q d d' live is x.0 in
           inr (subst NamesTable (sym ((λ i. word_in (with_table m d s t (same i)) (x.1 i)) ∙ ap (λ l. word_in l s) own_directory ∙ word_in_same (m d) s (link_word t) long_d (omega arith) (link_word-lt t small))) (link_word-names t small one_up))
       | inr n ↦ subst IsKernelDirWord (sym (dir_word_kept q d' r is n)) (T.dir_words q d' r is h)
     ];
@@ -284,17 +282,13 @@ module _ (D : Directories) (m : Frames) (R : Roles) (T : Tables D m R) (p d s t 
         unlinked-others q r (λ a b. f_t (let e : Some f ≡ Some t = sym old ∙ (λ i. table_in D m (a i) (b i)) ∙ there_in in cc)) ∙ old;
     dir_words = λ q d' r is h. elim (here_or_not p s q r) [
       | inl x ↦
-          let here : D q ≡ D p = ap D x.0 in
-          let l = live in
-          let same : d' ≡ d = cc in
+          let same = one_directory D p q d d' live is x.0 in
           inl ((λ i. word_in (without_table m d s (same i)) (x.1 i)) ∙ ap (λ l. word_in l s) own_dir ∙ word_in_same (m d) s 0 long_dir s_small (omega arith))
       | inr n ↦ subst IsKernelDirWord (sym (word_elsewhere q d' r is n)) (T.dir_words q d' r is h)
     ];
     outside = λ q d' r is h o. elim (here_or_not p s q r) [
       | inl x ↦
-          let here : D q ≡ D p = ap D x.0 in
-          let l = live in
-          let same : d' ≡ d = cc in
+          let same = one_directory D p q d d' live is x.0 in
           (λ i. word_in (without_table m d s (same i)) (x.1 i)) ∙ ap (λ l. word_in l s) own_dir ∙ word_in_same (m d) s 0 long_dir s_small (omega arith)
       | inr n ↦ word_elsewhere q d' r is n ∙ T.outside q d' r is h o
     ];

@@ -2,7 +2,7 @@
 use Rattle.address_space.proofs.Prelude
 use Prelude.{◌≡◌, ℕ, zero, suc, ◌+◌, ◌*◌, ◌<◌, ◌≤◌, Bool, true, false, cond, List, [], ◌∷◌, length, refl, ap, sym, ◌∙◌}
 use Prelude.{subst, arith, inl, inr, Option, Some, None, ◌⊎◌, ◌↔◌, ◌&&◌, is_some, slice_get, slice_index, nat_lt}
-use Prelude.{nat_le, IsTrue, unwrap_or, if◌then◌else◌, option_and_then, option_map, cases_lt, nat_tests}
+use Prelude.{nat_le, IsTrue, if◌then◌else◌, unwrap_or, option_and_then, option_map, cases_lt, nat_tests}
 use Prelude.{slice_get_within, slot_number, index_number, frame_number, is_present, is_lazy, NamesPage, same_set}
 use Prelude.{frame_bytes, word_in, length-frame, byte-frame, Role, Reserved, Free, Directory, Table, Page, PageEntry}
 use Prelude.{Frames, dir_word, word_table, table_of, word_entry, entry_from, count_range-same, Slot, slot_order, Cell}
@@ -10,16 +10,16 @@ use Prelude.{at_page, Entries, holders_of, spaces_of, Image, IsSoundImage, Stand
 use Prelude.{is_user_slot, named_by, table_at, page_word, page_frame, own_frame, Directories, directory_of, table_in}
 use Prelude.{entry_in, entries_in, spaces_in, IsCounted, pages_by, Tables, HoldsPage, IsSound, InUse, IsSpaces}
 use Rattle.std.proofs.Common.{map as list_map}
+use Rattle.address_space.specs.Image.{CellStands, IsCount}
 use Rattle.std.specs.List.{All, range_with_len}
 use Rattle.std.proofs.lemmas.List.{get_or_default}
-use Rattle.address_space.specs.Image.{CellStands, IsCount}
 use Rattle.address_space.specs.Restored.{HasRoom, words_by, words_where, counted_at}
 use Rattle.address_space.proofs.costs.CostSteps.{keys}
 use Rattle.address_space.proofs.costs.Weighed.{weighs}
 use Rattle.address_space.proofs.entries.EntrySteps.{get-entries_in, entry_by_table}
 use Rattle.address_space.proofs.entries.UserSlots.{in_user_slots}
 use Rattle.address_space.proofs.steps.Steps.{live_small}
-use Rattle.address_space.proofs.standing.TablesStand.{past_end, own_is}
+use Rattle.address_space.proofs.standing.TablesStand.{past_end, own_is, same_table_by}
 use Rattle.address_space.proofs.standing.Standing.{one_group}
 use Rattle.page_words.specs.FiniteMap as map
 use Rattle.page_words.specs.FiniteSet as set
@@ -77,15 +77,7 @@ module _ (directories : List (Option ℕ)) (bytes : List ℕ) (roles : List Role
   ]
 
   same_table : (p s : ℕ) → table_at image p s ≡ table_in D m p s
-  same_table p s = by (D p) refl
-    where
-      at : (d : ℕ) → D p ≡ Some d → (b : Bool) → is_user_slot s ≡ b → (if b && is_present (dir_word m d s) then Some (frame_number (dir_word m d s)) else None) ≡ word_table (dir_word m d s)
-      at d live true is = refl
-      at d live false is = let z = outside_word p d s live is in sym (ap word_table z)
-
-      by : (x : Option ℕ) → D p ≡ x → option_and_then (λ d. named_by s (word_of image d s)) x ≡ option_and_then (λ d. table_of m d s) x
-      by None is = refl
-      by (Some d) is = at d is (is_user_slot s) refl
+  same_table = same_table_by directories bytes roles outside_word
 
   wide : (p s t : ℕ) → slice_get roles t ≡ Some (Table p s) → s < 1024
   wide p s t is =

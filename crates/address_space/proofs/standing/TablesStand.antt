@@ -1,14 +1,15 @@
 -- Tables and pages as an image names them, where directories and tables agree with the roles.
 use Rattle.address_space.proofs.Prelude
 use Prelude.{◌≡◌, ℕ, ◌+◌, ◌*◌, ◌<◌, ◌≤◌, Bool, true, false, cond, List, [], ◌∷◌, length, drop, refl, ap, sym, ◌∙◌}
-use Prelude.{subst, arith, inl, inr, Option, Some, None, length-drop, ◌⊎◌, ◌↔◌, ◌&&◌, slice_get, slice_index, nat_lt}
-use Prelude.{nat_le, IsTrue, MatchBool, ◌==◌, ◌||◌, unwrap_or, if◌then◌else◌, option_and_then, option_map, list_any}
-use Prelude.{cases_lt, nat_tests, slice_get_within, slot_number, index_number, frame_number, is_present, is_lazy}
-use Prelude.{IsKernelTableWord, NamesPage, same, same_or_not, same_itself, contains-insert, frame_bytes, word_at}
-use Prelude.{word_in, Role, Directory, Table, PageEntry, Frames, dir_word, word_table, table_of, word_entry, entry_from}
-use Prelude.{is_lazy_entry, Slot, slot_order, user_slots, Entries, names, group_of, cell_of, spaces_of, holders_of}
-use Prelude.{Image, word_of, is_user_slot, named_by, table_at, is_lazy_at, page_word, page_frame, SlotStands}
-use Prelude.{image_from, own_frame, Directories, directory_of, table_in, entry_in, entries_in, Tables, eqb-true, eq-eqb}
+use Prelude.{subst, arith, inl, inr, Option, Some, None, length-drop, ◌==◌, ◌||◌, ◌⊎◌, ◌↔◌, ◌&&◌, slice_get}
+use Prelude.{slice_index, nat_lt, nat_le, IsTrue, MatchBool, if◌then◌else◌, unwrap_or, option_and_then, option_map}
+use Prelude.{list_any, cases_lt, nat_tests, slice_get_within, slot_number, index_number, frame_number, is_present}
+use Prelude.{is_lazy, IsKernelTableWord, NamesPage, same, same_or_not, same_itself, contains-insert, frame_bytes}
+use Prelude.{word_at, word_in, Role, Directory, Table, PageEntry, Frames, dir_word, word_table, table_of, word_entry}
+use Prelude.{entry_from, is_lazy_entry, Slot, slot_order, user_slots, Entries, names, group_of, cell_of, spaces_of}
+use Prelude.{holders_of, Image, word_of, is_user_slot, named_by, table_at, is_lazy_at, page_word, page_frame}
+use Prelude.{SlotStands, image_from, own_frame, Directories, directory_of, table_in, entry_in, entries_in, Tables}
+use Prelude.{eqb-true, eq-eqb}
 use Rattle.address_space.specs.Image.{IsOneGroup, present_word}
 use Rattle.address_space.proofs.entries.UserSlots.{in_user_slots}
 use Rattle.address_space.proofs.entries.EntrySteps.{get-entries_in, entry_by_table}
@@ -76,6 +77,20 @@ named f (Some word) up kernel = (there (is_lazy word) refl, λ h. eq-eqb (frame_
 user_word_of : (b : Bool) (word t : ℕ) → (if b && is_present word then Some (frame_number word) else None) ≡ Some t → b ≡ true
 user_word_of true word t h = refl
 user_word_of false word t h = cc
+-- the tables that an image names, where no directory has a word outside the user range
+pub same_table_by : (directories : List (Option ℕ)) (bytes : List ℕ) (roles : List Role)
+    → ((p d s : ℕ) → directory_of directories p ≡ Some d → is_user_slot s ≡ false → dir_word (frame_bytes bytes) d s ≡ 0)
+    → (p s : ℕ) → table_at (image_from directories bytes roles) p s ≡ table_in (directory_of directories) (frame_bytes bytes) p s
+same_table_by directories bytes roles outside p s = by (directory_of directories p) refl
+  where
+    at : (d : ℕ) → directory_of directories p ≡ Some d → (b : Bool) → is_user_slot s ≡ b
+        → (if b && is_present (dir_word (frame_bytes bytes) d s) then Some (frame_number (dir_word (frame_bytes bytes) d s)) else None) ≡ word_table (dir_word (frame_bytes bytes) d s)
+    at d live true is = refl
+    at d live false is = sym (ap word_table (outside p d s live is))
+
+    by : (x : Option ℕ) → directory_of directories p ≡ x → option_and_then (λ d. named_by s (word_of (image_from directories bytes roles) d s)) x ≡ option_and_then (λ d. table_of (frame_bytes bytes) d s) x
+    by None is = refl
+    by (Some d) is = at d is (is_user_slot s) refl
 
 module _ (directories : List (Option ℕ)) (bytes : List ℕ) (roles : List Role) (T : Tables (directory_of directories) (frame_bytes bytes) (slice_get roles)) (pids : length directories ≡ 64) where
   abbrev pub D : Directories
@@ -98,15 +113,7 @@ module _ (directories : List (Option ℕ)) (bytes : List ℕ) (roles : List Role
   ]
 
   pub same_table : (p s : ℕ) → table_at image p s ≡ table_in D m p s
-  same_table p s = by (D p) refl
-    where
-      at : (d : ℕ) → D p ≡ Some d → (b : Bool) → is_user_slot s ≡ b → (if b && is_present (dir_word m d s) then Some (frame_number (dir_word m d s)) else None) ≡ word_table (dir_word m d s)
-      at d live true is = refl
-      at d live false is = let z = outside_word p d s live is in sym (ap word_table z)
-
-      by : (x : Option ℕ) → D p ≡ x → option_and_then (λ d. named_by s (word_of image d s)) x ≡ option_and_then (λ d. table_of m d s) x
-      by None is = refl
-      by (Some d) is = at d is (is_user_slot s) refl
+  same_table = same_table_by directories bytes roles outside_word
 
   table_small : (p s t : ℕ) → table_in D m p s ≡ Some t → nat_lt t (length roles) ≡ true
   table_small p s t is = let w = slice_get_within roles t (Table p s) (T.table p s t is) in grind (arith, nat_tests)

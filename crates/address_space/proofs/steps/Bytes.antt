@@ -1,14 +1,14 @@
 -- Accesses byte by byte, and as one where their bytes lie in one page.
 use Rattle.address_space.proofs.Prelude
 use Prelude.{◌≡◌, ℕ, zero, suc, ◌+◌, ◌*◌, ◌/◌, ◌%◌, ◌<◌, ◌≤◌, Bool, true, false, cond, List, [], ◌∷◌, ◌++◌, length}
-use Prelude.{take, drop, refl, ap, sym, ◌∙◌, subst, arith, inl, inr, Option, Some, None, unwrap_or, get_or-drop}
-use Prelude.{length-drop, ◌-◌, slice_index, if◌then◌else◌, ◌⊎◌, IfSome, range_with_len, slice_range, option_map}
-use Prelude.{page_number, offset_number, byte_count, covered, second_page, EachTouched, Size, same, cases_lt}
-use Prelude.{same_or_not, same_itself, same_map, get-insert, get-map_values, Slot, slot_order, at_page, slot_at, Cell}
-use Prelude.{Spaces, fresh, cell_or_fresh, set_bytes, with_bytes, stored, store_in, write_at, bytes_at, bytes_of}
-use Prelude.{value_of, byte_at, number_of, all_stored}
+use Prelude.{take, drop, refl, ap, sym, ◌∙◌, subst, arith, inl, inr, Option, Some, None, length-drop, ◌-◌, unwrap_or}
+use Prelude.{option_map, slice_index, if◌then◌else◌, ◌⊎◌, IfSome, range_with_len, slice_range, page_number}
+use Prelude.{offset_number, byte_count, covered, second_page, EachTouched, Size, same, cases_lt, same_or_not}
+use Prelude.{same_itself, same_map, get-insert, get-map_values, Slot, slot_order, at_page, slot_at, Cell, Spaces, fresh}
+use Prelude.{cell_or_fresh, set_bytes, with_bytes, stored, store_in, write_at, bytes_at, bytes_of, value_of, byte_at}
+use Prelude.{number_of, all_stored}
 use Rattle.std.proofs.Common.{map as each, drop-drop}
-use Rattle.std.proofs.lemmas.List.{append-nil, drop-take, length-take-le, take-append-drop}
+use Rattle.std.proofs.lemmas.List.{get_or-drop, append-nil, drop-take, length-take-le, take-append-drop}
 use Rattle.page_words.specs.declared.addresses.Size.TheVariants.{One, Two, Four}
 use Rattle.page_words.proofs.Accesses.{stays, crosses, some_bytes, page_stays, page_next}
 use Rattle.page_words.specs.FiniteMap as map

@@ -1,18 +1,17 @@
 -- What a copy of a page leaves, and then a copy of all pages of a process.
 use Rattle.address_space.proofs.Prelude
-use Rattle.address_space.proofs.Prelude.{names}
-use Prelude.{◌≡◌, ◌≢◌, ℕ, ◌+◌, ◌<◌, ◌≤◌, true, false, cond, List, length, refl, ap, sym, ◌∙◌, subst, arith}
-use Prelude.{inl, inr, Option, Some, None, length-set, unwrap_or, ◌⊎◌, is_some, slice_get, ◌==◌, if◌then◌else◌}
-use Prelude.{option_and_then, option_map, slot_number, IsUserPage, frame_number, Map, get-insert, same_itself, same_map}
-use Prelude.{same_apart, some_value, frame_bytes, with_frame, with_frame_bytes, with_frame-same, with_frame-other}
-use Prelude.{length-frame, frames-with_frame_bytes, Role, Free, Page, IsTaken, weight-taken}
-use Prelude.{PageEntry, Frames, dir_word, table_of, entry_at, with_entry, is_lazy_entry}
-use Prelude.{Slot, slot_order, Cell, Spaces}
-use Prelude.{cell_or_fresh, copy_of, copied, copied_at, cost, cost_of, fresh, pages_of, regions_of, at_page, Entries}
-use Prelude.{group_of, spaces_of, Directories, Roles, directory_of, table_in, entry_in, entries_in}
-use Prelude.{spaces_in, live_cost, total_cost, Tables, IsSound, IsSpaces, InUseAt, TableGiven, IsEmptySpace}
-use Prelude.{SlotCopied, PageCopied, CopiedBelow, PagesCopied, cases_eq, cases_lt, ne_eqb, eq-eqb, nat_eq_equiv}
-use Prelude.{none_goes}
+use Prelude.{names, Entries, group_of, spaces_of, ◌≡◌, ◌≢◌, ℕ, ◌+◌, ◌<◌, ◌≤◌, true}
+use Prelude.{false, cond, List, length, refl, ap, sym, ◌∙◌, subst, arith, inl, inr, Option, Some, None, length-set}
+use Prelude.{◌==◌, unwrap_or, option_and_then, option_map, ◌⊎◌, is_some, slice_get, if◌then◌else◌, slot_number}
+use Prelude.{IsUserPage, frame_number, Map, get-insert, same_itself, same_map, same_apart, some_value, frame_bytes}
+use Prelude.{with_frame, with_frame_bytes, with_frame-same, with_frame-other, length-frame, frames-with_frame_bytes}
+use Prelude.{Role, Free, Page, IsTaken, weight-taken, PageEntry, Frames, dir_word, table_of}
+use Prelude.{entry_at, with_entry, is_lazy_entry}
+use Prelude.{Slot, slot_order, Cell, Spaces, cell_or_fresh, copy_of, copied}
+use Prelude.{copied_at, cost, cost_of, fresh, pages_of, regions_of, at_page, Directories, Roles, directory_of, table_in}
+use Prelude.{entry_in, entries_in, spaces_in, live_cost, total_cost, Tables, IsSound, IsSpaces, InUseAt}
+use Prelude.{TableGiven, IsEmptySpace, SlotCopied, PageCopied, CopiedBelow, PagesCopied, cases_eq, cases_lt, ne_eqb}
+use Prelude.{eq-eqb, nat_eq_equiv, none_goes}
 use Rattle.address_space.proofs.costs.Copied.{get-copied}
 use Rattle.address_space.proofs.costs.Costed.{Room, mapped}
 use Rattle.address_space.proofs.costs.Costs.{same_pages}

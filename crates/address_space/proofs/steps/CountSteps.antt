@@ -8,6 +8,7 @@ use Prelude.{table_of, entry_at, IsCleared, counted, count_range, PageEntry, sam
 use Prelude.{slot_order, Cell, Spaces, without, is_slot, at_page, TableFreed, EntryLeft, cell_of, directory_of}
 use Prelude.{table_in, entries_in, spaces_in, IsSound, region_pages, pages_by, pages_under, IsCounted, AlwaysMapsAlike}
 use Prelude.{KeepsCounts, MapsOneMore}
+use Rattle.address_space.specs.Counts.{MapsAlike}
 use Rattle.alloc_table.specs.Roles.{IsTaken, IsHeld, IsReleased, released, opening_roles}
 use Rattle.page_map.proofs.PageLemmas.{count_range-same, count_range-le, count-no_table}
 use Rattle.page_map.proofs.Counting.{count_some, table_mapped}
@@ -16,7 +17,6 @@ use Rattle.address_space.proofs.costs.AccessCosts.{key-insert}
 use Rattle.address_space.proofs.costs.Relief.{is_gone}
 use Rattle.address_space.proofs.costs.Totals.{key-without}
 use Rattle.address_space.proofs.steps.Stores.{named_entry, page_of_name, entry_rules}
-use Rattle.address_space.specs.Counts.{MapsAlike}
 use Rattle.address_space.proofs.entries.Readings.{get-spaces_in}
 use Rattle.address_space.proofs.steps.Steps.{role_own, role_other, live_small}
 use Rattle.page_words.specs.FiniteMap as map

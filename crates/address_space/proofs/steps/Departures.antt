@@ -1,7 +1,7 @@
 -- A process whose pages leave their groups, and whose directory then goes.
 use Rattle.address_space.proofs.Prelude
-use Prelude.{◌≡◌, ◌≢◌, ℕ, ◌+◌, ◌*◌, ◌<◌, ◌≤◌, Bool, true, false, cond, not, ◌&&◌, ◌==◌, List, length, refl, ap, sym}
-use Prelude.{◌∙◌, subst, arith, inl, inr, Option, Some, None, length-set, ◌⊎◌, is_some, slice_get, slice_set}
+use Prelude.{◌≡◌, ◌≢◌, ℕ, ◌+◌, ◌*◌, ◌<◌, ◌≤◌, Bool, true, false, cond, not, ◌==◌, List, length, refl, ap, sym, ◌∙◌}
+use Prelude.{subst, arith, inl, inr, Option, Some, None, length-set, ◌&&◌, ◌⊎◌, is_some, slice_get, slice_set}
 use Prelude.{if◌then◌else◌, option_and_then, option_map, unwrap_or, list_any, cases_eq, cases_lt, slot_number}
 use Prelude.{index_number, same, Set, same_or_not, same_itself, same_map, same_set, get-map_values, get-retain_keys}
 use Prelude.{contains-retain, get-collect, frame_bytes, word_in, Role, Free, Directory, Table, frames_weight, weight}

@@ -5,9 +5,9 @@ use Prelude.{None, ◌&&◌, is_some, nat_lt, IfSome, IsOk, slice_index, option_
 use Prelude.{range_with_len, is_ok, and_parts, nat_tests, IsUserPage, page_number, start_number, byte_count, covered}
 use Prelude.{second_page, EachTouched, Size, some_bytes, frame_bytes, Role, Access, Read, Write, walk_of, Image}
 use Prelude.{directory_at, takes_stores, image_from, Spaces, at_page, byte_at, number_of, value_of, slot_at}
-use Prelude.{directory_of, spaces_in, IsSound, takes_stores_through, entry_at}
+use Prelude.{directory_of, spaces_in, IsSound, takes_stores_through, entry_at, finds_at, finds, byte_place}
+use Prelude.{number_found}
 use Rattle.std.proofs.Common.{map as each}
-use Rattle.address_space.specs.ByWalk.{finds_at, finds, byte_place, number_found}
 use Rattle.address_space.proofs.entries.Readings.{mapped_read}
 use Rattle.address_space.proofs.standing.Standing.{stores_read}
 use Rattle.address_space.proofs.steps.Steps.{live_small}

@@ -1,7 +1,7 @@
 -- A page that was found: what is known of it, and what an access through it leaves.
 use Rattle.address_space.proofs.Prelude
 use Prelude.{◌≡◌, ℕ, ◌+◌, ◌^◌, ◌<◌, ◌≤◌, Bool, true, false, List, length, refl, ap, sym, ◌∙◌, subst, arith, inl, inr}
-use Prelude.{Option, Some, None, is_some, slice_get, replicate, option_and_then, option_map, slot_number, index_number}
+use Prelude.{Option, Some, None, replicate, is_some, slice_get, option_and_then, option_map, slot_number, index_number}
 use Prelude.{byte_count, IsUserPage, Size, frame_bytes, word_in, with_word_in, with_frame-same, word_in_same}
 use Prelude.{length-frame, PageEntry, Frames, dir_word, table_of, word_entry, entry_at, with_entry, entry_word}
 use Prelude.{is_lazy_entry, IsKernelEntry, entry_word-lt, word_entry-entry_word, Found, need, Slot, Spaces, Cell}

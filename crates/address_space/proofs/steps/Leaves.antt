@@ -1,22 +1,19 @@
 -- What a slot that leaves its group leaves.
 use Rattle.address_space.proofs.Prelude
-use Rattle.address_space.proofs.steps.Steps.{sound_by}
-use Rattle.address_space.proofs.Prelude.{InUse}
-use Prelude.{◌≡◌, ◌≢◌, ℕ, ◌+◌, ◌<◌, ◌≤◌, Bool, true, false, List, length, refl, ap, sym, ◌∙◌, subst, arith, inl}
-use Prelude.{inr, Option, Some, None, length-set, ◌⊎◌, slice_get, slice_set, if◌then◌else◌, nat_lt, ◌-◌}
-use Prelude.{option_and_then, cases_eq, nat_tests, slot_number, is_present, frame_number, frame_bytes, word_in}
-use Prelude.{with_frame-other, Role, Reserved, Free, Table, Page, frames_weight, weight, released, IsInUse}
-use Prelude.{weight-set, PageEntry, Frames, dir_word, table_of, entry_at, IsCleared, without_table}
-use Prelude.{same, Slot, need, is_slot, at_page, Entries, lazy_count, cell_of}
-use Prelude.{spaces_of, holders_of, Directories, Roles, directory_of, table_in, entries_in, spaces_in, total_cost}
-use Prelude.{Tables, Pages, HoldsPage, IsSound, InUseAt, IsSpaces, TableFreed, EntryLeft, SlotRemoved, of_page}
-use Prelude.{PlacesStay}
+use Prelude.{InUse, Tables, Pages, HoldsPage, IsSound, InUseAt, IsSpaces, ◌≡◌, ◌≢◌, ℕ, ◌+◌, ◌<◌, ◌≤◌, Bool, true}
+use Prelude.{false, List, length, refl, ap, sym, ◌∙◌, subst, arith, inl, inr, Option, Some, None, length-set, ◌-◌, ◌⊎◌}
+use Prelude.{slice_get, slice_set, if◌then◌else◌, nat_lt, option_and_then, cases_eq, nat_tests, slot_number, is_present}
+use Prelude.{frame_number, frame_bytes, word_in, with_frame-other, Role, Reserved, Free, Table, Page, frames_weight}
+use Prelude.{weight, released, IsInUse, weight-set, PageEntry, Frames, dir_word, table_of, entry_at}
+use Prelude.{IsCleared, without_table, same, Slot, need, is_slot}
+use Prelude.{at_page, Entries, lazy_count, cell_of, spaces_of, holders_of, Directories, Roles, directory_of, table_in}
+use Prelude.{entries_in, spaces_in, total_cost, TableFreed, EntryLeft, SlotRemoved, of_page, PlacesStay}
+use Rattle.address_space.proofs.steps.Steps.{sound_by, live_small, page_loose, free_loose, table_by_word, role_own, role_other}
 use Rattle.address_space.proofs.costs.CostSteps.{total-entry, need-one, need-most}
 use Rattle.address_space.proofs.entries.EntrySteps.{Loose, with_word_at, entries-remove, tables-entry, tables_kept, same_entries}
 use Rattle.address_space.proofs.frames.FrameSteps.{here_or_not, tables-role, unlinked-own, unlinked-others, unlinked-table, unlinked-entry, tables-unlinked}
 use Rattle.address_space.proofs.frames.PageSteps.{same_bytes, pages-role, holders-less, no_table, no_directory}
 use Rattle.address_space.proofs.entries.Refinement.{leave_refines}
-use Rattle.address_space.proofs.steps.Steps.{live_small, page_loose, free_loose, table_by_word, role_own, role_other}
 use Rattle.address_space.proofs.steps.Stores.{found, get_user, named_entry, page_of_name, page_held, entry_rules}
 use Rattle.address_space.proofs.entries.Removal.{put_back, removed, kept_other}
 use Rattle.address_space.proofs.entries.Staying.{stay_same, stay_then, stay_removed, places_by, entry_needs_table}

@@ -4,10 +4,10 @@ use Rattle.address_space.proofs.Prelude.{option_map, slot_number, index_number, 
 use Rattle.address_space.proofs.Prelude.{Frames, table_of, word_entry, PageEntry, Found, takes_stores_through, need}
 use Rattle.address_space.proofs.Prelude.{at_page, directory_of, table_in, place_there, place_by, place_in, found_of}
 use Rattle.address_space.proofs.Prelude.{table_of_place, need_of, PlacesTell}
+use Rattle.address_space.specs.Places.{entry_flags, cell_flags}
 use Rattle.address_space.specs.declared.Spaces.TheInside.{Inside as Inner}
 use Rattle.address_space.specs.declared.place.Place.TheVariants.{Mapped}
 use Rattle.address_space.specs.Finds.{found_by, found_in, entry_found}
-use Rattle.address_space.specs.Places.{entry_flags, cell_flags}
 use Rattle.address_space.proofs.Insides.{AreCountedInside, spaces_at, image_at, table_at, found_at}
 use Rattle.address_space.proofs.steps.FoundPages.{absent_cell, need_without, need_with, found_mapped, found_takes, found_lazy, found_get}
 use Rattle.page_words.specs.FiniteMap as map

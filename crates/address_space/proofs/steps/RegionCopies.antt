@@ -6,8 +6,8 @@ use Prelude.{IsUserPage, is_present, frame_bytes, word_in, Role, PageEntry, Fram
 use Prelude.{word_entry, counted, count_range, count_range-none, count_range-same, Slot, cost, at_page, cell_or_fresh}
 use Prelude.{copy_of, directory_of, spaces_in, total_cost, IsSound, IsSpaces, IsCounted, IsEmptySpace, PageCopied}
 use Prelude.{CopiedBelow, CopyIn, PagesCopied, words_left}
-use Rattle.page_map.specs.declared.regions.Listed.{Listed}
 use Rattle.page_map.proofs.PageLemmas.{count_range-add, count-table, mapped_in_table}
+use Rattle.page_map.specs.declared.regions.Listed.{Listed}
 use Rattle.page_map.proofs.Counting.{count_none}
 use Rattle.address_space.proofs.costs.Costed.{Room}
 use Rattle.address_space.proofs.entries.Readings.{mapped_read}

@@ -1,7 +1,7 @@
 -- The pages of a process leave from region to region, and those of a region by its table.
 use Rattle.address_space.proofs.Prelude
-use Prelude.{◌≡◌, ◌≢◌, ◌⊎◌, ℕ, ◌+◌, ◌-◌, ◌*◌, ◌<◌, ◌≤◌, false, List, length, refl, ap, sym, ◌∙◌, subst, arith, inl, inr}
-use Prelude.{Option, Some, None, option_and_then, option_map, slot_number, index_number, is_present, frame_number}
+use Prelude.{◌≡◌, ◌≢◌, ℕ, ◌+◌, ◌-◌, ◌*◌, ◌<◌, ◌≤◌, false, List, length, refl, ap, sym, ◌∙◌, subst, arith, inl, inr}
+use Prelude.{Option, Some, None, ◌⊎◌, option_and_then, option_map, slot_number, index_number, is_present, frame_number}
 use Prelude.{frame_bytes, word_in, with_frame-same, with_frame-other, word_in_same, word_in_other, PageEntry, Frames}
 use Prelude.{IsPageMap, IsCleared, dir_word, table_of, entry_at, word_table, word_entry, without_table}
 use Prelude.{count_range-same, count_range-none, Found, found_in, View, directory_of}

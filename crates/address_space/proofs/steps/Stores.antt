@@ -11,10 +11,10 @@ use Prelude.{protected, at_page, Entries, holders_of, cell_of, spaces_of, Direct
 use Prelude.{entry_in, entries_in, spaces_in, total_cost, Tables, Pages, HoldsPage, IsSound, InUseAt, Names, Inside}
 use Prelude.{InUse, ne_eqb}
 use Rattle.std.proofs.Common.{append_assoc}
+use Rattle.address_space.specs.Spaces.{accessed as accessed_in}
 use Rattle.byteorder.specs.Endian.{little_bytes}
 use Rattle.phys_memory.proofs.Frames.{with_frame-other, frames-with_word_at, frames-with_byte}
 use Rattle.std.proofs.lemmas.List.{set_split, length-take-le}
-use Rattle.address_space.specs.Spaces.{accessed as accessed_in}
 use Rattle.address_space.proofs.entries.UserSlots.{in_user_slots}
 use Rattle.address_space.specs.Changes.{EntryPut, Touched, flagged}
 use Rattle.address_space.proofs.costs.CostSteps.{total-kept}

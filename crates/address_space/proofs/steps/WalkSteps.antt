@@ -9,6 +9,7 @@ use Prelude.{Access, Read, Write, WalkEnd, Outside, PageEntry, Frames, dir_word,
 use Prelude.{entry_at, entry_word, with_entry, lets_writes, IsKernelEntry, walks_read_entries, user_cases, byte_place}
 use Prelude.{is_marked, and_parts, Slot, Spaces, Cell, cell_or_fresh, stored, write_at, byte_at, at_page, slot_at}
 use Prelude.{Directories, Roles, directory_of, table_in, spaces_in, Tables, IsSound, Inside, Touched, none_goes}
+use Rattle.address_space.specs.Spaces.{accessed as accessed_in}
 use Rattle.page_words.proofs.Flags.{table_words_by_fields}
 use Rattle.phys_memory.proofs.Words.{length-with_word}
 use Rattle.phys_memory.proofs.Frames.{by_frame, byte-frame, frames-with_word, frames-with_byte, word_in-frame}
@@ -18,7 +19,6 @@ use Rattle.table_walk.proofs.Leads.{walks_find_what_leads}
 use Rattle.page_map.specs.Laws.{end_at_entry, touched_entry}
 use Rattle.page_map.proofs.MarkProofs.{touched_names, entry_from-touched}
 use Rattle.page_map.proofs.WordLaws.{entry_word-names, entry_from-entry_word, with_flag_lt}
-use Rattle.address_space.specs.Spaces.{accessed as accessed_in}
 use Rattle.address_space.proofs.entries.EntrySteps.{entry_by_table}
 use Rattle.address_space.proofs.frames.PageSteps.{no_directory, no_table}
 use Rattle.address_space.proofs.steps.Steps.{inside, holds_inside, live_small, page_map_of, present_by_table, table_by_word}

@@ -1,12 +1,12 @@
 -- Accesses that a processor makes by its walk, on what is kept.
 use Rattle.address_space.proofs.Prelude
-use Prelude.{◌≡◌, ◌+◌, ◌*◌, ◌/◌, ◌%◌, ◌^◌, ◌<◌, ℕ, Bool, true, false, cond, if◌then◌else◌, List, [], ◌∷◌, length, refl}
-use Prelude.{ap, sym, ◌∙◌, subst, arith, inl, inr, Option, Some, None, ◌&&◌, IsOk, Ok, nat_lt, slice_set, option_map}
-use Prelude.{unwrap_or, is_ok, and_parts, nat_tests, page_number, offset_number, start_number, second_page, Size}
-use Prelude.{Access, Read, Write, walk_of, marked, finds_at, finds, byte_place, Image, image_from, directory_at, Slot}
-use Prelude.{slot_order, Cell, Spaces, fresh, with_bytes, set_bytes, write_at, bytes_of, accessed, stored}
-use Prelude.{cell_or_fresh, slot_at, get-insert, get-map_values, same_or_not, directory_of, Touched, AreCountedSpaces}
-use Prelude.{FramesStay, none_goes}
+use Prelude.{◌≡◌, ◌+◌, ◌*◌, ◌/◌, ◌%◌, ◌^◌, ◌<◌, ℕ, Bool, true, false, cond, List, [], ◌∷◌, length, refl, ap, sym, ◌∙◌}
+use Prelude.{subst, arith, inl, inr, Option, Some, None, if◌then◌else◌, ◌&&◌, IsOk, Ok, nat_lt, slice_set, option_map}
+use Prelude.{unwrap_or, is_ok, and_parts, nat_tests, page_number, offset_number, start_number, second_page, byte_count}
+use Prelude.{covered, touched, page_and, Size, Access, Read, Write, walk_of, marked, finds_at, finds, byte_place}
+use Prelude.{number_found, Image, image_from, directory_at, Slot, slot_order, Cell, Spaces, fresh, with_bytes}
+use Prelude.{set_bytes, write_at, bytes_of, accessed, stored, cell_or_fresh, slot_at, all_accessed, at_page, number_of}
+use Prelude.{get-insert, get-map_values, same_or_not, directory_of, Touched, AreCountedSpaces, FramesStay, none_goes}
 use Rattle.address_space.specs.declared.Spaces.TheInside.{Inside as Inner}
 use Rattle.address_space.specs.Kept.{is_marked, kept_place, written_at}
 use Rattle.address_space.proofs.Insides.{AreCountedInside, spaces_at, image_at}
@@ -17,9 +17,6 @@ use Rattle.address_space.proofs.steps.Finding.{found_at, found_mapped, FoundEach
 use Rattle.address_space.proofs.steps.FoundPages.{Left}
 use Rattle.address_space.proofs.steps.WalkSteps.{found_entry, load_marked, ByteParts, byte_written, byte_put, walk_named}
 use Rattle.address_space.proofs.standing.FramesStand.{frames_stay, stays_then}
-use Rattle.address_space.specs.ByWalk.{number_found}
-use Rattle.page_words.specs.Addresses.{byte_count, covered, touched, page_and}
-use Rattle.address_space.specs.Spaces.{all_accessed, at_page, number_of}
 use Rattle.page_words.specs.FiniteMap as map
 use Rattle.page_words.specs.FiniteSet as set
 

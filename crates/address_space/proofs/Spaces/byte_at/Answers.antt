@@ -1,6 +1,6 @@
-use Rattle.address_space.proofs.Prelude.{ap, sym, ◌∙◌, arith, is_some, slice_index, page_number, offset_number}
-use Rattle.address_space.proofs.Prelude.{no_value, Cell, slot_at, found_of, ◌≡◌, ℕ, ◌<◌, Option, None, unwrap_or, true}
-use Rattle.address_space.proofs.Prelude.{Slot, Spaces, cell_or_fresh, fresh}
+use Rattle.address_space.proofs.Prelude.{ap, sym, ◌∙◌, arith, ◌≡◌, ℕ, ◌<◌, Option, None, true, is_some, slice_index}
+use Rattle.address_space.proofs.Prelude.{page_number, offset_number, no_value, Cell, slot_at, Slot, Spaces}
+use Rattle.address_space.proofs.Prelude.{cell_or_fresh, fresh, found_of, unwrap_or}
 use Rattle.address_space.proofs.steps.FoundPages.{found_mapped, found_lies, found_cell}
 use Rattle.address_space.proofs.steps.Placing.{place_found}
 use Rattle.address_space.proofs.Insides.{spaces_at}

@@ -1,5 +1,4 @@
-use Rattle.std.proofs.Common.{◌+◌, ◌*◌, ◌≤◌, sym, subst}
-use Rattle.address_space.proofs.Prelude.{SlotCopied}
+use Rattle.address_space.proofs.Prelude.{◌+◌, ◌*◌, ◌≤◌, sym, subst, SlotCopied}
 use Rattle.address_space.proofs.steps.Steps.{page_map_of}
 use Rattle.address_space.proofs.steps.Stores.{named_inside}
 use Rattle.address_space.proofs.steps.NewPages.{table_room, ready_inside, ready_count, ready_fits, ready_lies, ready_free, copy_added, copy_more, copy_alike, copy_whole, copy_linked, added_kept}

@@ -1,6 +1,6 @@
 use Rattle.address_space.proofs.Prelude.{◌<◌, ◌^◌, ap, sym, ◌∙◌, subst, frame_bytes, PageEntry, with_entry, Spaces}
-use Rattle.address_space.proofs.Prelude.{TableGiven, SlotJoined, slot_number}
-use Rattle.address_space.proofs.Prelude.{joined, at_page, table_of_place, found_of, is_some, none_goes, directory_of}
+use Rattle.address_space.proofs.Prelude.{joined, at_page, TableGiven, SlotJoined, slot_number, table_of_place, found_of}
+use Rattle.address_space.proofs.Prelude.{is_some, none_goes, directory_of}
 use Rattle.address_space.proofs.steps.Steps.{page_map_of}
 use Rattle.address_space.proofs.steps.CountSteps.{alike_held}
 use Rattle.address_space.proofs.steps.FoundPages.{found_real, found_named, found_least, found_mapped}

@@ -1,7 +1,4 @@
-use Rattle.std.proofs.Common.{sym, ◌∙◌}
-use Rattle.page_words.specs.Addresses.{touched}
-use Rattle.table_walk.specs.declared.Access.TheVariants.{Read}
-use Rattle.address_space.specs.Spaces.{all_accessed}
+use Rattle.address_space.proofs.Prelude.{sym, ◌∙◌, touched, Read, all_accessed}
 use Rattle.address_space.proofs.Insides.{spaces_at, image_at}
 use Rattle.address_space.proofs.steps.WalkSteps.{found_apart}
 use Rattle.address_space.proofs.steps.Finding.{finds_live}

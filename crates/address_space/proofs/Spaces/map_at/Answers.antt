@@ -1,6 +1,6 @@
 use Rattle.address_space.proofs.Prelude.{◌^◌, ◌<◌, ap, sym, subst, arith, ◌∙◌, refl, frame_bytes, PageEntry, with_entry}
-use Rattle.address_space.proofs.Prelude.{TableGiven, PageAdded, slot_number}
-use Rattle.address_space.proofs.Prelude.{is_lazy_entry, Spaces, fresh, at_page, table_of_place, none_goes, directory_of}
+use Rattle.address_space.proofs.Prelude.{is_lazy_entry, TableGiven, PageAdded, slot_number, Spaces, fresh, at_page}
+use Rattle.address_space.proofs.Prelude.{table_of_place, none_goes, directory_of}
 use Rattle.address_space.proofs.standing.Standing.{same_lazy}
 use Rattle.address_space.proofs.steps.Steps.{page_map_of}
 use Rattle.address_space.proofs.steps.NewPages.{table_room, ready_given, ready_table, ready_inside, ready_count, ready_fits, zero_added, zero_more, added_kept}

@@ -1,6 +1,7 @@
-use Rattle.address_space.proofs.Prelude.{◌≡◌, ◌≤◌, ◌<◌, ◌∙◌, ℕ, Bool, true, false, ap, sym, Option, Some, None}
-use Rattle.address_space.proofs.Prelude.{frame_bytes, is_mapped, at_page, View, List, inl, inr, Role, user_cases}
-use Rattle.address_space.proofs.Prelude.{get-entries_user, get-entries_other, directory_of, spaces_in, IsSound}
+use Rattle.address_space.proofs.Prelude.{◌≡◌, ◌≤◌, ◌<◌, ◌∙◌, ℕ, Bool, true, false, ap, sym, Option, Some, None, List}
+use Rattle.address_space.proofs.Prelude.{inl, inr, frame_bytes, at_page, View, directory_of, spaces_in, Role}
+use Rattle.address_space.proofs.Prelude.{user_cases, get-entries_user, get-entries_other, IsSound}
+use Rattle.page_map.specs.Pages.{is_mapped}
 use Rattle.std.specs.Prelude.{is_some, IfSome, IfNone}
 use Rattle.address_space.proofs.steps.Openings.{no_cell}
 use Rattle.address_space.proofs.steps.Steps.{page_map_of, live_small}

@@ -1,6 +1,6 @@
-use Rattle.address_space.proofs.Prelude.{◌+◌, ap, sym, ◌∙◌, is_some, some_value, frame_bytes, cost, without, is_slot}
-use Rattle.address_space.proofs.Prelude.{at_page, found_of, ◌≡◌, ◌≢◌, ℕ, ◌*◌, true, arith, slot_number, IsUserPage}
-use Rattle.address_space.proofs.Prelude.{no_value, Frames, entry_at, count_range, IsAlone, IsShared}
+use Rattle.address_space.proofs.Prelude.{◌+◌, ap, sym, ◌∙◌, ◌≡◌, ◌≢◌, ℕ, ◌*◌, true, arith, is_some, some_value}
+use Rattle.address_space.proofs.Prelude.{no_value, frame_bytes, cost, without, is_slot, at_page, found_of, slot_number}
+use Rattle.address_space.proofs.Prelude.{IsUserPage, Frames, entry_at, count_range, IsAlone, IsShared}
 use Rattle.address_space.proofs.Insides.{spaces_at}
 use Rattle.address_space.proofs.steps.Steps.{live_small}
 use Rattle.address_space.proofs.steps.FoundPages.{found_known, found_mapped}

@@ -4,10 +4,9 @@ use Rattle.address_space.proofs.Prelude.{WalksAgree, PlacesTell, WaysAgree}
 use Rattle.alloc_table.proofs.RoleLemmas.{in-use-and-reserved}
 use Rattle.address_space.specs.Image.{StandsFor, LeavesRoom, image_of}
 use Rattle.address_space.proofs.steps.Openings.{cost_within}
-use Rattle.address_space.proofs.standing.WaysStand.{walks_agree}
+use Rattle.address_space.proofs.standing.WaysStand.{walks_agree, ways_agree}
 use Rattle.address_space.proofs.standing.Standing.{image_stands, lazy_slots}
 use Rattle.address_space.proofs.steps.Placing.{places_tell}
-use Rattle.address_space.proofs.standing.WaysStand.{ways_agree}
 use Rattle.address_space.proofs.Spaces.stands.Goals as goal
 
 pub returns : goal.returns

@@ -1,6 +1,6 @@
-use Rattle.address_space.proofs.Prelude.{◌≡◌, ◌+◌, ◌<◌, ◌^◌, ℕ, List, Option, ap, sym, ◌∙◌, subst, arith, Ok}
+use Rattle.address_space.proofs.Prelude.{◌≡◌, ◌+◌, ◌<◌, ◌^◌, ℕ, List, Option, ap, sym, ◌∙◌, subst, arith, Ok, true}
 use Rattle.address_space.proofs.Prelude.{directory_of, byte_count, page_number, Write, walk_of, finds_at, image_of}
-use Rattle.address_space.proofs.Prelude.{is_marked, slot_at}
+use Rattle.address_space.proofs.Prelude.{is_marked, slot_at, suc}
 use Rattle.address_space.proofs.steps.Bytes.{stored_four}
 use Rattle.address_space.proofs.steps.WalkedPages.{put_led, two_led, four_led}
 use Rattle.address_space.proofs.standing.FramesStand.{stays_then}
@@ -27,29 +27,25 @@ returns-in-Four-clause-stay c =
 
 -- ---- What each byte's store asks
 
+-- what holds of each byte of an access holds of its first
+first : (P : ℕ → Type 0) (a n k : ℕ) → n ≡ suc k → ((i : ℕ) → i < n → P (a + i)) → P a
+first P a n k count each = let at : a + 0 ≡ a = omega arith in subst P at (each 0 (omega (arith, count)))
+
 pub store_byte_kept-requires-clause-finds : goal.store_byte_kept-requires-clause-finds
 store_byte_kept-requires-clause-finds c =
-    let count : byte_count c.args.size ≡ 1 = ap byte_count c.in-One.is in
-    let at : c.args.address ≡ c.args.address + 0 = omega arith in
-    ap (finds_at (image_of c.args.self.now) c.args.pid Write) at ∙ c.requires.finds 0 (omega (arith, count))
+    first (λ a. finds_at (image_of c.args.self.now) c.args.pid Write a ≡ true) c.args.address (byte_count c.args.size) 0 (ap byte_count c.in-One.is) c.requires.finds
 
 pub store_byte_kept-second-requires-clause-finds : goal.store_byte_kept-second-requires-clause-finds
 store_byte_kept-second-requires-clause-finds c =
-    let count : byte_count c.args.size ≡ 2 = ap byte_count c.in-Two.is in
-    let at : c.args.address ≡ c.args.address + 0 = omega arith in
-    ap (finds_at (image_of c.args.self.now) c.args.pid Write) at ∙ c.requires.finds 0 (omega (arith, count))
+    first (λ a. finds_at (image_of c.args.self.now) c.args.pid Write a ≡ true) c.args.address (byte_count c.args.size) 1 (ap byte_count c.in-Two.is) c.requires.finds
 
 pub store_byte_kept-second-requires-in-Four-clause-finds : goal.store_byte_kept-second-requires-in-Four-clause-finds
 store_byte_kept-second-requires-in-Four-clause-finds c =
-    let count : byte_count c.args.size ≡ 4 = ap byte_count c.in-Four.is in
-    let at : c.args.address ≡ c.args.address + 0 = omega arith in
-    ap (finds_at (image_of c.args.self.now) c.args.pid Write) at ∙ c.requires.finds 0 (omega (arith, count))
+    first (λ a. finds_at (image_of c.args.self.now) c.args.pid Write a ≡ true) c.args.address (byte_count c.args.size) 3 (ap byte_count c.in-Four.is) c.requires.finds
 
 pub store_byte_kept-second-requires-in-Four-clause-marked : goal.store_byte_kept-second-requires-in-Four-clause-marked
 store_byte_kept-second-requires-in-Four-clause-marked c =
-    let count : byte_count c.args.size ≡ 4 = ap byte_count c.in-Four.is in
-    let at : c.args.address ≡ c.args.address + 0 = omega arith in
-    ap (λ a. is_marked c.args.self.now.spaces (slot_at c.args.pid a)) at ∙ c.requires.marked 0 (omega (arith, count))
+    first (λ a. is_marked c.args.self.now.spaces (slot_at c.args.pid a) ≡ true) c.args.address (byte_count c.args.size) 3 (ap byte_count c.in-Four.is) c.requires.marked
 
 pub store_byte_kept-fourth-requires-clause-finds : goal.store_byte_kept-fourth-requires-clause-finds
 store_byte_kept-fourth-requires-clause-finds c =
@@ -114,29 +110,33 @@ returns-in-One-clause-bytes c = rw c.in-One.is
     (led frames c.args.self.now.bytes d c.args.address c.args.address 0 (omega arith) (lead 0 (omega arith)))
     (c.store_byte_kept.ensures.bytes d live))
 
+-- the walks lead as before after a byte was stored
+led_on : (frames : ℕ → ℕ) (m m' : List ℕ) (d a n : ℕ) → a + n < 2 ^ 32 → ((at : ℕ) → at < 2 ^ 32 → walk_of m' d at Write ≡ walk_of m d at Write)
+    → ((i : ℕ) → i < n → walk_of m d (a + i) Write ≡ Ok (frames (page_number (a + i)))) → (i : ℕ) → i < n → walk_of m' d (a + i) Write ≡ Ok (frames (page_number (a + i)))
+led_on frames m m' d a n fits walks lead i l = walks (a + i) (omega (arith, fits, l)) ∙ lead i l
+
 pub returns-in-Two-clause-bytes : goal.returns-in-Two-clause-bytes
 returns-in-Two-clause-bytes c = rw c.in-Two.is
     (λ d frames live lead.
+    let a = c.args.address in
     let count : byte_count c.args.size ≡ 2 = ap byte_count c.in-Two.is in
-    let fits = c.requires.fits in
+    let fits : a + 2 < 2 ^ 32 = let f = c.requires.fits in omega (arith, f, count) in
     let m = c.args.self.now.bytes in
     let one = c.store_byte_kept-second in
     let two = c.store_byte_kept-in-Two in
     let at = one.ensures.address in
-    let small : one.result.0 < 2 ^ 32 = omega (arith, at, fits, count) in
-    let live1 = ap (λ (l : List (Option ℕ)). directory_of l c.args.pid) one.ensures.directories ∙ live in
-    two_led frames m one.new.self.bytes two.new.self.bytes c.args.address one.result.0 c.args.value one.result.1 at one.ensures.value
-    (put_led frames m one.new.self.bytes d c.args.address c.args.value
-    (led frames m d c.args.address c.args.address 0 (omega arith) (lead 0 (omega arith))) (one.ensures.bytes d live))
-    (put_led frames one.new.self.bytes two.new.self.bytes d one.result.0 one.result.1
-    (one.ensures.walks d one.result.0 Write live small ∙ led frames m d c.args.address one.result.0 1 at (lead 1 (omega arith)))
-    (two.ensures.bytes d live1)))
+    let lead1 = led_on frames m one.new.self.bytes d a 2 fits (λ at l. one.ensures.walks d at Write live l) lead in
+    two_led frames m one.new.self.bytes two.new.self.bytes a one.result.0 c.args.value one.result.1 at one.ensures.value
+    (put_led frames m one.new.self.bytes d a c.args.value (led frames m d a a 0 (omega arith) (lead 0 (omega arith))) (one.ensures.bytes d live))
+    (put_led frames one.new.self.bytes two.new.self.bytes d one.result.0 one.result.1 (led frames one.new.self.bytes d a one.result.0 1 at (lead1 1 (omega arith)))
+    (two.ensures.bytes d (ap (λ (l : List (Option ℕ)). directory_of l c.args.pid) one.ensures.directories ∙ live))))
 
 pub returns-in-Four-clause-bytes : goal.returns-in-Four-clause-bytes
 returns-in-Four-clause-bytes c = rw c.in-Four.is
     (λ d frames live lead.
+    let a = c.args.address in
     let count : byte_count c.args.size ≡ 4 = ap byte_count c.in-Four.is in
-    let fits = c.requires.fits in
+    let fits : a + 4 < 2 ^ 32 = let f = c.requires.fits in omega (arith, f, count) in
     let m = c.args.self.now.bytes in
     let one = c.store_byte_kept-second-in-Four in
     let two = c.store_byte_kept-third in
@@ -145,27 +145,16 @@ returns-in-Four-clause-bytes c = rw c.in-Four.is
     let a1 = one.ensures.address in
     let a2 = two.ensures.address in
     let a3 = three.ensures.address in
-    let b2 : two.result.0 ≡ c.args.address + 2 = omega (arith, a1, a2) in
-    let b3 : three.result.0 ≡ c.args.address + 3 = omega (arith, a1, a2, a3) in
-    let s1 : one.result.0 < 2 ^ 32 = omega (arith, a1, fits, count) in
-    let s2 : two.result.0 < 2 ^ 32 = omega (arith, b2, fits, count) in
-    let s3 : three.result.0 < 2 ^ 32 = omega (arith, b3, fits, count) in
     let live1 = ap (λ (l : List (Option ℕ)). directory_of l c.args.pid) one.ensures.directories ∙ live in
     let live2 = ap (λ (l : List (Option ℕ)). directory_of l c.args.pid) two.ensures.directories ∙ live1 in
     let live3 = ap (λ (l : List (Option ℕ)). directory_of l c.args.pid) three.ensures.directories ∙ live2 in
+    let lead1 = led_on frames m one.new.self.bytes d a 4 fits (λ at l. one.ensures.walks d at Write live l) lead in
+    let lead2 = led_on frames one.new.self.bytes two.new.self.bytes d a 4 fits (λ at l. two.ensures.walks d at Write live1 l) lead1 in
+    let lead3 = led_on frames two.new.self.bytes three.new.self.bytes d a 4 fits (λ at l. three.ensures.walks d at Write live2 l) lead2 in
     four_led frames m one.new.self.bytes two.new.self.bytes three.new.self.bytes four.new.self.bytes
-    c.args.address one.result.0 two.result.0 three.result.0 c.args.value one.result.1 two.result.1 three.result.1
+    a one.result.0 two.result.0 three.result.0 c.args.value one.result.1 two.result.1 three.result.1
     a1 a2 a3 one.ensures.value two.ensures.value three.ensures.value
-    (put_led frames m one.new.self.bytes d c.args.address c.args.value
-    (led frames m d c.args.address c.args.address 0 (omega arith) (lead 0 (omega arith))) (one.ensures.bytes d live))
-    (put_led frames one.new.self.bytes two.new.self.bytes d one.result.0 one.result.1
-    (one.ensures.walks d one.result.0 Write live s1 ∙ led frames m d c.args.address one.result.0 1 a1 (lead 1 (omega arith)))
-    (two.ensures.bytes d live1))
-    (put_led frames two.new.self.bytes three.new.self.bytes d two.result.0 two.result.1
-    (two.ensures.walks d two.result.0 Write live1 s2 ∙ one.ensures.walks d two.result.0 Write live s2
-    ∙ led frames m d c.args.address two.result.0 2 b2 (lead 2 (omega arith)))
-    (three.ensures.bytes d live2))
-    (put_led frames three.new.self.bytes four.new.self.bytes d three.result.0 three.result.1
-    (three.ensures.walks d three.result.0 Write live2 s3 ∙ two.ensures.walks d three.result.0 Write live1 s3
-    ∙ one.ensures.walks d three.result.0 Write live s3 ∙ led frames m d c.args.address three.result.0 3 b3 (lead 3 (omega arith)))
-    (four.ensures.bytes d live3)))
+    (put_led frames m one.new.self.bytes d a c.args.value (led frames m d a a 0 (omega arith) (lead 0 (omega arith))) (one.ensures.bytes d live))
+    (put_led frames one.new.self.bytes two.new.self.bytes d one.result.0 one.result.1 (led frames one.new.self.bytes d a one.result.0 1 a1 (lead1 1 (omega arith))) (two.ensures.bytes d live1))
+    (put_led frames two.new.self.bytes three.new.self.bytes d two.result.0 two.result.1 (led frames two.new.self.bytes d a two.result.0 2 (omega (arith, a1, a2)) (lead2 2 (omega arith))) (three.ensures.bytes d live2))
+    (put_led frames three.new.self.bytes four.new.self.bytes d three.result.0 three.result.1 (led frames three.new.self.bytes d a three.result.0 3 (omega (arith, a1, a2, a3)) (lead3 3 (omega arith))) (four.ensures.bytes d live3)))

@@ -1,5 +1,5 @@
 use Rattle.process_table.proofs.Prelude.{◌≡◌, ◌≢◌, ℕ, ◌+◌, true, false, [], ◌∷◌, arith, refl, Some, None, rules, sym}
-use Rattle.process_table.proofs.Prelude.{ap, subst, ◌∙◌, IsOk, Ok, Err, is_some, if◌then◌else◌, Mapped, Quota}
+use Rattle.process_table.proofs.Prelude.{ap, subst, ◌∙◌, Ok, Err, is_some, IsOk, if◌then◌else◌, Mapped, Quota}
 use Rattle.process_table.proofs.Prelude.{IsUserPage, offer_key, is_live, is_mapped, overdrawn, State, no_value}
 use Rattle.process_table.proofs.Prelude.{place_in, Slot, cost, need, joined, at_page, cost-joined, cost-joined_other}
 use Rattle.process_table.proofs.Prelude.{used_of, accept_answer, accept_refusal, after_accept, View, IsProcesses}
