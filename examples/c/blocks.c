@@ -166,6 +166,9 @@ int main(void) {
     expect(tower_boot_wide(FRAMES, &tower) == TOWER_BOOTED ? core : SIZE_MAX, "a wide core");
     tower_free(&tower);
     expect(0, "freed");
+    expect(tower_boot(TOWER_MAX_FRAMES, &tower) == TOWER_BOOTED ? core : SIZE_MAX, "a core of 4,096 frames");
+    tower_free(&tower);
+    expect(0, "freed");
     try_all(&none, 0);
     restores(&tower, core);
     return 0;
