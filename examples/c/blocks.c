@@ -84,14 +84,20 @@ static void queries(struct tower *tower) {
 static void acts(struct tower *tower) {
     struct tower_processes processes = {0};
     struct tower_holder holder = {0, 0};
+    struct tower_offer offer = {0};
     struct tower_reply told = {0};
+    const struct tower_event offers = tower_offer(0, TOWER_FIRST_PAGE, 2, TOWER_READ_WRITE);
     uint32_t number = 0;
     size_t count = 0;
-    bool dirty = false;
+    bool dirty = false, may = false;
     SAYS(tower_children(tower, 0, &processes));
     SAYS(tower_peek(tower, 0, 0x40000ffe, data, sizeof data, &count));
     SAYS(tower_next_dirty(tower, 0, 0, &number));
     SAYS(tower_clean(tower, 0, TOWER_FIRST_PAGE, &dirty));
+    SAYS(tower_load_bytes(tower, 0, 0x40000ffe, data, sizeof data, true, &told));
+    SAYS(tower_may_write(tower, &offers, 1, &may));
+    SAYS(tower_step(tower, &offers, &told));
+    SAYS(tower_next_offer(tower, 0, 0, 0, &offer));
     SAYS(tower_take_back(tower, 0, TOWER_FIRST_PAGE, &holder, 1, &count, &told));
     SAYS(tower_end(tower, 1, &processes, &told));
     need(!tower_next_holder(tower, 0, TOWER_FIRST_PAGE, 1, 0, &number), "a page of process 0 alone");

@@ -1,14 +1,7 @@
 -- The inside of address spaces: the spaces and the image that they represent, and where a page is.
-use Rattle.std.proofs.Common.{ℕ, Option}
-use Rattle.page_words.specs.Addresses.{slot_number}
-use Rattle.phys_memory.specs.Bytes.{frame_bytes}
+use Rattle.address_space.proofs.Prelude.{ℕ, Option, slot_number, frame_bytes, Found, Spaces, Image, image_from, View}
+use Rattle.address_space.proofs.Prelude.{directory_of, table_in, spaces_in, AreCountedSpaces, found_in}
 use Rattle.address_space.specs.declared.Spaces.TheInside.{Inside}
-use Rattle.address_space.specs.declared.place.Found.{Found}
-use Rattle.address_space.specs.Spaces.{Spaces}
-use Rattle.address_space.specs.Image.{Image, image_from}
-use Rattle.address_space.specs.View.{View, directory_of, table_in, spaces_in}
-use Rattle.address_space.specs.Counts.{AreCountedSpaces}
-use Rattle.address_space.specs.Finds.{found_in}
 
 -- the type's invariant
 abbrev pub AreCountedInside : Inside → Type 0

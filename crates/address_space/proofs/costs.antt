@@ -1,7 +1,6 @@
 -- Lemmas on what processes cost.
 pub mod AccessCosts
 pub mod AccessNeeds
-pub mod Beside
 pub mod ChargeLemmas
 pub mod Copied
 pub mod CostSteps

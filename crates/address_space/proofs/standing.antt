@@ -3,5 +3,4 @@ pub mod FramesStand
 pub mod Restored
 pub mod Standing
 pub mod TablesStand
-pub mod WalkEnds
 pub mod WaysStand

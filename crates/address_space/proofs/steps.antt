@@ -9,13 +9,11 @@ pub mod DirWords
 pub mod Finding
 pub mod FoundPages
 pub mod GonePages
-pub mod Joins
 pub mod LazyFilling
+pub mod LooseFrames
 pub mod Leaves
-pub mod Looks
 pub mod Neighbours
 pub mod NewPages
-pub mod NextPages
 pub mod Openings
 pub mod Placing
 pub mod Steps

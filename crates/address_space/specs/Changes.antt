@@ -13,7 +13,7 @@ use Rattle.page_words.specs.FiniteMap as map
 use Rattle.page_words.specs.FiniteSet as set
 use Rattle.address_space.specs.Spaces.{cell_or_fresh, Slot, Spaces, cost, need, fresh, joined, without, is_slot, is_of, at_page, copy_of, copied}
 use Rattle.address_space.specs.Cells.{holders_of}
-use Rattle.address_space.specs.Stays.{FramesStay, PlacesStay, none_goes, of_page, of_lazy, of_process}
+use Rattle.address_space.specs.Stays.{FramesStay, LooseStay, PlacesStay, none_goes, of_page, of_lazy, of_process}
 use Rattle.address_space.specs.Image.{image_of}
 use Rattle.address_space.specs.View.{View, table_in, total_cost, spaces_in, entries_in, entry_in, directory_of}
 use Rattle.address_space.specs.Sound.{InUse, IsSound, InUseAt, weight_in, IsSpaces}
@@ -217,6 +217,7 @@ pub record DroppedBelow (v : View) (p from : ℕ) (v' : View) : Type 0 where
   pub directories : v'.directories ≡ v.directories
   pub spaces : without v'.spaces (is_of p) ≡ without v.spaces (is_of p)
   pub stay : FramesStay (of_process p) (image_of v) (image_of v')
+  pub loose : LooseStay (image_of v) (image_of v')
   pub below : (page : ℕ) → page < from → map.get v'.spaces (at_page p page) ≡ None
   pub length : length v'.roles ≡ length v.roles
   pub low : 0x40000 ≤ from

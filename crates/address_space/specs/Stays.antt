@@ -1,8 +1,10 @@
 -- Where each slot's walk leads, and when it leads to the same frame after a change.
-use Rattle.std.specs.Prelude.{◌≡◌, ◌<◌, ◌^◌, ℕ, Bool, true, false, ◌&&◌, ◌==◌, Option, Some, Ok}
+use Rattle.std.specs.Prelude.{◌≡◌, ◌⊎◌, ◌<◌, ◌^◌, ℕ, Bool, true, false, ◌&&◌, ◌==◌, Option, Some, Ok, slice_get}
 use Rattle.std.specs.Option.{option_map, option_and_then}
 use Rattle.page_words.specs.Words.{frame_number, is_lazy, is_dirty}
 use Rattle.page_words.specs.FiniteMap as map
+use Rattle.phys_memory.specs.Bytes.{frame_bytes}
+use Rattle.alloc_table.specs.declared.Role.TheVariants.{Free, Page}
 use Rattle.page_map.specs.declared.PageEntry.{PageEntry}
 use Rattle.address_space.specs.Spaces.{Slot, at_page, slot_at, is_slot, is_of}
 use Rattle.address_space.specs.Cells.{Entries}
@@ -56,6 +58,14 @@ pub record FramesStay (gone : Gone) (old new : Image) : Type 0 where
   -- and to the same frame
   pub ways : (slot : Slot) (directory frame : ℕ) → gone slot frame ≡ false
       → way_of old slot ≡ Some (directory, frame) → way_of new slot ≡ Some (directory, frame)
+
+-- a frame is a page's, or free
+abbrev pub IsLoose : Image → ℕ → Type 0
+IsLoose image f = (slice_get image.roles f ≡ Some Free) ⊎ ((c : ℕ) × (slice_get image.roles f ≡ Some (Page c)))
+
+-- each such frame keeps its bytes, and is one afterwards: it is cleared when it is given, not when it is freed
+pub record LooseStay (old new : Image) : Type 0 where
+  pub each : (f : ℕ) → IsLoose old f → (frame_bytes new.bytes f ≡ frame_bytes old.bytes f) × IsLoose new f
 
 -- each walk that finds a frame goes the way of its slot, and the lazy slots, which are clean, are those whose way
 -- leads to frame 0

@@ -9,7 +9,7 @@ ghost use Rattle.page_map.specs.Entries.{table_of};
 ghost use Rattle.address_space.specs.Finds.{found_in};
 ghost use Rattle.address_space.specs.View.{View, directory_of, total_cost};
 ghost use Rattle.address_space.specs.Changes.{TableFreed, EntryLeft, IsEmptySpace, EntryGone, DroppedBelow};
-ghost use Rattle.address_space.specs.Stays.{FramesStay, none_goes, of_page, of_process};
+ghost use Rattle.address_space.specs.Stays.{FramesStay, LooseStay, none_goes, of_page, of_process};
 ghost use Rattle.address_space.specs.Image.{image_of, is_lazy_at};
 ghost use Rattle.address_space.specs.Places.{place_in};
 ghost use Rattle.page_words.specs.FiniteMap as map;
@@ -52,6 +52,7 @@ impl Spaces {
             ≡ Some found.now }
         ensures spaces { self.new.spaces ≡ without self.old.spaces (is_slot pid page) }
         ensures stay { FramesStay (of_page pid page) (image_of self.old) (image_of self.new) }
+        ensures loose { LooseStay (image_of self.old) (image_of self.new) }
         ensures words { EntryGone (frame_bytes self.old.bytes) directory found.now.table page
             (frame_bytes self.new.bytes) }
         ensures long { length self.new.bytes ≡ length self.old.bytes }
@@ -79,6 +80,7 @@ impl Spaces {
         requires place { place.now ≡ place_in self.old.directories self.old.bytes pid page }
         ensures spaces { self.new.spaces ≡ without self.old.spaces (is_slot pid page) }
         ensures stay { FramesStay (of_page pid page) (image_of self.old) (image_of self.new) }
+        ensures loose { LooseStay (image_of self.old) (image_of self.new) }
         ensures directories { self.new.directories ≡ self.old.directories }
         ensures frames { length self.new.roles ≡ length self.old.roles }
     {
@@ -94,6 +96,7 @@ impl Spaces {
         requires user { IsUserPage page }
         ensures spaces { self.new.spaces ≡ without self.old.spaces (is_slot pid page) }
         ensures stay { FramesStay (of_page pid page) (image_of self.old) (image_of self.new) }
+        ensures loose { LooseStay (image_of self.old) (image_of self.new) }
         ensures directories { self.new.directories ≡ self.old.directories }
         ensures frames { length self.new.roles ≡ length self.old.roles }
     {
@@ -157,6 +160,7 @@ impl Spaces {
         requires { directory_of self.old.directories pid ≡ Some directory }
         ensures spaces { self.new.spaces ≡ without self.old.spaces (is_of pid) }
         ensures stay { FramesStay (of_process pid) (image_of self.old) (image_of self.new) }
+        ensures loose { LooseStay (image_of self.old) (image_of self.new) }
         ensures empty { IsEmptySpace self.new.spaces pid }
         ensures directories { self.new.directories ≡ self.old.directories }
         ensures frames { length self.new.roles ≡ length self.old.roles }
@@ -175,6 +179,7 @@ impl Spaces {
         requires empty { IsEmptySpace self.old.spaces pid }
         ensures spaces { self.new.spaces ≡ self.old.spaces }
         ensures stay { FramesStay (of_process pid) (image_of self.old) (image_of self.new) }
+        ensures loose { LooseStay (image_of self.old) (image_of self.new) }
         ensures none { directory_of self.new.directories pid ≡ None }
         ensures others { (other : ℕ) → other ≢ pid → directory_of self.new.directories other
             ≡ directory_of self.old.directories other }
@@ -190,6 +195,7 @@ impl Spaces {
         requires live { is_some (directory_of self.old.directories pid) ≡ true }
         ensures spaces { self.new.spaces ≡ without self.old.spaces (is_of pid) }
         ensures stay { FramesStay (of_process pid) (image_of self.old) (image_of self.new) }
+        ensures loose { LooseStay (image_of self.old) (image_of self.new) }
         ensures none { directory_of self.new.directories pid ≡ None }
         ensures others { (other : ℕ) → other ≢ pid → directory_of self.new.directories other
             ≡ directory_of self.old.directories other }

@@ -1,7 +1,6 @@
 -- What the pages that are filled for a write leave of the ways.
+use Rattle.fault_handler.proofs.Prelude.{page_number, second_page, Size}
 use Rattle.std.proofs.Common.{◌≡◌, ℕ, Bool, true, false, ◌||◌, refl, ap, sym, ◌∙◌, Some}
-use Rattle.page_words.specs.Addresses.{page_number, second_page}
-use Rattle.page_words.specs.declared.addresses.Size.{Size}
 use Rattle.address_space.specs.Image.{Image}
 use Rattle.address_space.specs.Stays.{FramesStay, of_lazy}
 use Rattle.address_space.proofs.standing.FramesStand.{stays_then, stays_more}

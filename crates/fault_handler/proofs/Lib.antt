@@ -1,4 +1,5 @@
 pub mod Filled
 pub mod Looked
+pub mod Prelude
 pub mod Settled
 pub mod Walked

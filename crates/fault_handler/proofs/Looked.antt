@@ -1,29 +1,21 @@
 -- One lookup of each page of an access gives its plan and its charge.
-use Rattle.std.proofs.Common.{◌≡◌, ℕ, ◌+◌, ◌-◌, ◌==◌, nat_lt, arith, Bool, true, false, not, ◌&&◌, cond, refl, sym, ap, ◌∙◌, Option, Some, None, unwrap_or}
-use Rattle.std.specs.Prelude.{if◌then◌else◌}
-use Rattle.std.specs.Option.{option_map, option_and_then}
-use Rattle.page_words.specs.Addresses.{page_number, slot_number, start_number, second_page, touched}
-use Rattle.page_words.specs.declared.addresses.Size.{Size}
-use Rattle.page_words.specs.FiniteMap as map
-use Rattle.page_words.specs.FiniteSet as set
-use Rattle.page_words.proofs.Accesses.{first_by_page, crosses}
-use Rattle.address_space.specs.Spaces.{Spaces, at_page, cost, page_need, access_need, regions_of, pages_of}
+use Rattle.fault_handler.proofs.Prelude
+use Prelude.{◌≡◌, ℕ, ◌+◌, nat_lt, arith, Bool, true, false, not, ◌&&◌, cond, refl, sym, ap, ◌∙◌, Option, Some, None}
+use Prelude.{unwrap_or, if◌then◌else◌, option_map, option_and_then, page_number, slot_number, start_number, second_page}
+use Prelude.{touched, Size, first_by_page, crosses, Spaces, at_page, cost, page_need, access_need, regions_of, pages_of}
+use Prelude.{Access, Read, Write, extra_touched, View, Quota, Plan, Planned, outside, is_read_only, forbidden, fault_or}
+use Prelude.{step_at, goes_on, look_of, planned_by_looks}
+use Rattle.std.proofs.Common.{◌-◌, ◌==◌}
 use Rattle.address_space.proofs.costs.AccessNeeds.{need-in_one, need-in_two, second_need}
 use Rattle.quota_tree.specs.Book.{Member, given}
 use Rattle.quota_tree.specs.declared.Container.{Container}
-use Rattle.table_walk.specs.declared.Access.{Access}
-use Rattle.table_walk.specs.declared.Access.TheVariants.{Read, Write}
 use Rattle.process_table.proofs.Charged.{used-container}
-use Rattle.process_table.proofs.Overdrawn.{extra_touched}
 use Rattle.process_table.specs.State.{State, room, extra_cost, as_container, container_of}
-use Rattle.process_table.specs.View.{View}
-use Rattle.process_table.specs.declared.causes.Cause.TheVariants.{Quota}
-use Rattle.fault_handler.specs.declared.plans.Plan.{Plan}
-use Rattle.fault_handler.specs.declared.plans.Plan.TheVariants as plan
-use Rattle.fault_handler.specs.declared.plans.Planned.{Planned}
 use Rattle.fault_handler.specs.declared.plans.Look.{Look}
-use Rattle.fault_handler.specs.Plans.{outside, is_read_only, forbidden, fault_or, step_at, goes_on}
-use Rattle.fault_handler.specs.Looks.{look_of, look_behind, barred, need_by, ready_by, fault_by, planned_by_looks, planned_at}
+use Rattle.fault_handler.specs.Looks.{look_behind, barred, need_by, ready_by, fault_by, planned_at}
+use Rattle.page_words.specs.FiniteMap as map
+use Rattle.page_words.specs.FiniteSet as set
+use Rattle.fault_handler.specs.declared.plans.Plan.TheVariants as plan
 
 -- ---- A container
 

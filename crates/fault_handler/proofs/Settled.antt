@@ -1,38 +1,32 @@
 -- An access whose plan is Ready: what its plan says, and that its pages, mapped first, leave what the definition says.
-use Rattle.std.proofs.Common.{◌≡◌, ◌≢◌, ℕ, ◌+◌, ◌≤◌, arith, Bool, true, false, not, ◌&&◌, cond, List, [], ◌∷◌, map as each, refl, sym, ap, ◌∙◌, inl, inr, Option, Some, None, is_some, unwrap_or}
+use Rattle.fault_handler.proofs.Prelude
+use Prelude.{◌≡◌, ℕ, ◌+◌, arith, Bool, true, false, not, ◌&&◌, cond, [], ◌∷◌, refl, sym, ap, ◌∙◌, Option, Some, None}
+use Prelude.{unwrap_or, option_map, option_and_then, page_number, slot_number, start_number, covered, second_page}
+use Prelude.{touched, EachTouched, IsUserPage, is_user_page, Size, first_by_page, no_value, Slot, Spaces, at_page}
+use Prelude.{slot_at, cell_or_fresh, regions_of, pages_of, need, page_need, access_need, with_page, is_lazy_at}
+use Prelude.{with_touched-same, touched-there, Access, Read, Write, View, memory_of, access_value, after_access, Quota}
+use Prelude.{page_is_user, Plan, outside, is_read_only, forbidden, fault_or, step_at, maps_page, plan_at, goes_on}
+use Prelude.{takes_no_frame}
+use Rattle.std.proofs.Common.{◌≢◌, ◌≤◌, List, map as each, inl, inr, is_some}
 use Rattle.std.specs.Prelude.{if◌then◌else◌, nat_lt, IfSome, find, slice_index}
-use Rattle.std.specs.Option.{option_map, option_and_then}
 use Rattle.std.proofs.lemmas.Bool.{le-ltb, not-false}
-use Rattle.page_words.specs.Addresses.{page_number, slot_number, offset_number, start_number, byte_count, covered, second_page, page_and, touched, EachTouched, IsUserPage, is_user_page}
-use Rattle.page_words.specs.declared.addresses.Size.{Size}
-use Rattle.page_words.specs.FiniteMap as map
-use Rattle.page_words.specs.FiniteSet as set
-use Rattle.page_words.proofs.Accesses.{first_by_page}
+use Rattle.page_words.specs.Addresses.{offset_number, byte_count, page_and}
 use Rattle.page_words.proofs.MapLemmas.{same_or_not, get-insert}
-use Rattle.page_words.proofs.OptionLemmas.{no_value}
-use Rattle.address_space.specs.Spaces.{Slot, Cell, Spaces, slot_order, at_page, slot_at, cell_or_fresh, fresh, bytes_of, value_of, regions_of, pages_of, need, page_need, access_need, with_page, with_pages, all_accessed, all_stored}
-use Rattle.address_space.specs.Image.{is_lazy_at}
+use Rattle.address_space.specs.Spaces.{Cell, slot_order, fresh, bytes_of, value_of, with_pages, all_accessed, all_stored}
 use Rattle.page_words.proofs.SetLemmas.{same_apart}
 use Rattle.address_space.proofs.costs.AccessCosts.{key-insert}
 use Rattle.address_space.proofs.costs.AccessNeeds.{need-in_one, need-in_two, cost-with_page}
-use Rattle.address_space.proofs.costs.MapFirst.{with_touched-same, touched-there}
-use Rattle.table_walk.specs.declared.Access.{Access}
-use Rattle.table_walk.specs.declared.Access.TheVariants.{Read, Write}
 use Rattle.table_walk.specs.Walk.{is_write}
 use Rattle.process_table.proofs.Overdrawn.{extra_page, extra_touched}
 use Rattle.process_table.specs.State.{State, is_live, is_mapped, room, overdrawn}
 use Rattle.quota_tree.specs.Book.{Member, quota_of}
-use Rattle.process_table.specs.View.{View}
-use Rattle.process_table.specs.Image.{memory_of}
-use Rattle.process_table.specs.Calls.{access_value, after_access}
-use Rattle.process_table.specs.declared.causes.Cause.TheVariants.{Quota}
-use Rattle.process_table.proofs.Placed.{page_is_user}
 use Rattle.process_table.proofs.SpaceLaws.{user_page, not_less}
 use Rattle.fault_handler.specs.declared.plans.PageStep.{PageStep}
+use Rattle.fault_handler.specs.Plans.{planned_by}
+use Rattle.page_words.specs.FiniteMap as map
+use Rattle.page_words.specs.FiniteSet as set
 use Rattle.fault_handler.specs.declared.plans.PageStep.TheVariants as step
-use Rattle.fault_handler.specs.declared.plans.Plan.{Plan}
 use Rattle.fault_handler.specs.declared.plans.Plan.TheVariants as plan
-use Rattle.fault_handler.specs.Plans.{outside, is_read_only, forbidden, fault_or, planned_by, step_at, maps_page, plan_at, goes_on, takes_no_frame}
 
 -- ---- Where no byte stops an access
 

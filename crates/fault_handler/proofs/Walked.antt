@@ -1,27 +1,17 @@
 -- An access whose walks find a frame for each of its pages completes as memory stands.
-use Rattle.std.proofs.Common.{◌≡◌, ℕ, nat_lt, arith, Bool, true, false, not, ◌&&◌, cond, refl, ap, sym, subst, ◌∙◌, Option, Some, None}
-use Rattle.std.specs.Prelude.{if◌then◌else◌, IfSome, find}
-use Rattle.std.specs.Option.{option_map, option_and_then}
+use Rattle.fault_handler.proofs.Prelude
+use Prelude.{◌≡◌, ℕ, nat_lt, arith, Bool, true, false, not, ◌&&◌, cond, refl, ap, sym, subst, ◌∙◌, Option, Some, None}
+use Prelude.{if◌then◌else◌, IfSome, find, option_map, option_and_then, page_number, start_number, covered, second_page}
+use Prelude.{touched, EachTouched, IsUserPage, is_user_page, Size, first_by_page, slot_at, Slot, at_page, cell_or_fresh}
+use Prelude.{access_need, cost, is_lazy_at, takes_stores, with_touched-same, Access, Read, Write, extra_touched, State}
+use Prelude.{is_mapped, room, overdrawn, View, memory_of, Quota, page_is_user, outside, is_read_only, forbidden}
+use Prelude.{fault_or, step_at, plan_at, takes_no_frame}
 use Rattle.std.proofs.lemmas.Bool.{not-true, le-ltb, and_parts}
-use Rattle.page_words.specs.Addresses.{page_number, start_number, covered, second_page, touched, EachTouched, IsUserPage, is_user_page}
-use Rattle.page_words.specs.declared.addresses.Size.{Size}
-use Rattle.page_words.proofs.Accesses.{first_by_page}
-use Rattle.address_space.specs.Spaces.{slot_at, Slot, at_page, cell_or_fresh, access_need, cost}
-use Rattle.address_space.specs.Image.{is_lazy_at, takes_stores}
 use Rattle.address_space.proofs.costs.AccessNeeds.{cost-with_touched}
-use Rattle.address_space.proofs.costs.MapFirst.{with_touched-same}
-use Rattle.table_walk.specs.declared.Access.{Access}
-use Rattle.table_walk.specs.declared.Access.TheVariants.{Read, Write}
-use Rattle.process_table.proofs.Overdrawn.{extra_touched}
-use Rattle.process_table.specs.State.{State, is_mapped, room, overdrawn}
-use Rattle.process_table.specs.View.{View}
-use Rattle.process_table.specs.Image.{memory_of}
-use Rattle.process_table.specs.declared.causes.Cause.TheVariants.{Quota}
-use Rattle.process_table.proofs.Placed.{page_is_user}
+use Rattle.fault_handler.specs.Plans.{at_once}
+use Rattle.fault_handler.proofs.Settled.{each_page}
 use Rattle.fault_handler.specs.declared.plans.PageStep.TheVariants as step
 use Rattle.fault_handler.specs.declared.plans.Plan.TheVariants as plan
-use Rattle.fault_handler.specs.Plans.{outside, is_read_only, forbidden, fault_or, step_at, plan_at, at_once, takes_no_frame}
-use Rattle.fault_handler.proofs.Settled.{each_page}
 
 -- where no page passes the test, no byte is found
 none_passes : (test : ℕ → Bool) (address : ℕ) (size : Size) → EachTouched address size (λ page. test page ≡ false) → find (λ a. test (page_number a)) (covered address size) ≡ None

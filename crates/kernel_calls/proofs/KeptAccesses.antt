@@ -33,7 +33,7 @@ use Rattle.kernel_calls.proofs.Decided.{next-stays, next-goes}
 
 module _ (v : View) (p : ℕ) where
   -- the page of a translation that serves has 20 bits, so that its addresses have 32
-  small_page : (page frame : ℕ) (access : Access) → Serves v p page frame access → page < 2 ^ 20
+  pub small_page : (page frame : ℕ) (access : Access) → Serves v p page frame access → page < 2 ^ 20
   small_page page frame access s = subst (λ n. n < 2 ^ 20) (ap (λ (q : Slot). q.page) s.of_page) s.given.page
 
   -- the process has the directory that it was given by
@@ -41,7 +41,7 @@ module _ (v : View) (p : ℕ) where
   live page frame access s = sym (ap (λ (q : Slot). directory_at (memory_of v) q.pid) s.of_page) ∙ s.given.live
 
   -- each walk of its page finds its frame
-  leads : (page frame a : ℕ) (access : Access) (s : Serves v p page frame access) → page_number a ≡ page
+  pub leads : (page frame a : ℕ) (access : Access) (s : Serves v p page frame access) → page_number a ≡ page
       → walk_of v.bytes s.given.directory a access ≡ Ok frame
   leads page frame a access s here = by access refl ∙ ap Ok s.on_frame
     where
@@ -132,10 +132,10 @@ kept_reply v frames e d served is = by e.call served
     by call.Quota h = absurd h
 
 -- what is mapped and accessed already
-record Touched (S : Spaces) (p page : ℕ) : Type 0 where
-  cell : Cell
-  there : map.get S (at_page p page) ≡ Some cell
-  set : cell.accessed ≡ true
+pub record Touched (S : Spaces) (p page : ℕ) : Type 0 where
+  pub cell : Cell
+  pub there : map.get S (at_page p page) ≡ Some cell
+  pub set : cell.accessed ≡ true
 
 touched_by : (v : View) (p page frame : ℕ) (access : Access) → Serves v p page frame access → Touched v.state.spaces p page
 touched_by v p page frame access s = record {
@@ -150,7 +150,7 @@ accessed_same S p page t =
     ap (λ (c : Cell). map.insert S (at_page p page) c) (ap (λ (c : Cell). record c { accessed = true }) is ∙ (λ i. record t.cell { accessed = sym t.set i }))
     ∙ insert_there S (at_page p page) t.cell t.there
 
-loaded_same : (s : State) (p address : ℕ) (size : Size) → EachTouched address size (Touched s.spaces p)
+pub loaded_same : (s : State) (p address : ℕ) (size : Size) → EachTouched address size (Touched s.spaces p)
     → after s p (call.Load address size) ≡ s
 loaded_same s p address size all =
     let there : EachTouched address size (IsThere s.spaces p) = each_page address size (Touched s.spaces p) (IsThere s.spaces p) (λ page t. ap is_some t.there) all in

@@ -24,7 +24,7 @@ use Rattle.kernel_calls.proofs.WalkedReplies.{answered, lives}
 -- ---- What is kept
 
 -- each of what is kept is read
-read_at : (v : View) (kept : List Kept) (n : ℕ) (k : Kept) → AreRead v kept → slice_get kept n ≡ Some k → IsRead v k
+pub read_at : (v : View) (kept : List Kept) (n : ℕ) (k : Kept) → AreRead v kept → slice_get kept n ≡ Some k → IsRead v k
 read_at v [] n k all there = absurd (none_there n k there)
   where
     none_there : (n : ℕ) (k : Kept) → slice_get {X = Kept} [] n ≡ Some k → ⊥
@@ -34,14 +34,14 @@ read_at v (x ∷ kept) zero k all there = let e : x ≡ k = cc in subst (IsRead 
 read_at v (x ∷ kept) (suc n) k all there = read_at v kept n k all.1 there
 
 -- and what is among it
-among_read : (v : View) (left kept : List Kept) → AreAmong left kept → AreRead v kept → AreRead v left
+pub among_read : (v : View) (left kept : List Kept) → AreAmong left kept → AreRead v kept → AreRead v left
 among_read v [] kept among all = tt
 among_read v (x ∷ left) kept among all =
     let m = among 0 x refl in
     (read_at v kept m.0 x all m.1, among_read v left kept (λ n k there. among (suc n) k there) all)
 
 -- one processor keeps something else
-read_with : (v : View) (keeps : Processors) (i : ℕ) (kept : List Kept) → AllAreRead v keeps → AreRead v kept
+pub read_with : (v : View) (keeps : Processors) (i : ℕ) (kept : List Kept) → AllAreRead v keeps → AreRead v kept
     → AllAreRead v (with_kept keeps i kept)
 read_with v keeps i kept all new j = by (j == i)
   where

@@ -1,5 +1,5 @@
 -- Which slots' ways go with an event, whatever was kept of them.
-use Rattle.std.proofs.Common.{ℕ, false, if◌then◌else◌}
+use Rattle.std.proofs.Common.{ℕ, Bool, true, false, if◌then◌else◌}
 use Rattle.address_space.specs.Stays.{Gone, of_page, of_process, of_lazy}
 use Rattle.fault_handler.specs.Fills.{lazy_touched}
 use Rattle.process_table.specs.State.{State}
@@ -19,3 +19,9 @@ gone_of_call p _ slot frame = false
 -- the frames that an event takes from slots
 abbrev pub gone_by : State → Event → Gone
 gone_by s e slot frame = if completes (answer s e) then gone_of_call e.pid e.call slot frame else false
+
+-- calls that give frames back
+abbrev pub gives_back : Call → Bool
+gives_back (call.Unmap page) = true
+gives_back call.Exit = true
+gives_back _ = false

@@ -4,7 +4,7 @@ ghost use Rattle.std.specs.Prelude.{◌≡◌, ◌↔◌, ℕ, ◌+◌, ◌*◌,
 ghost use Rattle.std.specs.List.{range_with_len};
 ghost use Rattle.address_space.specs.View.{directory_of};
 ghost use Rattle.page_words.specs.Addresses.{page_number, offset_number, IsUserPage};
-ghost use Rattle.address_space.specs.Stays.{FramesStay, WaysAgree, none_goes};
+ghost use Rattle.address_space.specs.Stays.{FramesStay, LooseStay, WaysAgree, none_goes};
 ghost use Rattle.address_space.specs.Walks.{WalksAgree};
 ghost use Rattle.address_space.specs.ByWalk.{with_walked};
 ghost use Rattle.process_table.specs.State.{open_with, container_of, is_live, is_mapped};
@@ -28,10 +28,11 @@ ghost use Rattle.kernel_calls.specs.Pages.{page_in};
 ghost use Rattle.kernel_calls.specs.Machine.{answer, next, answers, end_of, completes, none_completes};
 ghost use Rattle.kernel_calls.specs.Decisions.{decision_of, charge_in, charge_after, plan_of_event};
 ghost use Rattle.kernel_calls.specs.declared.translations.Ended.TheVariants as end;
-ghost use Rattle.kernel_calls.specs.Gone.{gone_by};
+ghost use Rattle.kernel_calls.specs.Gone.{gone_by, gives_back};
 ghost use Rattle.kernel_calls.specs.Translations.{EndsInOrder, ended_by, EndAlong, Ends};
 ghost use Rattle.kernel_calls.specs.Walked.{finds_event, reply_found, bytes_accessed};
 ghost use Rattle.kernel_calls.specs.Kept.{ServesEvent, StoresMarked, bytes_kept};
+ghost use Rattle.kernel_calls.specs.Written.{WritesItsOwn};
 ghost use Rattle.kernel_calls.specs.declared.calls.Reply.TheVariants as reply;
 
 use crate::calls::{Decision, Event, Outcome, Reply};
@@ -169,6 +170,7 @@ impl Core {
         ensures reply { result ≡ answer self.old.state event.now }
         ensures state { self.new.state ≡ next self.old.state event.now }
         ensures stay { FramesStay (gone_by self.old.state event.now) (memory_of self.old) (memory_of self.new) }
+        ensures loose { gives_back event.now.call ≡ true → LooseStay (memory_of self.old) (memory_of self.new) }
         ensures stands { StandsFor (image_of self.new) self.new.state }
         ensures ends { Ends (ended_by self.old event.now) self.old self.new }
         ensures kept { completes result ≡ false → self.new ≡ self.old }
@@ -198,7 +200,8 @@ impl Core {
         }
     }
 
-    /// Decides an event and carries it out.
+    /// Decides an event and carries it out. It writes in no frame but those that the event may write: a page of another
+    /// process keeps its bytes, and a table or a directory its words but for accessed.
     #[inline(always)]
     pub fn step(&mut self, event: &Event) -> Reply
         ensures reply { result ≡ answer self.old.state event.now }
@@ -207,8 +210,14 @@ impl Core {
         ensures ends { Ends (ended_by self.old event.now) self.old self.new }
         ensures kept { completes result ≡ false → self.new ≡ self.old }
         ensures lazy { LeavesLazy self.old event.now result self.new }
+        ensures stay { FramesStay (gone_by self.old.state event.now) (memory_of self.old) (memory_of self.new) }
+        ensures loose { gives_back event.now.call ≡ true → LooseStay (memory_of self.old) (memory_of self.new) }
+        ensures writes { WritesItsOwn self.old self.new event.now }
     {
-        self.reply_to(event)
+        self.stands();
+        let reply = self.reply_to(event);
+        self.stands();
+        reply
     }
 
     /// Carries out events in order, and writes each reply in its place. If no event completes, nothing changes, not
@@ -258,6 +267,9 @@ impl Core {
         ensures ends { Ends result.1 self.old self.new }
         ensures kept { completes result.0 ≡ false → self.new ≡ self.old }
         ensures lazy { LeavesLazy self.old event.now result.0 self.new }
+        ensures stay { FramesStay (gone_by self.old.state event.now) (memory_of self.old) (memory_of self.new) }
+        ensures loose { gives_back event.now.call ≡ true → LooseStay (memory_of self.old) (memory_of self.new) }
+        ensures writes { WritesItsOwn self.old self.new event.now }
     {
         let ended = self.ends(event);
         let reply = self.step(event);

@@ -1,11 +1,11 @@
 //! The reply to an event, which is carried out: each call is tested and made by one function.
 
-ghost use Rattle.std.specs.Prelude.{◌≡◌, false};
-ghost use Rattle.address_space.specs.Stays.{FramesStay};
+ghost use Rattle.std.specs.Prelude.{◌≡◌, false, true};
+ghost use Rattle.address_space.specs.Stays.{FramesStay, LooseStay};
 ghost use Rattle.process_table.specs.Image.{memory_of};
 ghost use Rattle.kernel_calls.specs.Decisions.{call_of, done_told, child_told};
 ghost use Rattle.kernel_calls.specs.Lazy.{LeavesLazy};
-ghost use Rattle.kernel_calls.specs.Gone.{gone_by};
+ghost use Rattle.kernel_calls.specs.Gone.{gone_by, gives_back};
 ghost use Rattle.kernel_calls.specs.Machine.{answer, next, completes};
 ghost use Rattle.kernel_calls.specs.declared.calls.Call.TheVariants as call;
 ghost use Rattle.kernel_calls.specs.declared.calls.Event.{Event};
@@ -125,6 +125,7 @@ fn reply_unmap(processes: &mut Processes, event: &Event, page: Page) -> Reply
     ensures state { processes.new.state ≡ next processes.old.state event.now }
     ensures stay { FramesStay (gone_by processes.old.state event.now) (memory_of processes.old)
         (memory_of processes.new) }
+    ensures loose { LooseStay (memory_of processes.old) (memory_of processes.new) }
     ensures kept { completes result ≡ false → processes.new ≡ processes.old }
 {
     done_told(processes.try_unmap(event.pid, page))
@@ -232,6 +233,7 @@ fn reply_exit(processes: &mut Processes, event: &Event) -> Reply
     ensures state { processes.new.state ≡ next processes.old.state event.now }
     ensures stay { FramesStay (gone_by processes.old.state event.now) (memory_of processes.old)
         (memory_of processes.new) }
+    ensures loose { LooseStay (memory_of processes.old) (memory_of processes.new) }
     ensures kept { completes result ≡ false → processes.new ≡ processes.old }
 {
     done_told(processes.try_exit(event.pid))
@@ -272,6 +274,7 @@ pub(crate) fn reply_once(processes: &mut Processes, event: &Event) -> Reply
     ensures state { processes.new.state ≡ next processes.old.state event.now }
     ensures stay { FramesStay (gone_by processes.old.state event.now) (memory_of processes.old)
         (memory_of processes.new) }
+    ensures loose { gives_back event.now.call ≡ true → LooseStay (memory_of processes.old) (memory_of processes.new) }
     ensures kept { completes result ≡ false → processes.new ≡ processes.old }
     ensures lazy { LeavesLazy processes.old event.now result processes.new }
 {

@@ -1,12 +1,10 @@
 -- What a count says of the numbers that pass, where one of them is known.
-use Rattle.std.proofs.Common.{◌≡◌, ◌≢◌, ℕ, zero, suc, ◌+◌, ◌*◌, ◌<◌, ◌≤◌, Bool, true, false, List, length, refl, ap, sym, ◌∙◌, arith, inl, inr, Some}
-use Rattle.std.specs.Prelude.{is_some, None, if◌then◌else◌}
-use Rattle.std.proofs.lemmas.Bool.{cases_eq}
-use Rattle.page_words.specs.Addresses.{slot_number, index_number, IsUserPage}
-use Rattle.page_words.specs.Words.{is_present, frame_number}
-use Rattle.phys_memory.specs.Bytes.{frame_bytes, word_in}
-use Rattle.page_map.specs.Entries.{Frames, dir_word, table_of, entry_at, IsPageMap, IsLastEntry, HasOtherEntry, TablesApart}
-use Rattle.page_map.specs.Pages.{counted, count_range}
+use Rattle.page_map.proofs.Prelude.{◌≡◌, ◌≢◌, ℕ, zero, suc, ◌+◌, ◌*◌, ◌<◌, ◌≤◌, Bool, true, false, List, length, refl}
+use Rattle.page_map.proofs.Prelude.{ap, sym, ◌∙◌, arith, inl, inr, Some, is_some, None, if◌then◌else◌, cases_eq}
+use Rattle.page_map.proofs.Prelude.{slot_number, index_number, IsUserPage, is_present, frame_number, frame_bytes}
+use Rattle.page_map.proofs.Prelude.{word_in, Frames, dir_word, table_of, entry_at, IsPageMap, TablesApart, counted}
+use Rattle.page_map.proofs.Prelude.{count_range}
+use Rattle.page_map.specs.Entries.{IsLastEntry, HasOtherEntry}
 use Rattle.page_map.proofs.PageLemmas.{count-table, mapped_in_table, unmapped_without_table}
 use Rattle.page_map.proofs.MapSteps.{with_word_at, word_own, word_other}
 use Rattle.page_map.proofs.MapChanges.{table_there, user_slot}

@@ -1,13 +1,11 @@
 -- What a word written into a table or into the directory leaves of the entries, and that the page map
 -- stays one.
-use Rattle.std.proofs.Common.{◌≡◌, ◌≢◌, ℕ, ◌^◌, ◌<◌, List, length, refl, ap, sym, ◌∙◌, subst, arith, inl, inr, Option, Some, None}
-use Rattle.std.specs.Option.{option_and_then}
-use Rattle.std.proofs.lemmas.Bool.{cases_eq}
-use Rattle.page_words.specs.Addresses.{slot_number, index_number}
-use Rattle.page_words.specs.Words.{IsKernelDirWord, IsKernelTableWord}
-use Rattle.phys_memory.specs.Bytes.{frame_bytes, word_in, with_word_in, with_frame}
-use Rattle.phys_memory.proofs.Frames.{with_frame-same, with_frame-other, word_in_same, word_in_other, length-with_word_in}
-use Rattle.page_map.specs.Entries.{Frames, dir_word, word_table, table_of, word_entry, entry_at, TablesApart, IsPageMap, IsForeign}
+use Rattle.page_map.proofs.Prelude.{◌≡◌, ◌≢◌, ℕ, ◌^◌, ◌<◌, List, length, refl, ap, sym, ◌∙◌, subst, arith, inl, inr}
+use Rattle.page_map.proofs.Prelude.{Option, Some, None, option_and_then, cases_eq, slot_number, index_number}
+use Rattle.page_map.proofs.Prelude.{IsKernelDirWord, IsKernelTableWord, frame_bytes, word_in, with_word_in, with_frame}
+use Rattle.page_map.proofs.Prelude.{with_frame-same, with_frame-other, Frames, dir_word, word_table, table_of}
+use Rattle.page_map.proofs.Prelude.{word_entry, entry_at, TablesApart, IsPageMap, IsForeign}
+use Rattle.phys_memory.proofs.Frames.{word_in_same, word_in_other, length-with_word_in}
 
 pub map_of_tables : (bytes : List ℕ) (n : ℕ) (m : Frames) (d : ℕ) → TablesApart n m d → frame_bytes bytes ≡ m → length bytes ≡ n → IsPageMap bytes d
 map_of_tables bytes n m d T frames size = subst (λ (k : ℕ × Frames). TablesApart k.0 k.1 d) (sym (λ i. (size i, frames i))) T

@@ -1,20 +1,17 @@
 -- What the finite map of a directory answers, when two are equal, and how many pages one has.
-use Rattle.std.proofs.Common.{◌≡◌, ◌≢◌, ℕ, zero, suc, ◌+◌, ◌-◌, ◌*◌, ◌<◌, ◌≤◌, Bool, true, false, cond, ◌||◌, refl, ap, sym, ◌∙◌, arith, inl, inr, Option, Some, None, is_some}
+use Rattle.page_map.proofs.Prelude.{◌≡◌, ◌≢◌, ℕ, zero, suc, ◌+◌, ◌-◌, ◌*◌, ◌<◌, ◌≤◌, Bool, true, false, refl, ap, sym}
+use Rattle.page_map.proofs.Prelude.{◌∙◌, arith, inl, inr, Option, Some, None, is_some, option_and_then, IsUserPage}
+use Rattle.page_map.proofs.Prelude.{slot_number, index_number, PageEntry, is_present, word_in, Frames, entry_from}
+use Rattle.page_map.proofs.Prelude.{word_entry, table_of, entry_at}
+use Rattle.std.proofs.Common.{cond, ◌||◌}
 use Rattle.std.specs.Prelude.{max, ◌⊎◌, if◌then◌else◌}
-use Rattle.std.specs.Option.{option_and_then}
 use Rattle.std.specs.List.{list_any, range_with_len}
 use Rattle.std.proofs.lemmas.Bool.{cases_lt}
-use Rattle.page_words.specs.Addresses.{IsUserPage}
-use Rattle.page_words.specs.FiniteMap as map
 use Rattle.page_words.specs.FiniteMap.{Map, nat_order, same}
 use Rattle.page_words.proofs.MapLemmas.{get-insert, len-insert, get-collect, same_map}
 use Rattle.page_words.proofs.SetLemmas.{same_cases, get-remove}
-use Rattle.page_map.specs.declared.PageEntry.{PageEntry}
-use Rattle.page_words.specs.Addresses.{slot_number, index_number}
-use Rattle.page_words.specs.Words.{is_present}
-use Rattle.phys_memory.specs.Bytes.{word_in}
-use Rattle.page_map.specs.Entries.{Frames, entry_from, word_entry, table_of, entry_at}
 use Rattle.page_map.specs.Pages.{user_pages, entries_of, is_mapped, counted, count_range}
+use Rattle.page_words.specs.FiniteMap as map
 
 -- a number is one of a range exactly between its ends
 any-range_in : (q first count : ℕ) → first ≤ q → q < first + count → list_any (same nat_order q) (range_with_len first count) ≡ true

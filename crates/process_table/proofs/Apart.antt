@@ -1,31 +1,28 @@
 -- The replies of a process apart, and the effect of calls on it.
-use Rattle.std.proofs.Common.{◌≡◌, ◌≢◌, ℕ, ◌+◌, ◌-◌, ◌&&◌, ◌==◌, not, Bool, true, false, cond, List, [], ◌∷◌, length, map, refl, sym, ap, subst, ◌∙◌, Option, Some, None, is_some, unwrap_or, sum_by, arith, inl, inr}
-use Rattle.std.specs.Prelude.{if◌then◌else◌, nat_lt, slice_index}
-use Rattle.std.specs.Option.{option_map}
-use Rattle.std.proofs.lemmas.Bool.{cases_eq, ne_eqb}
-use Rattle.std.proofs.Math.Bool.{or-false}
-use Rattle.std.proofs.lemmas.Option.{same_Some}
-use Rattle.page_words.specs.Addresses.{slot_number, is_user_page, page_number, offset_number, byte_count, covered, touched}
-use Rattle.page_words.specs.declared.addresses.Size.{Size}
-use Rattle.page_words.specs.FiniteMap as map
-use Rattle.page_words.specs.FiniteMap.{same, nat_order}
-use Rattle.page_words.specs.FiniteSet as set
-use Rattle.page_words.specs.FiniteSet.{Set}
-use Rattle.page_words.proofs.MapLemmas.{same_itself, get-map_values, contains-insert, retain-insert}
-use Rattle.page_words.proofs.OptionLemmas.{is_some-map}
+use Rattle.process_table.proofs.Prelude
+use Prelude.{◌≡◌, ◌≢◌, ℕ, ◌+◌, ◌-◌, ◌&&◌, ◌==◌, not, Bool, true, false, cond, List, [], ◌∷◌, length, map, refl, sym, ap}
+use Prelude.{subst, ◌∙◌, Option, Some, None, is_some, unwrap_or, sum_by, arith, inl, inr, if◌then◌else◌, nat_lt}
+use Prelude.{slice_index, option_map, cases_eq, ne_eqb, or-false, same_Some, slot_number, is_user_page, page_number}
+use Prelude.{offset_number, byte_count, touched, Size, same, nat_order, Set, same_itself, get-map_values}
+use Prelude.{contains-insert, retain-insert, is_some-map, Slot, slot_order, Cell, Spaces, cost, cost_of, need, pages_of}
+use Prelude.{regions_of, fresh, cell_or_fresh, with_bytes, with_holders, set_bytes, write_at, bytes_of, without}
+use Prelude.{is_slot, at_page, slot_at, accessed, stored, access_need, with_page, with_pages, all_accessed, all_stored}
+use Prelude.{same_pages, OfferKey, offer_order, offer_key, State, is_mapped, extra_cost, overdrawn, map_refusal}
+use Prelude.{unmap_refusal, protect_refusal, exit_refusal, after_map, after_unmap, after_protect, after_withdraw}
+use Prelude.{after_load, after_store, BadPage, Mapped, Quota, NoOffer, HasChildren, RootExit}
+use Rattle.page_words.specs.Addresses.{covered}
 use Rattle.page_words.proofs.SetLemmas.{same_apart}
-use Rattle.address_space.specs.Spaces.{Slot, slot_order, Cell, Spaces, cost, cost_of, need, pages_of, regions_of, fresh, cell_or_fresh, with_bytes, with_holders, set_bytes, write_at, bytes_of, value_of, without, is_slot, at_page, slot_at, accessed, stored, missing, access_need, with_page, with_pages, all_accessed, all_stored}
-use Rattle.address_space.proofs.costs.Costs.{same_pages}
+use Rattle.address_space.specs.Spaces.{value_of, missing}
 use Rattle.address_space.proofs.steps.Departures.{left, get-without}
 use Rattle.quota_tree.specs.Book.{Book, Member, children, given, number_of_children, quota_of}
-use Rattle.page_sharing.specs.Offers.{OfferKey, offer_order, offer_key}
 use Rattle.process_table.proofs.Overdrawn.{extra_page, extra_touched}
-use Rattle.process_table.specs.State.{State, is_mapped, extra_cost, overdrawn}
-use Rattle.process_table.specs.Calls.{map_refusal, unmap_refusal, protect_refusal, withdraw_refusal, exit_refusal, loaded, after_map, after_unmap, after_protect, after_withdraw, after_load, after_store}
+use Rattle.process_table.specs.Calls.{withdraw_refusal, loaded}
 use Rattle.process_table.specs.Apart.{IsApart, AreAlike, Held, held, held_in, lone}
-use Rattle.process_table.specs.declared.causes.Cause.TheVariants.{BadPage, NotMapped, Mapped, Quota, Rights, NoOffer, HasChildren, RootExit}
+use Rattle.process_table.specs.declared.causes.Cause.TheVariants.{NotMapped, Rights}
 use Rattle.process_table.proofs.BookLaws.{retained}
 use Rattle.process_table.proofs.CellLaws.{get-inserted, get-inserted_other}
+use Rattle.page_words.specs.FiniteMap as map
+use Rattle.page_words.specs.FiniteSet as set
 
 -- ---- What is told of two alike processes
 

@@ -1,38 +1,29 @@
 -- What the calls of others leave of a process apart, and how a child begins.
-use Rattle.std.proofs.Common.{◌≡◌, ◌≢◌, ℕ, ◌+◌, ◌&&◌, ◌||◌, ◌==◌, not, Bool, true, false, cond, List, [], ◌∷◌, map, refl, sym, ap, ◌∙◌, Option, Some, None, is_some, unwrap_or, arith, inl, inr}
-use Rattle.std.specs.Prelude.{if◌then◌else◌, nat_lt}
-use Rattle.std.specs.Option.{option_map}
+use Rattle.process_table.proofs.Prelude
+use Prelude.{◌≡◌, ◌≢◌, ℕ, ◌+◌, ◌&&◌, ◌||◌, ◌==◌, not, Bool, true, false, cond, List, [], ◌∷◌, map, refl, sym, ap, ◌∙◌}
+use Prelude.{Option, Some, None, is_some, unwrap_or, arith, inl, inr, if◌then◌else◌, nat_lt, option_map, nat_cmp}
+use Prelude.{cases_eq, ne_eqb, same_Some, page_number, offset_number, byte_count, touched, Size, Map, same, nat_order}
+use Prelude.{Set, some_value, no_value, same_cases, get-remove_other, Slot, slot_order, Cell, Spaces, pages_of, fresh}
+use Prelude.{cell_or_fresh, with_bytes, with_holders, set_bytes, set_holders, write_at, bytes_of, is_slot, is_of}
+use Prelude.{at_page, slot_at, accessed, stored, with_page, with_pages, all_accessed, all_stored, copy_of, copied}
+use Prelude.{contains-pages_of, copied-own, copied-other, Member, is_child, number_of_children, next_number, child_no}
+use Prelude.{get-insert_other, OfferKey, Offers, offer_order, offer_key, State, is_live, child_of, room, accept_refusal}
+use Prelude.{spawn_refusal, fork_refusal, offered, after_map, after_unmap, after_protect, after_offer, after_withdraw}
+use Prelude.{after_accept, after_spawn, after_fork, after_exit, after_load, after_store, IsWellFormed, IsApart}
+use Prelude.{AreAlike, held_in, lone}
 use Rattle.std.specs.List.{list_any}
-use Rattle.std.specs.Ordering.{nat_cmp}
 use Rattle.std.specs.Cmp.{tied_then}
 use Rattle.std.specs.FinMap.Entries.{is_some-find}
-use Rattle.std.proofs.lemmas.Bool.{cases_eq, ne_eqb}
-use Rattle.std.proofs.lemmas.Option.{same_Some}
-use Rattle.page_words.specs.Addresses.{page_number, offset_number, byte_count, touched}
-use Rattle.page_words.specs.declared.addresses.Size.{Size}
-use Rattle.page_words.specs.FiniteMap as map
-use Rattle.page_words.specs.FiniteMap.{Map, same, nat_order}
-use Rattle.page_words.specs.FiniteSet as set
-use Rattle.page_words.specs.FiniteSet.{Set}
 use Rattle.page_words.proofs.MapLemmas.{same_itself, get-insert, get-map_values, get-collect}
-use Rattle.page_words.proofs.OptionLemmas.{some_value, no_value}
-use Rattle.page_words.proofs.SetLemmas.{same_cases, get-remove_other}
-use Rattle.address_space.specs.Spaces.{Slot, slot_order, Cell, Spaces, pages_of, fresh, cell_or_fresh, with_bytes, with_holders, set_bytes, set_holders, write_at, bytes_of, is_slot, is_of, at_page, slot_at, accessed, stored, with_page, with_pages, all_accessed, all_stored, copy_of, copied}
-use Rattle.address_space.proofs.costs.Costs.{contains-pages_of}
-use Rattle.address_space.proofs.costs.Copied.{copied-own, copied-other}
-use Rattle.quota_tree.specs.Book.{Member, is_child, number_of_children, next_number}
-use Rattle.quota_tree.proofs.BookFacts.{child_no, get-insert_other}
 use Rattle.quota_tree.proofs.Sums.{number-insert, number-remove, number-none}
-use Rattle.page_sharing.specs.Offers.{OfferKey, Offers, offer_order, offer_key}
-use Rattle.process_table.specs.State.{State, is_live, child_of, room}
-use Rattle.process_table.specs.Calls.{accept_refusal, spawn_refusal, fork_refusal, offered, after_map, after_unmap, after_protect, after_offer, after_withdraw, after_accept, after_spawn, after_fork, after_exit, after_load, after_store}
-use Rattle.process_table.specs.WellFormed.{IsWellFormed}
-use Rattle.process_table.specs.Apart.{IsApart, AreAlike, held_in, lone, FirstPage, first_cell, first_page, pages_held, alone_with}
+use Rattle.process_table.specs.Apart.{FirstPage, first_cell, first_page, pages_held, alone_with}
 use Rattle.process_table.proofs.Apart.{in_lone, pages_differ, pids_differ, set_bytes_outside, without_others}
 use Rattle.process_table.proofs.BookLaws.{retained, next_free, parents_in, spawn_allowed}
 use Rattle.process_table.proofs.CellLaws.{get-inserted, get-inserted_other}
 use Rattle.process_table.proofs.Forks.{may_fork}
 use Rattle.process_table.proofs.Refusals.{may_accept}
+use Rattle.page_words.specs.FiniteMap as map
+use Rattle.page_words.specs.FiniteSet as set
 
 -- a state leaves of another what a process has, and gives it no child and no offer
 record IsLeft (s t : State) (p : ℕ) : Type 0 where

@@ -1,31 +1,20 @@
 -- States stay well formed at the opening, by an unmap, a spawn and an exit, and cost no more than the root's quota.
-use Rattle.std.proofs.Common.{◌≡◌, ◌≢◌, ℕ, zero, suc, ◌+◌, ◌-◌, ◌<◌, ◌≤◌, ◌&&◌, ◌||◌, ◌==◌, not, Bool, true, false, cond, refl, sym, ap, subst, ◌∙◌, Option, Some, None, is_some, is_none, unwrap_or, arith, inl, inr}
-use Rattle.std.specs.Prelude.{if◌then◌else◌, nat_lt}
-use Rattle.std.specs.Option.{option_map}
-use Rattle.std.specs.List.{find, range_with_len}
-use Rattle.std.proofs.lemmas.Bool.{cases_eq}
-use Rattle.page_words.specs.FiniteMap as map
-use Rattle.page_words.specs.FiniteMap.{nat_order}
-use Rattle.page_words.proofs.MapLemmas.{same_itself, get-insert, get-retain_keys}
-use Rattle.page_words.proofs.SetLemmas.{get-remove, same_cases}
-use Rattle.address_space.specs.Spaces.{Slot, slot_order, Cell, Spaces, cost, without, is_slot, is_of, at_page}
-use Rattle.quota_tree.specs.Book.{Book, Member, is_child, given, number_of_children, quota_of, next_number}
+use Rattle.process_table.proofs.Prelude
+use Prelude.{◌≡◌, ◌≢◌, ℕ, zero, suc, ◌+◌, ◌-◌, ◌<◌, ◌≤◌, ◌&&◌, ◌||◌, ◌==◌, not, Bool, true, false, cond, refl, sym, ap}
+use Prelude.{subst, ◌∙◌, Option, Some, None, is_some, is_none, unwrap_or, arith, inl, inr, if◌then◌else◌, nat_lt}
+use Prelude.{option_map, find, range_with_len, cases_eq, not-true, eqb-false, nat_order, same_itself, get-insert}
+use Prelude.{get-retain_keys, Slot, slot_order, Cell, Spaces, cost, without, is_slot, is_of, at_page, Book, Member}
+use Prelude.{is_child, given, number_of_children, quota_of, next_number, OfferKey, Offers, pending, State, open_with}
+use Prelude.{is_live, room, child_of, spawn_refusal, exit_refusal, after_unmap, after_spawn, after_exit, IsOfferIn}
+use Prelude.{IsWellFormed, total, eq-eqb, same_Some, some_value, no_value}
+use Rattle.page_words.proofs.SetLemmas.{get-remove, same_cases, get-remove_other}
 use Rattle.quota_tree.proofs.Sums.{Parents, costs_within, given-insert, given-none, given-remove, number-remove}
 use Rattle.quota_tree.proofs.BookFacts.{child_yes, child_no, contains_key-insert, get-insert_other}
-use Rattle.page_sharing.specs.Offers.{OfferKey, Offers, pending}
-use Rattle.process_table.specs.State.{State, open_with, is_live, room, child_of}
-use Rattle.process_table.specs.Calls.{spawn_refusal, exit_refusal, after_unmap, after_spawn, after_exit}
 use Rattle.process_table.specs.declared.causes.Cause.TheVariants.{BadQuota, TableFull, Quota, RootExit, HasChildren}
-use Rattle.process_table.specs.WellFormed.{IsOfferIn, IsWellFormed, total}
 use Rattle.process_table.proofs.CellLaws.{without-stays, without-was, cells-without}
 use Rattle.process_table.proofs.Sizes.{cost-fewer, cost-no_pages, len-retain}
 use Rattle.process_table.proofs.SpaceLaws.{not_less}
-use borrow.Author.Tests.{eq-eqb}
-use Rattle.std.proofs.lemmas.Option.{same_Some}
-use Rattle.page_words.proofs.OptionLemmas.{some_value, no_value}
-use Rattle.std.proofs.lemmas.Bool.{not-true}
-use Rattle.std.proofs.lemmas.Bool.{eqb-false}
-use Rattle.page_words.proofs.SetLemmas.{get-remove_other}
+use Rattle.page_words.specs.FiniteMap as map
 
 -- ---- What is left where slots and offers go
 

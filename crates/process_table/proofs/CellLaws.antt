@@ -1,20 +1,12 @@
 -- Cells stay well formed where one is mapped, where a group gets other bytes, and where some slots go.
-use Rattle.std.proofs.Common.{◌≡◌, ◌≢◌, ℕ, ◌<◌, ◌&&◌, ◌||◌, not, Bool, true, false, cond, List, length, refl, sym, ap, subst, ◌∙◌, Option, Some, None, inl, inr}
-use Rattle.std.specs.Prelude.{IsTrue}
-use Rattle.std.specs.Option.{option_map}
-use Rattle.std.specs.List.{All}
-use Rattle.page_words.specs.Addresses.{IsUserPage}
+use Rattle.process_table.proofs.Prelude.{◌≡◌, ◌≢◌, ℕ, ◌<◌, ◌&&◌, ◌||◌, not, Bool, true, false, cond, List, length, refl}
+use Rattle.process_table.proofs.Prelude.{sym, ap, subst, ◌∙◌, Option, Some, None, inl, inr, IsTrue, option_map, All}
+use Rattle.process_table.proofs.Prelude.{IsUserPage, same, Set, same_itself, same-true, get-insert, get-retain_keys}
+use Rattle.process_table.proofs.Prelude.{get-map_values, contains-insert, same_cases, Slot, slot_order, Cell, Spaces}
+use Rattle.process_table.proofs.Prelude.{without, with_holders, IsCellAt, or-false, not-true, same_Some}
+use Rattle.page_words.proofs.MapLemmas.{contains-retain}
 use Rattle.page_words.specs.FiniteMap as map
-use Rattle.page_words.specs.FiniteMap.{same}
 use Rattle.page_words.specs.FiniteSet as set
-use Rattle.page_words.specs.FiniteSet.{Set}
-use Rattle.page_words.proofs.MapLemmas.{same_itself, same-true, get-insert, get-retain_keys, get-map_values, contains-insert, contains-retain}
-use Rattle.page_words.proofs.SetLemmas.{same_cases}
-use Rattle.address_space.specs.Spaces.{Slot, slot_order, Cell, Spaces, without, with_holders}
-use Rattle.process_table.specs.WellFormed.{IsCellAt}
-use Rattle.std.proofs.Math.Bool.{or-false}
-use Rattle.std.proofs.lemmas.Bool.{not-true}
-use Rattle.std.proofs.lemmas.Option.{same_Some}
 
 -- each cell is well formed
 abbrev pub AreCells : Spaces → Type 0

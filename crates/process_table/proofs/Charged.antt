@@ -1,21 +1,14 @@
 -- What each call leaves of the charges, and that the frames it needs are there.
-use Rattle.std.proofs.Common.{◌≡◌, ◌≢◌, ℕ, ◌+◌, ◌<◌, ◌≤◌, true, false, cond, not, refl, sym, ap, ◌∙◌, inl, inr, Option, Some, None, unwrap_or, is_some, length, arith}
-use Rattle.std.specs.Option.{option_map}
-use Rattle.page_words.specs.FiniteMap as map
-use Rattle.page_words.specs.FiniteMap.{same, nat_order}
-use Rattle.page_words.proofs.MapLemmas.{same_or_not, same_itself, get-insert, get-retain_keys}
-use Rattle.address_space.specs.Spaces.{cost, without, is_of}
-use Rattle.address_space.specs.View as frames
-use Rattle.address_space.specs.View.{directory_of, live_cost, total_cost}
-use Rattle.address_space.proofs.costs.CostSteps.{sum_one}
-use Rattle.address_space.proofs.costs.Totals.{cost-without_other}
-use Rattle.quota_tree.specs.Book.{Member, quota_of}
+use Rattle.process_table.proofs.Prelude
+use Prelude.{◌≡◌, ◌≢◌, ℕ, ◌+◌, ◌<◌, ◌≤◌, true, false, cond, not, refl, sym, ap, ◌∙◌, inl, inr, Option, Some, None}
+use Prelude.{unwrap_or, is_some, length, arith, option_map, same, nat_order, same_or_not, same_itself, get-insert}
+use Prelude.{get-retain_keys, cost, without, is_of, directory_of, live_cost, total_cost, sum_one, cost-without_other}
+use Prelude.{Member, quota_of, State, as_container, container_of, IsProcesses, ne_eqb}
 use Rattle.quota_tree.specs.Containers.{Containers, IsLive, used_of, with_used, after_close, total_used}
 use Rattle.quota_tree.specs.declared.Container.{Container}
-use Rattle.process_table.specs.State.{State, as_container, container_of}
-use Rattle.process_table.specs.View.{IsProcesses}
 use Rattle.process_table.proofs.Ranges.{found, sum-range}
-use Rattle.std.proofs.lemmas.Bool.{ne_eqb}
+use Rattle.page_words.specs.FiniteMap as map
+use Rattle.address_space.specs.View as frames
 
 -- ---- The costs of processes that do not act
 

@@ -1,27 +1,16 @@
 -- What the test of a fork answers, and what a copy of a process leaves of charges and of states.
-use Rattle.std.proofs.Common.{◌≡◌, ◌≢◌, ℕ, ◌+◌, ◌≤◌, ◌==◌, Bool, true, false, cond, refl, sym, ap, subst, ◌∙◌, inl, inr, Option, Some, None, unwrap_or, is_some, is_none, Ok, arith}
-use Rattle.std.specs.Prelude.{if◌then◌else◌, nat_lt}
-use Rattle.std.specs.Option.{option_map}
-use Rattle.std.proofs.lemmas.Bool.{cases_eq}
-use Rattle.std.proofs.lemmas.Option.{same_Some}
-use Rattle.page_words.specs.FiniteMap as map
-use Rattle.page_words.specs.FiniteMap.{nat_order}
-use Rattle.page_words.proofs.MapLemmas.{same_itself, get-insert}
-use Rattle.page_words.proofs.OptionLemmas.{some_value, no_value}
-use Rattle.address_space.specs.Spaces.{Slot, Cell, Spaces, cost, copy_of, copied, at_page}
-use Rattle.address_space.proofs.costs.Copied.{copied-own, copied-other, cost-copied, cost-copied_other}
-use Rattle.quota_tree.specs.Book.{Member, given, quota_of, next_number}
-use Rattle.quota_tree.proofs.Sums.{given-insert, given-none}
-use Rattle.quota_tree.proofs.BookFacts.{child_no}
-use Rattle.process_table.specs.State.{State, is_live, room, child_of}
-use Rattle.process_table.specs.Calls.{spawn_refusal, fork_refusal, after_spawn, after_fork}
-use Rattle.process_table.specs.TestAnswers.{child_unless, for_copy, spawn_answer, fork_answer}
-use Rattle.process_table.specs.WellFormed.{IsCellAt, IsWellFormed}
-use Rattle.process_table.specs.declared.causes.Cause.{Cause}
-use Rattle.process_table.specs.declared.causes.Cause.TheVariants as cause
+use Rattle.process_table.proofs.Prelude
+use Prelude.{◌≡◌, ◌≢◌, ℕ, ◌+◌, ◌≤◌, ◌==◌, Bool, true, false, cond, refl, sym, ap, subst, ◌∙◌, inl, inr, Option, Some}
+use Prelude.{None, unwrap_or, is_some, is_none, Ok, arith, if◌then◌else◌, nat_lt, option_map, cases_eq, same_Some}
+use Prelude.{nat_order, same_itself, get-insert, some_value, no_value, Slot, Cell, Spaces, cost, copy_of, copied}
+use Prelude.{at_page, copied-own, copied-other, cost-copied, cost-copied_other, Member, given, quota_of, next_number}
+use Prelude.{given-insert, given-none, child_no, State, is_live, room, child_of, spawn_refusal, fork_refusal}
+use Prelude.{after_spawn, after_fork, child_unless, for_copy, spawn_answer, fork_answer, IsCellAt, IsWellFormed, Cause}
 use Rattle.process_table.proofs.BookLaws.{next_free, well_formed-spawn, root-spawn}
 use Rattle.process_table.proofs.CellLaws.{AreCells, lone-cell}
 use Rattle.process_table.proofs.SpaceLaws.{not_less, with-spaces}
+use Rattle.page_words.specs.FiniteMap as map
+use Rattle.process_table.specs.declared.causes.Cause.TheVariants as cause
 
 -- ---- The test
 

@@ -1,32 +1,21 @@
 -- What memory and the book together represent: the image of a view is sound, and represents one state.
-use Rattle.std.proofs.Common.{◌≡◌, ℕ, ◌+◌, ◌*◌, ◌<◌, ◌≤◌, ◌&&◌, Bool, true, false, cond, List, [], ◌∷◌, length, filter, refl, sym, ap, subst, ◌∙◌, Option, Some, None, is_some, sum_by, arith}
-use Rattle.std.specs.Prelude.{nat_lt, if◌then◌else◌}
-use Rattle.std.specs.Option.{option_and_then, option_map, unwrap_or}
-use Rattle.std.specs.List.{range_with_len}
-use Rattle.std.proofs.lemmas.Bool.Decides.{nat_tests}
-use Rattle.std.proofs.lemmas.List.Sums.{sum_by-cons}
-use Rattle.std.proofs.lemmas.Option.{slice_get_within}
-use Rattle.page_words.specs.Addresses.{slot_number, index_number}
-use Rattle.page_words.specs.FiniteMap as map
-use Rattle.page_words.specs.FiniteMap.{nat_order}
-use Rattle.page_words.specs.FiniteSet as set
-use Rattle.page_words.specs.FiniteSet.{Set}
+use Rattle.process_table.proofs.Prelude
+use Prelude.{◌≡◌, ℕ, ◌+◌, ◌<◌, ◌≤◌, ◌&&◌, Bool, true, false, cond, List, [], ◌∷◌, length, refl, sym, ap, subst, ◌∙◌}
+use Prelude.{Option, Some, None, is_some, sum_by, arith, nat_lt, if◌then◌else◌, option_and_then, option_map, unwrap_or}
+use Prelude.{range_with_len, nat_tests, sum_by-cons, slice_get_within, slot_number, index_number, nat_order, Set, Slot}
+use Prelude.{Cell, Spaces, pages_of, regions_of, cost, at_page, directory_at, table_at, page_word, present_word}
+use Prelude.{word_of, directory_of, contains-pages_of, Member, is_child, given, quota_of, State, is_live, View, Account}
+use Prelude.{as_account, account_of, memory_of, IsCharge, quota_from, IsSoundImage, StandsFor, is_some-map, some_value}
+use Rattle.std.proofs.Common.{◌*◌, filter}
 use Rattle.page_words.proofs.MapLemmas.{same_map}
 use Rattle.alloc_table.specs.declared.Role.TheVariants.{Table}
-use Rattle.address_space.specs.Spaces.{Slot, Cell, Spaces, pages_of, regions_of, cost, at_page}
-use Rattle.address_space.specs.Image as memory
-use Rattle.address_space.specs.Image.{directory_at, table_at, page_word, present_word, word_of}
-use Rattle.address_space.specs.View.{directory_of}
-use Rattle.address_space.proofs.costs.Costs.{contains-pages_of}
 use Rattle.address_space.proofs.costs.CostSteps.{region_member, region_there}
 use Rattle.address_space.proofs.standing.Standing.{stands_for_one}
-use Rattle.quota_tree.specs.Book.{Member, is_child, given, quota_of}
-use Rattle.process_table.specs.State.{State, is_live}
-use Rattle.process_table.specs.View.{View}
-use Rattle.process_table.specs.Image.{Account, as_account, account_of, memory_of, image_of, IsCharge, quota_from, IsSoundImage, StandsFor, StandsForOne}
+use Rattle.process_table.specs.Image.{image_of, StandsForOne}
 use Rattle.process_table.proofs.Ranges.{found, sum-same, sum-range}
-use Rattle.page_words.proofs.OptionLemmas.{is_some-map}
-use Rattle.page_words.proofs.OptionLemmas.{some_value}
+use Rattle.page_words.specs.FiniteMap as map
+use Rattle.page_words.specs.FiniteSet as set
+use Rattle.address_space.specs.Image as memory
 
 -- ---- What a process is charged for
 

@@ -1,31 +1,24 @@
 -- Each call whose test passes keeps states well formed.
-use Rattle.std.proofs.Common.{◌≡◌, ℕ, Bool, true, false, refl, sym, ap, subst, ◌∙◌, length, Option, Some, None}
-use Rattle.std.specs.Prelude.{if◌then◌else◌, IsOk, IfSome}
-use Rattle.std.specs.Option.{option_map}
-use Rattle.page_words.specs.FiniteMap as map
-use Rattle.page_words.specs.Addresses.{byte_count, page_number, offset_number, second_page, touched, EachTouched}
+use Rattle.process_table.proofs.Prelude
+use Prelude.{◌≡◌, ℕ, Bool, true, false, refl, sym, ap, subst, ◌∙◌, length, Option, Some, None, if◌then◌else◌, IsOk}
+use Prelude.{IfSome, option_map, byte_count, page_number, offset_number, second_page, touched, EachTouched, Size}
+use Prelude.{Spaces, cost, slot_at, stored, with_pages, all_accessed, all_stored, bytes_of, IsThere, bytes_there}
+use Prelude.{key-all_accessed, key-all_stored, cost-same, Containers, Offers, Read, Write, State, is_live, child_of}
+use Prelude.{as_container, container_of, map_refusal, protect_refusal, offer_refusal, accept_refusal, spawn_refusal}
+use Prelude.{exit_refusal, after_map, after_protect, after_offer, after_accept, after_spawn, after_exit, child_unless}
+use Prelude.{map_answer, protect_answer, offer_answer, accept_answer, spawn_answer, exit_answer, IsProcesses, IsWhole}
+use Prelude.{state_of, IsWellFormed, Cause, NoProcess}
 use Rattle.address_space.proofs.steps.Bytes.{stored_in_page}
-use Rattle.page_words.specs.declared.addresses.Size.{Size}
-use Rattle.address_space.specs.Spaces.{Spaces, cost, slot_at, stored, with_pages, all_accessed, all_stored, bytes_of}
-use Rattle.address_space.proofs.costs.MapFirst.{IsThere, with_touched-same, bytes_there, key-all_accessed, key-all_stored}
-use Rattle.address_space.proofs.costs.AccessCosts.{cost-same}
-use Rattle.address_space.specs.View as frames
-use Rattle.quota_tree.specs.Containers.{Containers}
-use Rattle.page_sharing.specs.Offers.{Offers}
+use Rattle.address_space.proofs.costs.MapFirst.{with_touched-same}
 use Rattle.table_walk.specs.declared.Access.{Access}
-use Rattle.table_walk.specs.declared.Access.TheVariants.{Read, Write}
-use Rattle.process_table.specs.State.{State, is_live, child_of, as_container, container_of}
-use Rattle.process_table.specs.Calls.{map_refusal, protect_refusal, offer_refusal, accept_refusal, spawn_refusal, exit_refusal, after_map, after_protect, after_offer, after_accept, after_spawn, after_exit, after_access}
-use Rattle.process_table.specs.TestAnswers.{child_unless, map_answer, protect_answer, offer_answer, accept_answer, spawn_answer, exit_answer}
-use Rattle.process_table.specs.View.{IsProcesses, IsWhole, state_of}
-use Rattle.process_table.specs.WellFormed.{IsWellFormed}
-use Rattle.process_table.specs.declared.causes.Cause.{Cause}
-use Rattle.process_table.specs.declared.causes.Cause.TheVariants.{NoProcess}
+use Rattle.process_table.specs.Calls.{after_access}
 use Rattle.process_table.proofs.BookLaws.{well_formed-spawn, well_formed-exit}
 use Rattle.process_table.proofs.Charged.{charged-same}
 use Rattle.process_table.proofs.Refusals.{no_cause}
 use Rattle.process_table.proofs.SharingLaws.{well_formed-protect, well_formed-offer, well_formed-accept}
 use Rattle.process_table.proofs.SpaceLaws.{well_formed-map, well_formed-loaded, well_formed-bytes}
+use Rattle.page_words.specs.FiniteMap as map
+use Rattle.address_space.specs.View as frames
 
 -- parts that agree are whole where the state that they make is well formed
 pub whole : (v : frames.View) (c : Containers) (o : Offers) (s : State) → IsProcesses v c → v.spaces ≡ s.spaces → c.book ≡ s.book → o ≡ s.offers → IsWellFormed s → IsWhole v c o

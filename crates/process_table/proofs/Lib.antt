@@ -8,6 +8,7 @@ pub mod ImageStanding
 pub mod Keeping
 pub mod Overdrawn
 pub mod Placed
+pub mod Prelude
 pub mod Ranges
 pub mod Refusals
 pub mod Restored

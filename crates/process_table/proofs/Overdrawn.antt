@@ -1,11 +1,7 @@
 -- What pages cost a process more, by what it needs for them.
-use Rattle.std.proofs.Common.{◌≡◌, ℕ, ◌+◌, ◌-◌, ◌∙◌, false, List, [], ◌∷◌, ap, arith}
-use Rattle.std.specs.Prelude.{if◌then◌else◌}
-use Rattle.page_words.specs.Addresses.{touched}
-use Rattle.page_words.specs.declared.addresses.Size.{Size}
-use Rattle.address_space.specs.Spaces.{cost, need, page_need, access_need, with_pages, at_page}
-use Rattle.address_space.proofs.costs.AccessNeeds.{cost-with_page, cost-with_touched}
-use Rattle.process_table.specs.State.{State, is_mapped, extra_cost}
+use Rattle.process_table.proofs.Prelude.{◌≡◌, ℕ, ◌+◌, ◌-◌, ◌∙◌, false, List, [], ◌∷◌, ap, arith, if◌then◌else◌, touched}
+use Rattle.process_table.proofs.Prelude.{Size, cost, need, page_need, access_need, with_pages, at_page, cost-with_page}
+use Rattle.process_table.proofs.Prelude.{cost-with_touched, State, is_mapped, extra_cost}
 
 rest_of : (a b n : ℕ) → a ≡ b + n → a - b ≡ n
 rest_of a b n is = omega (arith, is)

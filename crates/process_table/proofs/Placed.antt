@@ -1,23 +1,16 @@
 -- What the place of a page says, if there is one.
-use Rattle.std.proofs.Common.{◌≡◌, ℕ, Bool, true, false, not, refl, ap, ◌&&◌, ◌≤◌, Option, Some, None, unwrap_or, arith}
-use Rattle.std.proofs.lemmas.Bool.{and_parts, not-true}
-use Rattle.std.proofs.lemmas.Bool.Decides.{nat_tests}
-use Rattle.std.specs.Prelude.{if◌then◌else◌, is_some, nat_le, IfSome}
-use Rattle.std.specs.Option.{option_map, option_and_then}
-use Rattle.page_words.specs.FiniteMap as map
-use Rattle.page_words.specs.Addresses.{IsUserPage, is_user_page}
+use Rattle.process_table.proofs.Prelude.{◌≡◌, ℕ, Bool, true, false, not, refl, ap, ◌&&◌, ◌≤◌, Option, Some, None}
+use Rattle.process_table.proofs.Prelude.{unwrap_or, arith, and_parts, not-true, nat_tests, if◌then◌else◌, is_some}
+use Rattle.process_table.proofs.Prelude.{nat_le, IfSome, option_map, option_and_then, IsUserPage, is_user_page}
+use Rattle.process_table.proofs.Prelude.{entry_found, Image, is_lazy_at, takes_stores, Spaces, Slot, Cell, at_page}
+use Rattle.process_table.proofs.Prelude.{cell_or_fresh, fresh, State, is_live, is_mapped, View, IsWellFormed}
 use Rattle.address_space.specs.declared.place.Place.{Place}
 use Rattle.address_space.specs.declared.place.Found.{Found}
 use Rattle.address_space.specs.declared.place.Place.TheVariants.{Bare, Open, Mapped}
-use Rattle.address_space.specs.Finds.{entry_found}
-use Rattle.address_space.specs.Image.{Image, is_lazy_at, takes_stores}
 use Rattle.address_space.specs.Places.{Flags, place_in, need_of, entry_flags, cell_flags}
-use Rattle.address_space.specs.Spaces.{Spaces, Slot, Cell, at_page, cell_or_fresh, fresh}
 use Rattle.process_table.specs.Places.{place_at}
-use Rattle.process_table.specs.State.{State, is_live, is_mapped}
-use Rattle.process_table.specs.View.{View}
-use Rattle.process_table.specs.WellFormed.{IsWellFormed}
 use Rattle.process_table.proofs.SpaceLaws.{user_page}
+use Rattle.page_words.specs.FiniteMap as map
 
 -- a page of the user range has one
 pub placed : (v : View) (p page : ℕ) → is_user_page page ≡ true → place_at v p page ≡ Some (place_in v.directories v.bytes p page)

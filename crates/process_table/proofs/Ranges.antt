@@ -1,21 +1,14 @@
 -- Sums over a map's entries as sums over the numbers below a bound.
-use Rattle.std.proofs.Common.{◌≡◌, ◌≢◌, ℕ, ◌+◌, ◌<◌, ◌&&◌, ◌==◌, Bool, true, false, cond, T, List, [], ◌∷◌, refl, sym, ap, subst, ◌∙◌, Option, Some, None, is_some, sum_by, arith, inl, inr}
-use Rattle.std.specs.Ordering.{nat_cmp}
+use Rattle.process_table.proofs.Prelude.{◌≡◌, ◌≢◌, ℕ, ◌+◌, ◌<◌, ◌&&◌, ◌==◌, Bool, true, false, cond, List, [], ◌∷◌}
+use Rattle.process_table.proofs.Prelude.{refl, sym, ap, subst, ◌∙◌, Option, Some, None, is_some, sum_by, arith, inl}
+use Rattle.process_table.proofs.Prelude.{inr, nat_cmp, range_with_len, cases_eq, sum_by-cons, Map, nat_order, cost}
+use Rattle.process_table.proofs.Prelude.{directory_of, live_cost, total_cost, sum_one, Member, State, is_live, total}
+use Rattle.process_table.proofs.Prelude.{eqb-true, eq-eqb}
+use Rattle.std.proofs.Common.{T}
 use Rattle.std.specs.Cmp.{unsigned_tied}
-use Rattle.std.specs.List.{range_with_len}
 use Rattle.std.specs.FinMap.Entries.{find, below_all, is_sorted}
-use Rattle.std.proofs.lemmas.Bool.{cases_eq}
-use Rattle.std.proofs.lemmas.List.Sums.{sum_by-cons}
-use Rattle.page_words.specs.FiniteMap as map
-use Rattle.page_words.specs.FiniteMap.{Map, nat_order}
-use Rattle.address_space.specs.Spaces.{cost}
-use Rattle.address_space.specs.View.{directory_of, live_cost, total_cost}
-use Rattle.address_space.proofs.costs.CostSteps.{sum_one}
-use Rattle.quota_tree.specs.Book.{Member}
-use Rattle.process_table.specs.State.{State, is_live}
-use Rattle.process_table.specs.WellFormed.{total}
-use borrow.Author.Tests.{eqb-true, eq-eqb}
 use Rattle.quota_tree.proofs.Sums.{lt_not_eq}
+use Rattle.page_words.specs.FiniteMap as map
 
 -- what g gives of a value, and 0 of none
 abbrev pub found : {X : Type 0} → (X → ℕ) → Option X → ℕ

@@ -1,21 +1,13 @@
 -- What follows where a call is not refused.
-use Rattle.std.proofs.Common.{◌≡◌, ◌≢◌, ℕ, ◌+◌, ◌<◌, ◌&&◌, ◌==◌, Bool, true, false, not, [], ◌∷◌, refl, sym, ap, ◌∙◌, Option, Some, None, Ok, Err, arith}
-use Rattle.std.specs.Prelude.{if◌then◌else◌, is_some, IsOk, nat_le}
-use Rattle.std.proofs.lemmas.Bool.Decides.{nat_tests}
-use Rattle.page_words.specs.Addresses.{is_user_page}
-use Rattle.page_words.specs.FiniteMap as map
-use Rattle.address_space.specs.Spaces.{fresh, cell_or_fresh, joined, cost, need, at_page}
-use Rattle.address_space.proofs.costs.Costs.{cost-insert}
-use Rattle.address_space.proofs.costs.Totals.{cost-joined}
-use Rattle.page_sharing.specs.Offers.{offer_key, pending}
-use Rattle.process_table.specs.State.{State, is_live, is_mapped, overdrawn}
-use Rattle.process_table.specs.Calls.{map_refusal, unmap_refusal, protect_refusal, offer_refusal, accept_refusal, offered, after_map, after_accept}
+use Rattle.process_table.proofs.Prelude
+use Prelude.{◌≡◌, ◌≢◌, ℕ, ◌+◌, ◌<◌, ◌&&◌, ◌==◌, Bool, true, false, not, [], ◌∷◌, refl, sym, ap, ◌∙◌, Option, Some, None}
+use Prelude.{Ok, Err, arith, if◌then◌else◌, is_some, IsOk, nat_le, nat_tests, is_user_page, fresh, cell_or_fresh}
+use Prelude.{joined, cost, need, at_page, cost-insert, cost-joined, offer_key, pending, State, is_live, is_mapped}
+use Prelude.{overdrawn, map_refusal, unmap_refusal, protect_refusal, offer_refusal, accept_refusal, offered, after_map}
+use Prelude.{after_accept, Cause, NoProcess, BadPage, Mapped, Quota, NoOffer, no_value}
 use Rattle.process_table.specs.TestAnswers.{first_cause, number_unless, done_unless, map_answer, accept_answer}
-use Rattle.process_table.specs.declared.causes.Cause.{Cause}
-use Rattle.process_table.specs.declared.causes.Cause.TheVariants.{NoProcess, BadPage, Mapped, Quota, NoOffer}
-use Rattle.std.proofs.lemmas.Bool.{not-false}
-use Rattle.page_words.proofs.OptionLemmas.{no_value}
-use Rattle.std.proofs.lemmas.Bool.{eqb-false}
+use Rattle.std.proofs.lemmas.Bool.{not-false, eqb-false}
+use Rattle.page_words.specs.FiniteMap as map
 
 choice : (b : Bool) (c : Cause) (y : Option Cause) → (if b then Some c else y) ≡ None → (b ≡ false) × (y ≡ None)
 choice true c y h = cc

@@ -1,44 +1,36 @@
 -- What a sound image with current words represents: a state without offers, which is well formed.
-use Rattle.std.proofs.Common.{◌≡◌, ℕ, ◌+◌, ◌<◌, ◌≤◌, Bool, true, false, List, length, refl, sym, ap, subst, ◌∙◌, Option, Some, None, is_some, unwrap_or, arith}
+use Rattle.process_table.proofs.Prelude
+use Prelude.{◌≡◌, ℕ, ◌+◌, ◌<◌, ◌≤◌, Bool, true, false, List, length, refl, sym, ap, subst, ◌∙◌, Option, Some, None}
+use Prelude.{is_some, unwrap_or, arith, option_map, option_and_then, range_with_len, slice_get_within, slot_number}
+use Prelude.{index_number, IsUserPage, Order, nat_order, same_set, is_some-map, some_value, Slot, Cell, Spaces, cost}
+use Prelude.{SlotStands, directory_at, table_at, present_word, page_word, word_of, Book, Member, given, quota_of}
+use Prelude.{Containers, IsLive, used_of, Offers, Account, as_account, account_of, IsCharge, quota_from, IsSoundImage}
+use Prelude.{StandsFor, State, IsWhole, IsCellAt, IsWellFormed}
 use Rattle.std.specs.Prelude.{◌↔◌, IsTrue, MatchBool, slice_index}
-use Rattle.std.specs.Option.{option_map, option_and_then}
-use Rattle.std.specs.List.{range_with_len}
-use Rattle.std.proofs.lemmas.Option.{slice_get_within}
-use Rattle.page_words.specs.Addresses.{slot_number, index_number, IsUserPage}
 use Rattle.page_words.specs.Words.{frame_number, is_lazy, NamesPage}
-use Rattle.page_words.specs.FiniteMap as map
-use Rattle.page_words.specs.FiniteMap.{Order, nat_order}
-use Rattle.page_words.specs.FiniteSet as set
-use Rattle.page_words.proofs.MapLemmas.{same_set}
-use Rattle.page_words.proofs.OptionLemmas.{is_some-map, some_value}
 use Rattle.alloc_table.specs.declared.Role.{Role}
 use Rattle.alloc_table.specs.declared.Role.TheVariants.{Page}
-use Rattle.address_space.specs.Spaces.{Slot, Cell, Spaces, cost}
-use Rattle.address_space.specs.Image as memory
-use Rattle.address_space.specs.Image.{IsCount, CellStands, SlotStands, IsOneGroup, image_from, directory_at, named_by, table_at, present_word, page_word, page_frame, word_of}
+use Rattle.address_space.specs.Image.{IsCount, CellStands, IsOneGroup, image_from, named_by, page_frame}
 use Rattle.address_space.specs.ImageWords.{own_frame}
 use Rattle.address_space.specs.Restored.{HasRoom, view_from}
-use Rattle.address_space.specs.View as frames
 use Rattle.address_space.specs.View.{directory_of, spaces_in, total_cost}
-use Rattle.address_space.proofs.standing.Restored as memory_restored
 use Rattle.address_space.proofs.standing.Restored.{from_map, from_then, user_named}
 use Rattle.address_space.proofs.standing.Standing.{one_group, word_names}
 use Rattle.address_space.proofs.standing.TablesStand.{owned, own_is}
 use Rattle.address_space.proofs.steps.Steps.{live_small}
-use Rattle.quota_tree.specs.declared.accounts.Account as quota_tree
 use Rattle.quota_tree.specs.Accounts.{account_at, member_in, book_in, containers_in, Agree}
-use Rattle.quota_tree.specs.Book.{Book, Member, given, quota_of}
-use Rattle.quota_tree.specs.Containers.{Containers, IsLive, used_of}
 use Rattle.quota_tree.proofs.CollectedLemmas.{get-collected}
-use Rattle.page_sharing.specs.Offers.{Offers}
-use Rattle.process_table.specs.Image.{Account, as_account, account_of, Image, IsCharge, quota_from, IsSoundImage, StandsFor}
+use Rattle.process_table.specs.Image.{Image}
 use Rattle.process_table.specs.Restored.{account_told, image_in, RootIsItsParent}
-use Rattle.process_table.specs.State.{State}
-use Rattle.process_table.specs.View.{IsWhole}
-use Rattle.process_table.specs.WellFormed.{IsCellAt, IsWellFormed}
 use Rattle.process_table.proofs.BookLaws.{total-within}
 use Rattle.process_table.proofs.ImageStanding.{charge-stands, given-range}
 use Rattle.process_table.proofs.Ranges.{sum-same, total-book}
+use Rattle.page_words.specs.FiniteMap as map
+use Rattle.page_words.specs.FiniteSet as set
+use Rattle.address_space.specs.Image as memory
+use Rattle.address_space.specs.View as frames
+use Rattle.address_space.proofs.standing.Restored as memory_restored
+use Rattle.quota_tree.specs.declared.accounts.Account as quota_tree
 
 -- ---- A charge is one number
 

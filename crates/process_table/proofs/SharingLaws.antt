@@ -1,33 +1,24 @@
 -- States stay well formed by a change of a right, and by an offer, its withdrawal and its acceptance.
-use Rattle.std.proofs.Common.{◌≡◌, ◌≢◌, ◌⊎◌, ℕ, ◌+◌, ◌<◌, ◌≤◌, ◌||◌, ◌==◌, not, Bool, true, false, cond, refl, sym, ap, subst, ◌∙◌, Option, Some, None, is_some, unwrap_or, arith, inl, inr}
-use Rattle.std.specs.Prelude.{if◌then◌else◌, nat_lt, IfSome}
-use Rattle.std.specs.Option.{option_map}
-use Rattle.std.proofs.lemmas.Bool.{cases_eq}
-use Rattle.page_words.specs.Addresses.{IsUserPage, EachTouched, page_number, second_page}
-use Rattle.page_words.specs.declared.addresses.Size.{Size}
-use Rattle.address_space.proofs.costs.MapFirst.{IsThere}
-use Rattle.page_words.specs.FiniteMap as map
-use Rattle.page_words.specs.FiniteMap.{same}
-use Rattle.page_words.specs.FiniteSet as set
-use Rattle.page_words.specs.FiniteSet.{Set}
-use Rattle.page_words.proofs.MapLemmas.{same_itself, same-true, get-insert, get-map_values, contains-insert, len-insert, retain-insert, retain-insert_other}
-use Rattle.page_words.proofs.SetLemmas.{same_cases}
-use Rattle.address_space.specs.Spaces.{Slot, slot_order, Cell, Spaces, cost, need, fresh, cell_or_fresh, with_holders, set_holders, joined, join_in, at_page}
-use Rattle.address_space.proofs.costs.Totals.{cost-joined, cost-joined_other}
-use Rattle.quota_tree.specs.Book.{given, quota_of}
-use Rattle.page_sharing.specs.Offers.{OfferKey, Offers, offer_order, offer_key, pending}
+use Rattle.process_table.proofs.Prelude
+use Prelude.{◌≡◌, ◌≢◌, ℕ, ◌+◌, ◌<◌, ◌≤◌, ◌||◌, ◌==◌, not, Bool, true, false, cond, refl, sym, ap, subst, ◌∙◌, Option}
+use Prelude.{Some, None, is_some, unwrap_or, arith, inl, inr, if◌then◌else◌, nat_lt, IfSome, option_map, cases_eq}
+use Prelude.{IsUserPage, EachTouched, page_number, second_page, Size, IsThere, same, Set, same_itself, same-true}
+use Prelude.{get-insert, get-map_values, contains-insert, retain-insert, same_cases, Slot, slot_order, Cell, Spaces}
+use Prelude.{cost, need, fresh, cell_or_fresh, with_holders, set_holders, joined, at_page, cost-joined}
+use Prelude.{cost-joined_other, given, quota_of, OfferKey, Offers, offer_order, offer_key, pending, State, is_live}
+use Prelude.{room, protect_refusal, offer_refusal, accept_refusal, offered, after_protect, after_offer, after_withdraw}
+use Prelude.{after_accept, IsCellAt, IsOfferIn, IsWellFormed, eqb-true, same_Some, some_value}
+use Rattle.std.proofs.Common.{◌⊎◌}
+use Rattle.page_words.proofs.MapLemmas.{len-insert, retain-insert_other}
+use Rattle.address_space.specs.Spaces.{join_in}
 use Rattle.process_table.proofs.Overdrawn.{extra_new}
-use Rattle.process_table.specs.State.{State, is_live, room}
-use Rattle.process_table.specs.Calls.{protect_refusal, offer_refusal, accept_refusal, offered, after_protect, after_offer, after_withdraw, after_accept}
-use Rattle.process_table.specs.WellFormed.{IsCellAt, IsOfferIn, IsWellFormed}
 use Rattle.process_table.proofs.CellLaws.{AreCells, get-inserted, get-inserted_other}
 use Rattle.process_table.proofs.BookLaws.{retained}
 use Rattle.process_table.proofs.Refusals.{MayProtect, MayOffer, may_protect, may_offer, may_accept}
 use Rattle.process_table.proofs.Sizes.{len-retain}
 use Rattle.process_table.proofs.SpaceLaws.{not_less, user_page, with-spaces, well_formed-flags}
-use borrow.Author.Tests.{eqb-true}
-use Rattle.std.proofs.lemmas.Option.{same_Some}
-use Rattle.page_words.proofs.OptionLemmas.{some_value}
+use Rattle.page_words.specs.FiniteMap as map
+use Rattle.page_words.specs.FiniteSet as set
 
 -- ---- A change of the right to write
 

@@ -1,15 +1,12 @@
 -- What fewer members, offers or pages leave of sizes and costs.
-use Rattle.std.proofs.Common.{◌≡◌, ℕ, ◌+◌, ◌≤◌, Bool, true, false, cond, List, [], ◌∷◌, length, ap, ◌∙◌, arith}
+use Rattle.process_table.proofs.Prelude.{◌≡◌, ℕ, ◌+◌, ◌≤◌, Bool, true, false, cond, List, [], ◌∷◌, length, ap, ◌∙◌}
+use Rattle.process_table.proofs.Prelude.{arith, Order, Map, nat_order, Set, same_set, Slot, Spaces, cost, pages_of}
+use Rattle.process_table.proofs.Prelude.{regions_of, at_page, contains-pages_of}
 use Rattle.std.specs.declared.cmp.Ordering.{Ordering}
 use Rattle.std.specs.FinMap.Entries.{where_key}
-use Rattle.page_words.specs.FiniteMap as map
-use Rattle.page_words.specs.FiniteMap.{Order, Map, nat_order}
-use Rattle.page_words.specs.FiniteSet as set
-use Rattle.page_words.specs.FiniteSet.{Set}
-use Rattle.page_words.proofs.MapLemmas.{same_set}
-use Rattle.address_space.specs.Spaces.{Slot, Spaces, cost, pages_of, regions_of, at_page}
-use Rattle.address_space.proofs.costs.Costs.{contains-pages_of}
 use Rattle.address_space.proofs.costs.Sizes.{cost-within}
+use Rattle.page_words.specs.FiniteMap as map
+use Rattle.page_words.specs.FiniteSet as set
 
 module _ {K X : Type 0} (R : K → K → Ordering) where
   length-where_both : (f g : K → Bool) (es : List (K × X)) → length (where_key R g (where_key R f es)) ≤ length (where_key R g es)

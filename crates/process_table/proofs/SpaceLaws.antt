@@ -1,38 +1,29 @@
 -- States stay well formed where their spaces alone change: by a map, an access, or an unmap with its offers.
-use Rattle.std.proofs.Common.{◌≡◌, ◌≢◌, ℕ, ◌+◌, ◌/◌, ◌%◌, ◌<◌, ◌≤◌, ◌&&◌, not, Bool, true, false, List, [], ◌∷◌, ◌++◌, length, take, drop, refl, sym, ap, subst, ◌∙◌, Option, Some, None, is_some, unwrap_or, arith, inl, inr, zero, suc}
+use Rattle.process_table.proofs.Prelude
+use Prelude.{◌≡◌, ◌≢◌, ℕ, ◌+◌, ◌<◌, ◌≤◌, ◌&&◌, not, Bool, true, false, List, [], ◌∷◌, length, refl, sym, ap, subst, ◌∙◌}
+use Prelude.{Option, Some, None, is_some, unwrap_or, arith, inl, inr, zero, suc, if◌then◌else◌, nat_lt, nat_le, IfSome}
+use Prelude.{option_map, All, nat_tests, IsUserPage, is_user_page, byte_count, offset_number, page_number, second_page}
+use Prelude.{touched, EachTouched, Size, same, Set, get-map_values, same_cases, Slot, slot_order, Cell, Spaces, cost}
+use Prelude.{cost_of, need, page_need, access_need, fresh, cell_or_fresh, accessed, stored, with_page, with_pages}
+use Prelude.{all_accessed, all_stored, set_bytes, with_bytes, write_at, bytes_of, slot_at, at_page, same_pages}
+use Prelude.{cost-insert, kept, given, quota_of, OfferKey, State, is_live, is_mapped, overdrawn, room, map_refusal}
+use Prelude.{after_map, after_load, after_store, BadPage, Mapped, Quota, IsCellAt, IsOfferIn, IsWellFormed, same_Some}
+use Prelude.{some_value, no_value}
+use Rattle.std.proofs.Common.{◌/◌, ◌%◌, ◌++◌, take, drop}
 use Rattle.std.proofs.lemmas.List.{length-replicate}
-use Rattle.std.specs.Prelude.{if◌then◌else◌, nat_lt, nat_le, IfSome}
-use Rattle.std.specs.Option.{option_map}
-use Rattle.std.specs.List.{All}
 use Rattle.std.proofs.lemmas.Bool.{cases_lt, cases_eq, le-ltb}
-use Rattle.std.proofs.lemmas.Bool.Decides.{nat_tests}
 use Rattle.std.proofs.lemmas.List.Elements.{All-nil, All-cons, All-append, All-take, All-drop, All-replicate}
-use Rattle.page_words.specs.Addresses.{IsUserPage, is_user_page, byte_count, offset_number, page_number, second_page, page_and, touched, EachTouched}
-use Rattle.page_words.specs.declared.addresses.Size.{Size}
+use Rattle.page_words.specs.Addresses.{page_and}
 use Rattle.page_words.specs.declared.addresses.Size.TheVariants.{One}
-use Rattle.page_words.specs.FiniteMap as map
-use Rattle.page_words.specs.FiniteMap.{same}
-use Rattle.page_words.specs.FiniteSet as set
-use Rattle.page_words.specs.FiniteSet.{Set}
-use Rattle.page_words.proofs.MapLemmas.{get-map_values}
-use Rattle.page_words.proofs.SetLemmas.{same_cases}
-use Rattle.address_space.specs.Spaces.{Slot, slot_order, Cell, Spaces, cost, cost_of, need, page_need, access_need, fresh, cell_or_fresh, accessed, stored, with_page, with_pages, all_accessed, all_stored, store_in, set_bytes, with_bytes, write_at, bytes_of, slot_at, at_page}
-use Rattle.address_space.proofs.costs.Costs.{same_pages, cost-insert}
-use Rattle.address_space.proofs.costs.AccessCosts.{kept}
+use Rattle.address_space.specs.Spaces.{store_in}
 use Rattle.address_space.proofs.costs.AccessNeeds.{need-in_one, need-in_two, cost-with_page}
 use Rattle.address_space.proofs.costs.MapFirst.{IsThere, AreThere, touched-there, first_there, rest_there, bytes_there}
 use Rattle.address_space.proofs.steps.Stores.{length-write_at, written_long}
-use Rattle.quota_tree.specs.Book.{given, quota_of}
-use Rattle.page_sharing.specs.Offers.{OfferKey}
 use Rattle.process_table.proofs.Overdrawn.{extra_new, extra_touched}
-use Rattle.process_table.specs.State.{State, is_live, is_mapped, overdrawn, room}
-use Rattle.process_table.specs.Calls.{map_refusal, after_map, after_load, after_store}
-use Rattle.process_table.specs.declared.causes.Cause.TheVariants.{BadPage, Mapped, Quota}
-use Rattle.process_table.specs.WellFormed.{IsCellAt, IsOfferIn, IsWellFormed}
 use Rattle.process_table.proofs.CellLaws.{AreCells, get-inserted, get-inserted_other, lone-cell, cells-lone, IsRenewed, cells-renewed}
 use Rattle.process_table.proofs.Sizes.{cost-fewer}
-use Rattle.std.proofs.lemmas.Option.{same_Some}
-use Rattle.page_words.proofs.OptionLemmas.{some_value, no_value}
+use Rattle.page_words.specs.FiniteMap as map
+use Rattle.page_words.specs.FiniteSet as set
 
 -- what a test of order that fails says
 pub not_less : (a b : ℕ) → nat_lt a b ≡ false → b ≤ a

@@ -1,32 +1,25 @@
 -- What the test of a spawn answers, and what a child's charge is.
-use Rattle.std.proofs.Common.{◌≡◌, ◌≢◌, ℕ, ◌+◌, ◌-◌, ◌<◌, ◌≤◌, ◌==◌, Bool, true, false, cond, not, refl, sym, ap, subst, ◌∙◌, inl, inr, List, [], ◌∷◌, Option, Some, None, unwrap_or, is_some, is_none, length, Result, Ok, Err, arith}
-use Rattle.std.specs.Prelude.{if◌then◌else◌, nat_lt}
-use Rattle.std.specs.List.{find, range_with_len}
-use Rattle.std.specs.Option.{option_map}
+use Rattle.process_table.proofs.Prelude
+use Prelude.{◌≡◌, ◌≢◌, ℕ, ◌+◌, ◌-◌, ◌<◌, ◌≤◌, ◌==◌, Bool, true, false, cond, not, refl, sym, ap, subst, ◌∙◌, inl, inr}
+use Prelude.{List, [], ◌∷◌, Option, Some, None, unwrap_or, is_some, is_none, length, Ok, Err, arith, if◌then◌else◌}
+use Prelude.{nat_lt, find, range_with_len, option_map, same, nat_order, same_or_not, same_itself, get-insert, Slot}
+use Prelude.{Cell, Spaces, cost, at_page, directory_of, live_cost, total_cost, Book, Member, given, quota_of}
+use Prelude.{number_of_children, next_number, Containers, IsLive, used_of, total_used, split_answer, after_split}
+use Prelude.{Offers, room, child_of, as_container, container_of, spawn_refusal, state_of, IsProcesses, Cause, not-true}
+use Rattle.std.proofs.Common.{Result}
 use Rattle.page_words.specs.declared.addresses.Pid.{Pid}
-use Rattle.page_words.specs.FiniteMap as map
-use Rattle.page_words.specs.FiniteMap.{same, nat_order}
-use Rattle.page_words.proofs.MapLemmas.{same_or_not, same_itself, get-insert}
-use Rattle.address_space.specs.Spaces.{Slot, Cell, Spaces, cost, at_page}
 use Rattle.address_space.specs.Image.{Image, StandsFor, SlotStands, directory_at, page_word, image_of}
-use Rattle.address_space.specs.View as frames
-use Rattle.address_space.specs.View.{directory_of, live_cost, total_cost}
 use Rattle.quota_tree.specs.declared.QuotaFault.{QuotaFault}
-use Rattle.quota_tree.specs.declared.QuotaFault.TheVariants as quota
-use Rattle.quota_tree.specs.Book.{Book, Member, given, quota_of, number_of_children, next_number}
-use Rattle.quota_tree.specs.Containers.{Containers, IsLive, used_of, room_of, total_used, fitting, split_answer, after_split, opening}
-use Rattle.quota_tree.specs.Containers as quotas
-use Rattle.page_sharing.specs.Offers.{Offers}
-use Rattle.process_table.specs.State.{room, child_of, as_container, container_of}
-use Rattle.process_table.specs.Calls.{spawn_refusal}
+use Rattle.quota_tree.specs.Containers.{room_of, fitting, opening}
 use Rattle.process_table.specs.TestAnswers.{translated, child_unless, spawn_answer}
-use Rattle.process_table.specs.View.{state_of, IsProcesses}
-use Rattle.process_table.specs.declared.causes.Cause.{Cause}
-use Rattle.process_table.specs.declared.causes.Cause.TheVariants as cause
 use Rattle.process_table.proofs.Charged.{differ, room-for}
 use Rattle.process_table.proofs.Ranges.{found}
-use Rattle.std.proofs.lemmas.Bool.{not-true}
 use Rattle.process_table.proofs.Sizes.{cost-no_pages}
+use Rattle.page_words.specs.FiniteMap as map
+use Rattle.address_space.specs.View as frames
+use Rattle.quota_tree.specs.declared.QuotaFault.TheVariants as quota
+use Rattle.quota_tree.specs.Containers as quotas
+use Rattle.process_table.specs.declared.causes.Cause.TheVariants as cause
 
 room-is : (v : frames.View) (c : Containers) (o : Offers) (p : ℕ) → IsProcesses v c → IsLive c p → room_of c p ≡ room (state_of v c o) p
 room-is v c o p kept live = ap (λ u. quota_of c.book p - u - given c.book p) (kept.charged p live)

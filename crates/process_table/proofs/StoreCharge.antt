@@ -1,13 +1,8 @@
 -- What accesses cost.
-use Rattle.std.proofs.Common.{◌≡◌, ℕ, ◌+◌, ◌∙◌}
-use Rattle.page_words.specs.Addresses.{byte_count, touched}
-use Rattle.page_words.specs.declared.addresses.Size.{Size}
-use Rattle.address_space.specs.Spaces.{Spaces, cost, access_need, with_pages, all_accessed, all_stored, bytes_of}
-use Rattle.address_space.proofs.costs.AccessCosts.{cost-same}
-use Rattle.address_space.proofs.costs.AccessNeeds.{cost-with_touched}
-use Rattle.address_space.proofs.costs.MapFirst.{touched-there, bytes_there, key-all_accessed, key-all_stored}
-use Rattle.process_table.specs.State.{State}
-use Rattle.process_table.specs.Calls.{after_load, after_store}
+use Rattle.process_table.proofs.Prelude.{◌≡◌, ℕ, ◌+◌, ◌∙◌, byte_count, touched, Size, Spaces, cost, access_need}
+use Rattle.process_table.proofs.Prelude.{with_pages, all_accessed, all_stored, bytes_of, cost-same, cost-with_touched}
+use Rattle.process_table.proofs.Prelude.{touched-there, bytes_there, key-all_accessed, key-all_stored, State}
+use Rattle.process_table.proofs.Prelude.{after_load, after_store}
 
 -- a load costs what its pages need
 pub load_charge : (s : State) (p address : ℕ) (size : Size) → cost (after_load s p address size).spaces p ≡ cost s.spaces p + access_need s.spaces p address size

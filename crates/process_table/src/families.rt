@@ -9,7 +9,7 @@ ghost use Rattle.process_table.specs.TestAnswers.{translated, spawn_answer, exit
 ghost use Rattle.process_table.specs.Image.{memory_of};
 ghost use Rattle.address_space.specs.Image.{is_lazy_at};
 ghost use Rattle.address_space.specs.Spaces.{at_page};
-ghost use Rattle.address_space.specs.Stays.{FramesStay, none_goes, of_process};
+ghost use Rattle.address_space.specs.Stays.{FramesStay, LooseStay, none_goes, of_process};
 
 use crate::causes::Cause;
 use crate::processes::Processes;
@@ -189,6 +189,7 @@ impl Processes {
         requires { IsOk (exit_answer self.old.state pid) }
         ensures state { self.new.state ≡ after_exit self.old.state pid }
         ensures stay { FramesStay (of_process pid) (memory_of self.old) (memory_of self.new) }
+        ensures loose { LooseStay (memory_of self.old) (memory_of self.new) }
     {
         self.spaces.drop_space(pid);
         self.quotas.close(pid);
@@ -202,6 +203,7 @@ impl Processes {
         ensures result { result ≡ done_unless (first_cause self.old.state pid (exit_refusal self.old.state pid)) }
         ensures state { IsOk result → self.new.state ≡ after_exit self.old.state pid }
         ensures stay { FramesStay (of_process pid) (memory_of self.old) (memory_of self.new) }
+        ensures loose { LooseStay (memory_of self.old) (memory_of self.new) }
         ensures kept { IsErr result → self.new ≡ self.old }
     {
         match self.can_exit(pid) {

@@ -4,7 +4,7 @@ ghost use Rattle.std.specs.Prelude.{◌≡◌, true, Some, None, IsOk, IsErr, If
 ghost use Rattle.process_table.specs.Calls.{after_map, after_unmap, after_protect, map_refusal, unmap_refusal, protect_refusal};
 ghost use Rattle.process_table.specs.TestAnswers.{map_answer, unmap_answer, protect_answer, first_cause, done_unless};
 ghost use Rattle.process_table.specs.Image.{memory_of};
-ghost use Rattle.address_space.specs.Stays.{FramesStay, none_goes, of_page};
+ghost use Rattle.address_space.specs.Stays.{FramesStay, LooseStay, none_goes, of_page};
 ghost use Rattle.address_space.specs.Image.{is_lazy_at};
 ghost use Rattle.address_space.specs.Places.{place_in};
 ghost use Rattle.address_space.specs.Spaces.{at_page};
@@ -143,6 +143,7 @@ impl Processes {
         requires { IsOk (unmap_answer self.old.state pid page) }
         ensures state { self.new.state ≡ after_unmap self.old.state pid page }
         ensures stay { FramesStay (of_page pid page) (memory_of self.old) (memory_of self.new) }
+        ensures loose { LooseStay (memory_of self.old) (memory_of self.new) }
     {
         let _ = self.try_unmap(pid, page);
     }
@@ -154,6 +155,7 @@ impl Processes {
         requires place { place.now ≡ place_in self.old.directories self.old.bytes pid page }
         ensures state { self.new.state ≡ after_unmap self.old.state pid page }
         ensures stay { FramesStay (of_page pid page) (memory_of self.old) (memory_of self.new) }
+        ensures loose { LooseStay (memory_of self.old) (memory_of self.new) }
     {
         let relief = self.spaces.relief_at(pid, page, place);
         self.spaces.unmap_at(pid, page, place);
@@ -168,6 +170,7 @@ impl Processes {
         ensures result { result ≡ done_unless (first_cause self.old.state pid (unmap_refusal self.old.state pid page)) }
         ensures state { IsOk result → self.new.state ≡ after_unmap self.old.state pid page }
         ensures stay { FramesStay (of_page pid page) (memory_of self.old) (memory_of self.new) }
+        ensures loose { LooseStay (memory_of self.old) (memory_of self.new) }
         ensures kept { IsErr result → self.new ≡ self.old }
     {
         match self.place_to_unmap(pid, page) {

@@ -1,13 +1,9 @@
 -- Who is a child, and what one entry of the book more or less leaves of the others.
-use Rattle.std.proofs.Common.{◌≡◌, ◌≢◌, ℕ, ◌&&◌, ◌==◌, not, true, false, refl, ap, ◌∙◌, is_some, inl, inr}
-use Rattle.page_words.specs.FiniteMap as map
-use Rattle.page_words.specs.FiniteMap.{nat_order}
-use Rattle.page_words.proofs.MapLemmas.{get-insert}
-use Rattle.page_words.proofs.SetLemmas.{same_cases}
-use Rattle.quota_tree.specs.Book.{Book, Member, is_child}
-use borrow.Author.Tests.{eq-eqb}
+use Rattle.quota_tree.proofs.Prelude.{◌≡◌, ◌≢◌, ℕ, ◌&&◌, ◌==◌, not, true, false, refl, ap, ◌∙◌, is_some, inl, inr}
+use Rattle.quota_tree.proofs.Prelude.{nat_order, get-insert, same_cases, Book, Member, is_child, eq-eqb}
 use Rattle.std.proofs.Math.Bool.{and-false}
 use Rattle.std.proofs.lemmas.Bool.{ne_eqb}
+use Rattle.page_words.specs.FiniteMap as map
 
 -- a live process other than 0 is its parent's child
 pub child_yes : (p k q : ℕ) → k ≢ 0 → is_child p (k, record { parent = p; quota = q }) ≡ true

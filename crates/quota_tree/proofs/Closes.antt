@@ -1,22 +1,17 @@
 -- What a close leaves.
-use Rattle.std.proofs.Common.{◌≡◌, ◌≢◌, ℕ, ◌+◌, ◌<◌, ◌≤◌, ◌⊎◌, inl, inr, true, false, List, length, get_or, is_some, refl, sym, ap, ◌∙◌, Option, Some, None, unwrap_or, arith, subst, length-set}
-use Rattle.std.specs.Prelude.{slice_set}
-use Rattle.std.specs.Option.{option_map}
-use Rattle.page_words.specs.FiniteMap as map
-use Rattle.page_words.specs.FiniteMap.{Map, nat_order, same}
-use Rattle.page_words.proofs.SetLemmas.{same_cases}
-use Rattle.quota_tree.specs.declared.Container.{Container}
-use Rattle.quota_tree.specs.Book.{Member, Book, is_child, given, number_of_children}
-use Rattle.quota_tree.specs.Collected.{collected}
+use Rattle.quota_tree.proofs.Prelude.{◌≡◌, ◌≢◌, ℕ, ◌+◌, ◌<◌, ◌≤◌, ◌⊎◌, inl, inr, true, false, List, length, get_or}
+use Rattle.quota_tree.proofs.Prelude.{is_some, refl, sym, ap, ◌∙◌, Option, Some, None, unwrap_or, arith, subst}
+use Rattle.quota_tree.proofs.Prelude.{length-set, slice_set, option_map, Map, nat_order, same, Container, Member, Book}
+use Rattle.quota_tree.proofs.Prelude.{is_child, given, number_of_children, collected, member_of, seen_as, IsBooked}
+use Rattle.quota_tree.proofs.Prelude.{IsQuotas, same_Some}
+use Rattle.page_words.proofs.SetLemmas.{same_cases, get-remove_other}
 use Rattle.quota_tree.specs.Containers.{after_close, giver_after_close}
-use Rattle.quota_tree.specs.Invariant.{member_of, seen_as, IsBooked, IsQuotas}
 use Rattle.quota_tree.proofs.CollectedLemmas.{get-collected, collected-set, collected-unset}
 use Rattle.quota_tree.proofs.Sums.{given-remove, number-remove}
 use Rattle.quota_tree.proofs.Views.{get-member}
 use Rattle.quota_tree.proofs.BookFacts.{child_yes, child_no}
 use Rattle.quota_tree.proofs.Writes.{after_set, insert_same, book-set, only_if}
-use Rattle.std.proofs.lemmas.Option.{same_Some}
-use Rattle.page_words.proofs.SetLemmas.{get-remove_other}
+use Rattle.page_words.specs.FiniteMap as map
 
 -- ---- A close: a process without children goes, and its quota returns to its parent
 

@@ -1,17 +1,12 @@
 -- What the map of a list of options answers, and what a write into the list leaves of it.
-use Rattle.std.proofs.Common.{◌≡◌, ◌≢◌, ℕ, zero, suc, ◌+◌, ◌<◌, inl, inr, Bool, true, false, cond, not, List, [], ◌∷◌, length, replicate, get_or, refl, sym, ap, ◌∙◌, Option, Some, None, arith}
-use Rattle.std.specs.Prelude.{position, slice_set, nat_lt}
+use Rattle.quota_tree.proofs.Prelude.{◌≡◌, ◌≢◌, ℕ, zero, suc, ◌+◌, ◌<◌, inl, inr, Bool, true, false, cond, not, List}
+use Rattle.quota_tree.proofs.Prelude.{[], ◌∷◌, length, replicate, get_or, refl, sym, ap, ◌∙◌, Option, Some, None, arith}
+use Rattle.quota_tree.proofs.Prelude.{position, slice_set, nat_lt, option_map, get_or-set_same, get_or-set_other}
+use Rattle.quota_tree.proofs.Prelude.{cases_lt, nat_tests, Map, nat_order, same, collected_from, collected}
 use Rattle.std.specs.List.{find, position_or_len, range_with_len}
-use Rattle.std.specs.Option.{option_map}
-use Rattle.std.proofs.lemmas.List.{get_or-set_same, get_or-set_other}
-use Rattle.std.proofs.lemmas.Bool.{cases_lt}
-use Rattle.std.proofs.lemmas.Bool.Decides.{nat_tests}
-use Rattle.page_words.specs.FiniteMap as map
-use Rattle.page_words.specs.FiniteMap.{Map, nat_order, same}
 use Rattle.page_words.proofs.MapLemmas.{get-insert, same_itself, same_map}
-use Rattle.page_words.proofs.SetLemmas.{get-remove, same_cases}
-use Rattle.quota_tree.specs.Collected.{collected_from, collected}
-use Rattle.page_words.proofs.SetLemmas.{same_apart}
+use Rattle.page_words.proofs.SetLemmas.{get-remove, same_cases, same_apart}
+use Rattle.page_words.specs.FiniteMap as map
 
 module _ {C X : Type 0} (f : C → X) where
   pub get-before : (start : ℕ) (values : List (Option C)) (q : ℕ) → q < start → map.get (collected_from f start values) q ≡ None

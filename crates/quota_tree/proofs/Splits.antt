@@ -1,22 +1,19 @@
 -- What a split answers, and what it leaves.
-use Rattle.std.proofs.Common.{◌≡◌, ◌≢◌, ℕ, ◌+◌, ◌-◌, ◌<◌, ◌≤◌, ◌⊎◌, inl, inr, Bool, true, false, cond, not, ◌==◌, List, length, get_or, is_some, refl, sym, ap, ◌∙◌, Option, Some, None, arith, subst, length-set}
+use Rattle.quota_tree.proofs.Prelude.{◌≡◌, ◌≢◌, ℕ, ◌+◌, ◌-◌, ◌<◌, ◌≤◌, ◌⊎◌, inl, inr, Bool, true, false, cond, not}
+use Rattle.quota_tree.proofs.Prelude.{◌==◌, List, length, get_or, is_some, refl, sym, ap, ◌∙◌, Option, Some, None}
+use Rattle.quota_tree.proofs.Prelude.{arith, subst, length-set, option_map, nat_tests, same, Container, Book, is_child}
+use Rattle.quota_tree.proofs.Prelude.{given, number_of_children, next_number, collected, Containers, room_of}
+use Rattle.quota_tree.proofs.Prelude.{opened_container, charged_with, with_used, split_answer, after_split, member_of}
+use Rattle.quota_tree.proofs.Prelude.{seen_as, IsBooked, IsQuotas, same_Some}
 use Rattle.std.specs.Prelude.{slice_set, nat_lt, position, Ok, Err}
-use Rattle.std.specs.Option.{option_map}
-use Rattle.std.proofs.lemmas.Bool.Decides.{nat_tests}
-use Rattle.page_words.specs.FiniteMap as map
-use Rattle.page_words.specs.FiniteMap.{same}
-use Rattle.quota_tree.specs.declared.Container.{Container}
 use Rattle.quota_tree.specs.declared.QuotaFault.TheVariants.{BadQuota, NoRoom}
-use Rattle.quota_tree.specs.Book.{Book, is_child, given, number_of_children, next_number}
-use Rattle.quota_tree.specs.Collected.{collected}
-use Rattle.quota_tree.specs.Containers.{Containers, giver_after_split, room_of, opened_container, charged_with, with_used, split_answer, fitting, after_split}
-use Rattle.quota_tree.specs.Invariant.{member_of, seen_as, IsBooked, IsQuotas}
+use Rattle.quota_tree.specs.Containers.{giver_after_split, fitting}
 use Rattle.quota_tree.proofs.CollectedLemmas.{get-collected, collected-set}
 use Rattle.quota_tree.proofs.Sums.{given-insert, number-insert, given-none, number-none, number-given}
 use Rattle.quota_tree.proofs.Views.{live-container, parents_live, each_quota, room_of-container, within_places, absent_at, next_number-position}
 use Rattle.quota_tree.proofs.BookFacts.{child_yes, child_no, contains_key-insert, get-insert_other}
 use Rattle.quota_tree.proofs.Writes.{after_set, insert_same, insert_twice, book-set, live_and_absent, only_if}
-use Rattle.std.proofs.lemmas.Option.{same_Some}
+use Rattle.page_words.specs.FiniteMap as map
 
 -- ---- What a split answers
 

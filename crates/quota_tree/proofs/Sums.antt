@@ -7,12 +7,12 @@ use Rattle.std.specs.Ordering.{nat_cmp, is_lt, is_eq}
 use Rattle.std.specs.Cmp.{unsigned_tied, nat_eq_equiv}
 use Rattle.std.specs.FinMap.Entries.{find, below_all, is_sorted, put, by_order}
 use Rattle.std.proofs.lemmas.List.Sums.{sum_by-cons}
-use Rattle.page_words.specs.FiniteMap as map
 use Rattle.page_words.specs.FiniteMap.{Map, nat_order}
 use Rattle.quota_tree.specs.Book.{Member, Book, is_child, given, number_of_children}
 use borrow.Author.Tests.{eqb-true, eq-eqb}
 use Rattle.std.proofs.lemmas.Option.{same_Some}
 use Rattle.page_words.proofs.SetLemmas.{get-removed, put_back}
+use Rattle.page_words.specs.FiniteMap as map
 
 first_of : (a b : Bool) → T (a && b) → T a
 first_of true b h = tt

@@ -1,21 +1,17 @@
 -- What containers are seen as, what holds of every process, and what they keep where they open.
-use Rattle.std.proofs.Common.{◌≡◌, ◌≢◌, ℕ, zero, suc, ◌+◌, ◌-◌, ◌<◌, ◌≤◌, inl, inr, true, false, not, List, ◌∷◌, length, replicate, get_or, is_some, refl, sym, ap, ◌∙◌, Option, Some, None, unwrap_or, arith, subst}
+use Rattle.quota_tree.proofs.Prelude.{◌≡◌, ◌≢◌, ℕ, zero, suc, ◌+◌, ◌-◌, ◌<◌, ◌≤◌, inl, inr, true, false, not, List, ◌∷◌}
+use Rattle.quota_tree.proofs.Prelude.{length, replicate, get_or, is_some, refl, sym, ap, ◌∙◌, Option, Some, None}
+use Rattle.quota_tree.proofs.Prelude.{unwrap_or, arith, subst, find, range_with_len, option_map, cases_lt, Map}
+use Rattle.quota_tree.proofs.Prelude.{nat_order, same, Container, Member, Book, given, quota_of, next_number, collected}
+use Rattle.quota_tree.proofs.Prelude.{IsLive, used_of, room_of, total_used, opened_container, container_of, member_of}
+use Rattle.quota_tree.proofs.Prelude.{seen_as, IsBooked, IsQuotas, same_Some}
 use Rattle.std.specs.Prelude.{position, IfSome}
-use Rattle.std.specs.List.{find, range_with_len}
-use Rattle.std.specs.Option.{option_map}
 use Rattle.std.proofs.lemmas.List.{get_or_past, length-replicate}
 use Rattle.std.proofs.lemmas.List.Quantifiers.{position-Some}
-use Rattle.std.proofs.lemmas.Bool.{cases_lt}
-use Rattle.page_words.specs.FiniteMap as map
-use Rattle.page_words.specs.FiniteMap.{Map, nat_order, same}
-use Rattle.quota_tree.specs.declared.Container.{Container}
-use Rattle.quota_tree.specs.Book.{Member, Book, given, quota_of, next_number}
-use Rattle.quota_tree.specs.Collected.{collected}
-use Rattle.quota_tree.specs.Containers.{IsLive, used_of, room_of, total_used, opened_container, container_of, as_container, opening}
-use Rattle.quota_tree.specs.Invariant.{member_of, seen_as, IsBooked, IsQuotas}
+use Rattle.quota_tree.specs.Containers.{as_container, opening}
 use Rattle.quota_tree.proofs.CollectedLemmas.{get-collected, collected_from-replicate, find-position}
 use Rattle.quota_tree.proofs.Sums.{Parents, costs_within}
-use Rattle.std.proofs.lemmas.Option.{same_Some}
+use Rattle.page_words.specs.FiniteMap as map
 
 pub IfSome-each : {A : Type 0} (P : A → Type 0) (o : Option A) → ((x : A) → o ≡ Some x → P x) → IfSome o P
 IfSome-each P None h = tt

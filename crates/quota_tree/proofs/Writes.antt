@@ -1,19 +1,12 @@
 -- What a write of one container leaves of the others, and a charge of the book.
-use Rattle.std.proofs.Common.{◌≡◌, ◌≢◌, ℕ, ◌<◌, ◌⊎◌, inl, inr, Bool, true, false, cond, List, length, get_or, is_some, refl, sym, ap, ◌∙◌, Option, Some, None, subst, length-set}
-use Rattle.std.specs.Prelude.{slice_set}
-use Rattle.std.proofs.lemmas.List.{get_or-set_same, get_or-set_other}
-use Rattle.page_words.specs.FiniteMap as map
-use Rattle.page_words.specs.FiniteMap.{Map, nat_order, same}
-use Rattle.page_words.proofs.MapLemmas.{get-insert, same_map}
-use Rattle.page_words.proofs.SetLemmas.{same_cases}
-use Rattle.quota_tree.specs.declared.Container.{Container}
-use Rattle.quota_tree.specs.Book.{Book}
-use Rattle.quota_tree.specs.Collected.{collected}
-use Rattle.quota_tree.specs.Containers.{with_used}
-use Rattle.quota_tree.specs.Invariant.{member_of, seen_as, IsBooked, IsQuotas}
+use Rattle.quota_tree.proofs.Prelude.{◌≡◌, ◌≢◌, ℕ, ◌<◌, ◌⊎◌, inl, inr, Bool, true, false, cond, List, length, get_or}
+use Rattle.quota_tree.proofs.Prelude.{is_some, refl, sym, ap, ◌∙◌, Option, Some, None, subst, length-set, slice_set}
+use Rattle.quota_tree.proofs.Prelude.{get_or-set_same, get_or-set_other, Map, nat_order, same, get-insert, same_map}
+use Rattle.quota_tree.proofs.Prelude.{same_cases, Container, Book, collected, with_used, member_of, seen_as, IsBooked}
+use Rattle.quota_tree.proofs.Prelude.{IsQuotas, same_Some}
 use Rattle.quota_tree.proofs.CollectedLemmas.{collected-set}
 use Rattle.quota_tree.proofs.Views.{get-member}
-use Rattle.std.proofs.lemmas.Option.{same_Some}
+use Rattle.page_words.specs.FiniteMap as map
 
 -- ---- Writes into the list
 

@@ -1,14 +1,11 @@
 -- What accesses cost: nothing where the page is mapped, and what its page needs where it is not.
-use Rattle.std.proofs.Common.{◌≡◌, ℕ, Bool, true, false, cond, List, refl, ap, sym, ◌∙◌, inl, inr, Option, Some, None}
-use Rattle.std.specs.Prelude.{is_some, if◌then◌else◌}
-use Rattle.std.specs.Option.{option_map}
-use Rattle.page_words.specs.FiniteMap as map
-use Rattle.page_words.specs.FiniteMap.{same}
-use Rattle.page_words.specs.FiniteSet as set
-use Rattle.page_words.specs.FiniteSet.{Set}
-use Rattle.page_words.proofs.MapLemmas.{same_or_not, get-insert, get-map_values}
-use Rattle.address_space.specs.Spaces.{Slot, slot_order, Cell, Spaces, cost, cost_of, stored, set_bytes, with_bytes, cell_or_fresh, at_page}
+use Rattle.address_space.proofs.Prelude.{◌≡◌, ℕ, Bool, true, false, cond, List, refl, ap, sym, ◌∙◌, inl, inr, Option}
+use Rattle.address_space.proofs.Prelude.{Some, None, is_some, if◌then◌else◌, option_map, same, Set, same_or_not}
+use Rattle.address_space.proofs.Prelude.{get-insert, get-map_values, Slot, slot_order, Cell, Spaces, cost, cost_of}
+use Rattle.address_space.proofs.Prelude.{stored, set_bytes, with_bytes, cell_or_fresh, at_page}
 use Rattle.address_space.proofs.costs.Costs.{same_pages}
+use Rattle.page_words.specs.FiniteMap as map
+use Rattle.page_words.specs.FiniteSet as set
 
 -- spaces that map the same slots cost the same
 pub cost-same : (S T : Spaces) (p : ℕ) → ((q : Slot) → map.contains_key S q ≡ map.contains_key T q) → cost S p ≡ cost T p

@@ -1,23 +1,16 @@
 -- What an access needs: what its first page needs, and what the second needs once the first is mapped.
-use Rattle.std.proofs.Common.{◌≡◌, ◌≢◌, ℕ, ◌+◌, ◌==◌, Bool, true, false, cond, not, ◌||◌, ◌&&◌, [], ◌∷◌, refl, ap, sym, ◌∙◌, arith, Option, Some, None}
-use Rattle.std.specs.Prelude.{is_some, if◌then◌else◌}
-use Rattle.std.proofs.lemmas.Bool.{eqb-true, eq-eqb}
-use Rattle.page_words.specs.Addresses.{slot_number, page_number, touched, page_and, second_page}
-use Rattle.page_words.specs.declared.addresses.Size.{Size}
-use Rattle.page_words.specs.FiniteMap as map
-use Rattle.page_words.specs.FiniteMap.{nat_order, same}
-use Rattle.page_words.specs.FiniteSet as set
-use Rattle.page_words.specs.FiniteSet.{Set}
-use Rattle.page_words.proofs.Accesses.{crosses}
-use Rattle.page_words.proofs.OptionLemmas.{no_value}
+use Rattle.address_space.proofs.Prelude
+use Prelude.{◌≡◌, ◌≢◌, ℕ, ◌+◌, ◌==◌, Bool, true, false, cond, not, ◌||◌, ◌&&◌, [], ◌∷◌, refl, ap, sym, ◌∙◌, arith}
+use Prelude.{Option, Some, None, is_some, if◌then◌else◌, eqb-true, eq-eqb, slot_number, page_number, touched, page_and}
+use Prelude.{second_page, Size, nat_order, same, Set, crosses, no_value, same_apart, Slot, slot_order, Spaces, Cell}
+use Prelude.{at_page, fresh, cost, pages_of, regions_of, need, page_need, with_page, with_pages, Place, found_of}
 use Rattle.page_words.proofs.MapLemmas.{same_itself, contains-insert, retain-insert, retain-insert_other, len-insert}
-use Rattle.page_words.proofs.SetLemmas.{same_apart}
-use Rattle.address_space.specs.Spaces.{Slot, slot_order, Spaces, Cell, at_page, fresh, cost, pages_of, regions_of, need, page_need, missing, need_of, access_need, with_page, with_pages}
-use Rattle.address_space.specs.declared.place.Place.{Place}
-use Rattle.address_space.specs.Places as places
-use Rattle.address_space.specs.Places.{found_of}
+use Rattle.address_space.specs.Spaces.{missing, need_of, access_need}
 use Rattle.address_space.proofs.costs.AccessCosts.{key-insert}
 use Rattle.address_space.proofs.costs.Costs.{pages-insert, regions-insert, cost-insert}
+use Rattle.page_words.specs.FiniteMap as map
+use Rattle.page_words.specs.FiniteSet as set
+use Rattle.address_space.specs.Places as places
 
 -- a page that is mapped now costs what it needed
 pub cost-with_page : (S : Spaces) (p page : ℕ) → cost (with_page S p page) p ≡ cost S p + page_need S p page

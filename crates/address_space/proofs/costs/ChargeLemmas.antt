@@ -1,33 +1,21 @@
 -- What a process is charged for, as its directory and tables show it.
-use Rattle.std.proofs.Common.{◌≡◌, ℕ, ◌+◌, ◌*◌, ◌<◌, ◌≤◌, Bool, true, false, cond, ◌&&◌, ◌||◌, List, refl, ap, sym, ◌∙◌, arith, inl, inr, Option, Some}
-use Rattle.std.specs.Prelude.{is_some, nat_lt, if◌then◌else◌}
-use Rattle.std.specs.Option.{option_and_then, option_map}
-use Rattle.std.proofs.lemmas.Bool.{cases_lt}
-use Rattle.std.proofs.lemmas.Bool.Decides.{nat_tests}
-use Rattle.page_words.specs.Addresses.{slot_number}
-use Rattle.page_words.specs.FiniteMap as map
-use Rattle.page_words.specs.FiniteMap.{Map, nat_order, same}
-use Rattle.page_words.specs.FiniteSet as set
-use Rattle.page_words.specs.FiniteSet.{Set}
-use Rattle.page_words.proofs.MapLemmas.{same_or_not, same_itself, same_set, contains-insert, contains-retain, len-insert, get-map_values, len-change_each}
-use Rattle.phys_memory.specs.Bytes.{frame_bytes}
-use Rattle.alloc_table.specs.declared.Role.{Role}
-use Rattle.page_map.specs.declared.PageEntry.{PageEntry}
-use Rattle.page_map.specs.Entries.{table_of, entry_at}
+use Rattle.address_space.proofs.Prelude
+use Prelude.{◌≡◌, ℕ, ◌+◌, ◌*◌, ◌<◌, ◌≤◌, Bool, true, false, cond, ◌&&◌, ◌||◌, List, refl, ap, sym, ◌∙◌, arith, inl, inr}
+use Prelude.{Option, Some, is_some, nat_lt, if◌then◌else◌, option_and_then, option_map, cases_lt, nat_tests}
+use Prelude.{slot_number, nat_order, same, Set, same_or_not, same_itself, same_set, contains-insert}
+use Prelude.{contains-retain, len-insert, get-map_values, frame_bytes, Role, PageEntry, table_of, entry_at}
+use Prelude.{get-entries_user, get-entries_other, user_cases, Cell, Spaces, cost, pages_of, regions_of, at_page}
+use Prelude.{cell_of, directory_of, table_in, entries_in, spaces_in, IsSpaces, and-false, and-true, is_some-map}
+use Rattle.page_words.proofs.MapLemmas.{len-change_each}
 use Rattle.page_map.specs.Pages.{entries_of, counted}
-use Rattle.page_map.proofs.PageLemmas.{get-entries_user, get-entries_other, user_cases}
-use Rattle.address_space.specs.Spaces.{Cell, Spaces, cost, pages_of, regions_of, at_page}
-use Rattle.address_space.specs.Cells.{cell_of}
-use Rattle.address_space.specs.View.{directory_of, table_in, entries_in, spaces_in}
-use Rattle.address_space.specs.Sound.{IsSpaces}
 use Rattle.address_space.proofs.costs.Costs.{contains-pages_of}
 use Rattle.address_space.proofs.costs.CostSteps.{region_member}
 use Rattle.address_space.proofs.steps.Departures.{no_cell_outside}
 use Rattle.address_space.proofs.steps.Openings.{cost_within}
 use Rattle.address_space.proofs.entries.Readings.{need_read, get-spaces_in}
 use Rattle.address_space.proofs.steps.Steps.{live_small}
-use Rattle.std.proofs.Math.Bool.{and-false, and-true}
-use Rattle.page_words.proofs.OptionLemmas.{is_some-map}
+use Rattle.page_words.specs.FiniteMap as map
+use Rattle.page_words.specs.FiniteSet as set
 
 -- what a page costs where its region has a table, and where it has none
 abbrev priced : Bool → ℕ

@@ -1,18 +1,12 @@
 -- What stands where after a process's pages were copied to another, and what they cost it.
-use Rattle.std.proofs.Common.{◌≡◌, ◌≢◌, ℕ, Bool, true, false, cond, ◌||◌, ◌==◌, if◌then◌else◌, List, [], ◌∷◌, ◌++◌, map, refl, sym, ap, ◌∙◌, inl, inr, Option, Some, None, is_some}
-use Rattle.std.specs.Prelude.{◌⊎◌}
-use Rattle.std.specs.Option.{option_map}
-use Rattle.std.specs.List.{list_any}
-use Rattle.std.specs.FinMap.Entries.{is_some-find}
-use Rattle.std.proofs.Math.Bool.{or-true}
-use Rattle.std.proofs.lemmas.Bool.{ne_eqb}
+use Rattle.address_space.proofs.Prelude.{◌≡◌, ◌≢◌, ℕ, Bool, true, false, cond, ◌||◌, ◌==◌, if◌then◌else◌, List, [], ◌∷◌}
+use Rattle.address_space.proofs.Prelude.{◌++◌, map, refl, sym, ap, ◌∙◌, inl, inr, Option, Some, None, is_some, ◌⊎◌}
+use Rattle.address_space.proofs.Prelude.{option_map, list_any, is_some-find, or-true, ne_eqb, Order, same, same_or_not}
+use Rattle.address_space.proofs.Prelude.{same_itself, get-collect, list_any-map, Slot, slot_order, slot_cmp, Cell}
+use Rattle.address_space.proofs.Prelude.{Spaces, cost, cost_of, copy_of, copied_at, copied, at_page, eqb-true, eq-eqb}
 use Rattle.std.proofs.lemmas.List.Folds.{list_any-append}
-use Rattle.page_words.specs.FiniteMap as map_of
-use Rattle.page_words.specs.FiniteMap.{Order, same}
-use Rattle.page_words.proofs.MapLemmas.{same_or_not, same_itself, get-collect, list_any-map}
-use Rattle.address_space.specs.Spaces.{Slot, slot_order, slot_cmp, Cell, Spaces, cost, cost_of, copy_of, copied_at, copied, at_page}
 use Rattle.address_space.proofs.costs.Costs.{same_pages}
-use borrow.Author.Tests.{eqb-true, eq-eqb}
+use Rattle.page_words.specs.FiniteMap as map_of
 
 -- a key among others passes a test, so one of them does
 passes : {K : Type 0} (o : Order K) (t : K → Bool) (k : K) (ks : List K) → t k ≡ true → list_any (same o k) ks ≡ true → list_any t ks ≡ true

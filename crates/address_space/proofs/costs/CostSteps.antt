@@ -1,33 +1,19 @@
 -- The costs of all processes, and what one more page adds.
-use Rattle.std.proofs.Common.{◌≡◌, ◌≢◌, ℕ, zero, suc, ◌+◌, ◌<◌, ◌≤◌, Bool, true, false, cond, ◌||◌, List, [], ◌∷◌, map, refl, ap, sym, ◌∙◌, subst, arith, inl, inr, Option, Some, None}
-use Rattle.std.specs.Prelude.{◌⊎◌, is_some, if◌then◌else◌, sum_by, ◌*◌}
-use Rattle.std.specs.Option.{option_map, option_and_then}
-use Rattle.std.specs.List.{list_any, range_with_len}
-use Rattle.std.specs.FinMap.Entries.{is_some-find}
-use Rattle.std.proofs.lemmas.Bool.{cases_eq}
-use Rattle.std.proofs.lemmas.List.Sums.{sum_by-cons}
-use Rattle.page_words.specs.Addresses.{slot_number, index_number}
-use Rattle.page_map.specs.Entries.{Frames, word_entry, entry_from}
-use Rattle.page_map.specs.declared.PageEntry.{PageEntry}
-use Rattle.page_words.specs.FiniteMap as map_of
+use Rattle.address_space.proofs.Prelude
+use Prelude.{◌≡◌, ◌≢◌, ℕ, zero, suc, ◌+◌, ◌<◌, ◌≤◌, Bool, true, false, cond, ◌||◌, List, [], ◌∷◌, map, refl, ap, sym}
+use Prelude.{◌∙◌, subst, arith, inl, inr, Option, Some, None, ◌⊎◌, is_some, if◌then◌else◌, sum_by, ◌*◌, option_map}
+use Prelude.{option_and_then, list_any, range_with_len, is_some-find, cases_eq, sum_by-cons, slot_number, index_number}
+use Prelude.{Frames, word_entry, entry_from, PageEntry, word_in, Set, nat_order, same, Slot, slot_order, Cell, Spaces}
+use Prelude.{cost, cost_of, need, pages_of, regions_of, at_page, user_slots, same_itself, same_or_not, get-insert}
+use Prelude.{contains-from_list, list_any-map, Entries, cell_of, spaces_of, Directories, directory_of, table_in}
+use Prelude.{entry_in, entries_in, live_cost, total_cost, InUseAt, or-true, is_some-map}
 use Rattle.address_space.proofs.entries.UserSlots.{in_user_slots}
-use Rattle.phys_memory.specs.Bytes.{word_in}
-use Rattle.page_words.specs.FiniteSet as set
-use Rattle.page_words.specs.FiniteSet.{Set}
-use Rattle.page_words.specs.FiniteMap.{nat_order}
-use Rattle.page_words.specs.Addresses.{slot_number}
-use Rattle.address_space.specs.Spaces.{Slot, slot_order, Cell, Spaces, cost, cost_of, need, pages_of, regions_of, at_page}
-use Rattle.address_space.specs.Slots.{user_slots}
-use Rattle.page_words.specs.FiniteMap.{same}
-use Rattle.page_words.proofs.MapLemmas.{same_itself, same-true, same_or_not, get-insert, contains-from_list, list_any-map}
+use Rattle.page_words.proofs.MapLemmas.{same-true}
 use Rattle.address_space.proofs.costs.Costs.{contains-pages_of, same_pages, cost-insert}
-use Rattle.address_space.specs.Cells.{Entries, cell_of, spaces_of}
-use Rattle.address_space.specs.View.{Directories, directory_of, table_in, entry_in, entries_in, live_cost, total_cost}
-use Rattle.address_space.specs.Sound.{InUseAt}
 use Rattle.address_space.proofs.entries.EntrySteps.{get-entries_in, entry_by_table}
 use Rattle.address_space.proofs.entries.Refinement.{get-spaces_of}
-use Rattle.std.proofs.Math.Bool.{or-true}
-use Rattle.page_words.proofs.OptionLemmas.{is_some-map}
+use Rattle.page_words.specs.FiniteMap as map_of
+use Rattle.page_words.specs.FiniteSet as set
 
 -- ---- A sum over a range, with one term changed
 

@@ -1,15 +1,9 @@
 -- The frames in use stay within the costs.
-use Rattle.std.proofs.Common.{◌≡◌, ℕ, ◌+◌, ◌<◌, ◌≤◌, List, length, refl, ap, sym, ◌∙◌, arith, inl, inr, Option, Some, None}
-use Rattle.page_words.specs.Addresses.{slot_number}
-use Rattle.phys_memory.specs.Bytes.{frame_bytes}
-use Rattle.alloc_table.specs.declared.Role.{Role}
-use Rattle.alloc_table.specs.Roles.{free_frames, frames_weight}
+use Rattle.address_space.proofs.Prelude.{◌≡◌, ℕ, ◌+◌, ◌<◌, ◌≤◌, List, length, refl, ap, sym, ◌∙◌, arith, inl, inr}
+use Rattle.address_space.proofs.Prelude.{Option, Some, None, slot_number, frame_bytes, Role, free_frames, frames_weight}
+use Rattle.address_space.proofs.Prelude.{Spaces, need, spaces_of, directory_of, table_in, entries_in, spaces_in}
+use Rattle.address_space.proofs.Prelude.{total_cost, IsSound, IsSpaces, table_need, TableGiven, SlotAdded}
 use Rattle.alloc_table.proofs.RoleLemmas.{free-by-weight}
-use Rattle.address_space.specs.Spaces.{Spaces, need}
-use Rattle.address_space.specs.Cells.{spaces_of}
-use Rattle.address_space.specs.View.{directory_of, table_in, entries_in, spaces_in, total_cost}
-use Rattle.address_space.specs.Sound.{IsSound, IsSpaces}
-use Rattle.address_space.specs.Changes.{table_need, TableGiven, SlotAdded}
 use Rattle.address_space.proofs.costs.CostSteps.{need-two, need-least}
 use Rattle.address_space.proofs.frames.FrameSteps.{here_or_not}
 

@@ -1,19 +1,14 @@
 -- The pages of a process, and what one more page adds to the costs.
-use Rattle.std.proofs.Common.{◌≡◌, ℕ, ◌+◌, Bool, true, false, cond, ◌||◌, ◌&&◌, ◌==◌, if◌then◌else◌, List, [], ◌∷◌, map, refl, sym, ap, ◌∙◌, Option, Some, None, is_some, arith}
+use Rattle.address_space.proofs.Prelude
+use Prelude.{◌≡◌, ℕ, ◌+◌, Bool, true, false, cond, ◌||◌, ◌&&◌, ◌==◌, if◌then◌else◌, List, [], ◌∷◌, map, refl, sym, ap}
+use Prelude.{◌∙◌, Option, Some, None, is_some, arith, list_any, where_key, is_some-find, nat_order, same}
+use Prelude.{Set, slot_number, Slot, slot_order, slot_cmp, Cell, Spaces, cost, cost_of, need, pages_of, regions_of}
+use Prelude.{at_page, get-insert, same_set, contains-insert, contains-from_list, len-insert, list_any-map}
 use Rattle.std.specs.Ordering.{is_eq, nat_cmp}
-use Rattle.std.specs.Cmp.{unsigned_tied, eq_by_cmp_equiv}
-use Rattle.std.specs.List.{list_any}
-use Rattle.std.specs.FinMap.Entries.{where_key, is_some-find}
+use Rattle.std.specs.Cmp.{unsigned_tied, eq_by_cmp_equiv, tied_then}
+use Rattle.page_words.proofs.MapLemmas.{list_any-put}
 use Rattle.page_words.specs.FiniteMap as map
-use Rattle.page_words.specs.FiniteMap.{Order, Map}
 use Rattle.page_words.specs.FiniteSet as set
-use Rattle.page_words.specs.FiniteSet.{Set}
-use Rattle.page_words.specs.FiniteMap.{nat_order}
-use Rattle.page_words.specs.Addresses.{slot_number}
-use Rattle.address_space.specs.Spaces.{Slot, slot_order, slot_cmp, Cell, Spaces, cost, cost_of, need, pages_of, regions_of, at_page}
-use Rattle.page_words.specs.FiniteMap.{same}
-use Rattle.page_words.proofs.MapLemmas.{get-insert, same_set, contains-insert, contains-from_list, len-insert, list_any-put, list_any-map}
-use Rattle.std.specs.Cmp.{tied_then}
 
 -- whether a page stands among the slots of a process
 among : (p page : ℕ) (es : List (Slot × Cell))

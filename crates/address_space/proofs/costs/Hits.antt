@@ -1,14 +1,8 @@
 -- How often a frame is in a list, and that all frames together are there no more often than the list is long.
-use Rattle.std.proofs.Common.{◌≡◌, ℕ, zero, suc, ◌+◌, ◌≤◌, ◌==◌, Bool, true, cond, ◌||◌, List, [], ◌∷◌, ◌++◌, map, length, refl, ap, sym, subst, ◌∙◌, arith, inl, inr, Some}
-use Rattle.std.specs.Prelude.{slice_get}
-use Rattle.std.specs.List.{list_any}
-use Rattle.std.proofs.lemmas.Bool.{cases_eq, ne_eqb}
-use Rattle.std.proofs.lemmas.List.Sums.{sum_by-cons}
-use Rattle.page_words.specs.FiniteMap.{Order, same}
-use Rattle.page_words.proofs.MapLemmas.{same_or_not}
-use Rattle.alloc_table.specs.declared.Role.{Role}
-use Rattle.alloc_table.specs.Roles.{weight, frames_weight}
-use borrow.Author.Tests.{eq-eqb}
+use Rattle.address_space.proofs.Prelude.{◌≡◌, ℕ, zero, suc, ◌+◌, ◌≤◌, ◌==◌, Bool, true, cond, ◌||◌, List, [], ◌∷◌, ◌++◌}
+use Rattle.address_space.proofs.Prelude.{map, length, refl, ap, sym, subst, ◌∙◌, arith, inl, inr, Some, slice_get}
+use Rattle.address_space.proofs.Prelude.{list_any, cases_eq, ne_eqb, sum_by-cons, Order, same, same_or_not, Role}
+use Rattle.address_space.proofs.Prelude.{weight, frames_weight, eq-eqb}
 
 abbrev pub once : Bool → ℕ
 once b = cond b 1 0

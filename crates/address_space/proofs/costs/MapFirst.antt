@@ -1,14 +1,12 @@
 -- Pages that are mapped for an access, and what an access of mapped pages leaves mapped.
-use Rattle.std.proofs.Common.{◌≡◌, ℕ, zero, suc, ◌+◌, ◌/◌, ◌%◌, ◌<◌, Bool, true, false, cond, [], ◌∷◌, refl, ap, ◌∙◌, arith, Option, Some, None}
-use Rattle.std.specs.Prelude.{if◌then◌else◌, IfSome}
-use Rattle.page_words.specs.Addresses.{page_number, offset_number, byte_count, second_page, page_and, touched, EachTouched}
-use Rattle.page_words.specs.declared.addresses.Size.{Size}
-use Rattle.page_words.specs.FiniteMap as map
-use Rattle.page_words.specs.FiniteMap.{same}
-use Rattle.page_words.proofs.MapLemmas.{same_itself}
-use Rattle.address_space.specs.Spaces.{Slot, slot_order, Spaces, at_page, slot_at, cell_or_fresh, fresh, accessed, stored, bytes_of, with_page, with_pages, all_accessed, all_stored}
+use Rattle.address_space.proofs.Prelude
+use Prelude.{◌≡◌, ℕ, zero, suc, ◌+◌, ◌/◌, ◌%◌, ◌<◌, Bool, true, false, cond, [], ◌∷◌, refl, ap, ◌∙◌, arith, Option}
+use Prelude.{Some, None, if◌then◌else◌, IfSome, page_number, offset_number, byte_count, second_page, page_and, touched}
+use Prelude.{EachTouched, Size, same, same_itself, Slot, slot_order, Spaces, at_page, slot_at, cell_or_fresh, fresh}
+use Prelude.{accessed, stored, bytes_of, with_page, with_pages, all_accessed, all_stored}
 use Rattle.address_space.proofs.costs.AccessCosts.{key-insert, key-stored, kept}
 use Rattle.address_space.proofs.steps.Bytes.{each_byte, stored_in_page}
+use Rattle.page_words.specs.FiniteMap as map
 
 abbrev pub IsThere : Spaces → ℕ → ℕ → Type 0
 IsThere S p page = map.contains_key S (at_page p page) ≡ true

@@ -1,26 +1,17 @@
 -- What a process's cost falls by when one of its pages goes.
-use Rattle.std.proofs.Common.{◌≡◌, ◌≢◌, ℕ, ◌+◌, ◌*◌, ◌%◌, ◌<◌, Bool, true, false, cond, not, List, refl, ap, sym, ◌∙◌, arith, inl, inr, Option, Some, None}
-use Rattle.std.specs.Prelude.{is_some, if◌then◌else◌}
-use Rattle.std.specs.Option.{option_and_then}
-use Rattle.std.specs.List.{list_any}
-use Rattle.page_words.specs.Addresses.{slot_number}
-use Rattle.page_words.specs.FiniteMap as map
-use Rattle.page_words.specs.FiniteMap.{same, nat_order}
-use Rattle.page_words.specs.FiniteSet as set
-use Rattle.page_words.proofs.MapLemmas.{same_or_not, same_itself, get-insert, get-retain_keys, get-map_values}
-use Rattle.phys_memory.specs.Bytes.{frame_bytes}
-use Rattle.page_map.specs.declared.PageEntry.{PageEntry}
-use Rattle.page_map.specs.Entries.{entry_at}
-use Rattle.address_space.specs.Spaces.{Slot, slot_order, Cell, Spaces, cost, cost_of, need, pages_of, regions_of, without, is_slot, with_holders, at_page}
-use Rattle.address_space.specs.Slots.{user_slots}
-use Rattle.address_space.specs.View.{directory_of, entry_in, entries_in, spaces_in}
-use Rattle.address_space.specs.Sound.{IsAlone, IsShared}
+use Rattle.address_space.proofs.Prelude
+use Prelude.{◌≡◌, ◌≢◌, ℕ, ◌+◌, ◌*◌, ◌%◌, ◌<◌, Bool, true, false, cond, not, List, refl, ap, sym, ◌∙◌, arith, inl, inr}
+use Prelude.{Option, Some, None, is_some, if◌then◌else◌, option_and_then, list_any, slot_number, same}
+use Prelude.{same_or_not, same_itself, get-insert, get-retain_keys, get-map_values, frame_bytes, PageEntry, entry_at}
+use Prelude.{Slot, slot_order, Cell, Spaces, cost, cost_of, need, pages_of, regions_of, without, is_slot, with_holders}
+use Prelude.{at_page, user_slots, directory_of, entry_in, entries_in, spaces_in, IsAlone, IsShared, is_some-map}
+use Prelude.{no_value}
 use Rattle.address_space.proofs.costs.Costs.{contains-pages_of, same_pages, cost-insert}
 use Rattle.address_space.proofs.costs.CostSteps.{region_there, region_member, keys}
 use Rattle.address_space.proofs.entries.EntrySteps.{get-entries_in}
 use Rattle.address_space.proofs.entries.UserSlots.{in_user_slots}
-use Rattle.page_words.proofs.OptionLemmas.{is_some-map}
-use Rattle.page_words.proofs.OptionLemmas.{no_value}
+use Rattle.page_words.specs.FiniteMap as map
+use Rattle.page_words.specs.FiniteSet as set
 
 module _ (S : Spaces) (p page : ℕ) where
   abbrev slot : Slot

@@ -1,15 +1,12 @@
 -- A set of some of another's members is no larger, and fewer pages cost no more.
-use Rattle.std.proofs.Common.{◌≡◌, ℕ, suc, ◌≤◌, ◌&&◌, Bool, true, false, cond, List, [], ◌∷◌, length, refl, sym, subst, ◌∙◌, arith}
+use Rattle.address_space.proofs.Prelude.{◌≡◌, ℕ, suc, ◌≤◌, ◌&&◌, Bool, true, false, cond, List, [], ◌∷◌, length, refl}
+use Rattle.address_space.proofs.Prelude.{sym, subst, ◌∙◌, arith, where_key, Order, Set, same_set, contains-retain}
+use Rattle.address_space.proofs.Prelude.{Spaces, cost, pages_of, regions_of, at_page}
 use Rattle.std.specs.declared.cmp.Ordering.{Ordering}
-use Rattle.std.specs.FinMap.Entries.{where_key}
-use Rattle.page_words.specs.FiniteMap as map
-use Rattle.page_words.specs.FiniteMap.{Order}
-use Rattle.page_words.specs.FiniteSet as set
-use Rattle.page_words.specs.FiniteSet.{Set}
-use Rattle.page_words.proofs.MapLemmas.{same_set, contains-retain}
-use Rattle.address_space.specs.Spaces.{Spaces, cost, pages_of, regions_of, at_page}
 use Rattle.address_space.proofs.costs.Costs.{contains-pages_of}
 use Rattle.address_space.proofs.costs.CostSteps.{region_member, region_there}
+use Rattle.page_words.specs.FiniteMap as map
+use Rattle.page_words.specs.FiniteSet as set
 
 module _ {K X : Type 0} (R : K → K → Ordering) where
   pub length-where_key : (t : K → Bool) (es : List (K × X)) → length (where_key R t es) ≤ length es

@@ -1,19 +1,15 @@
 -- What each process and all together cost after each kind of change, as laws of the definitions.
-use Rattle.std.proofs.Common.{◌≡◌, ◌≢◌, ℕ, ◌+◌, ◌<◌, ◌≤◌, Bool, true, false, cond, not, List, refl, ap, sym, ◌∙◌, arith, Option, Some, None}
-use Rattle.std.specs.Prelude.{is_some, if◌then◌else◌}
-use Rattle.std.specs.Option.{option_map}
-use Rattle.page_words.specs.FiniteMap as map
-use Rattle.page_words.specs.FiniteMap.{same}
-use Rattle.page_words.specs.FiniteSet as set
-use Rattle.page_words.specs.FiniteSet.{Set}
-use Rattle.page_words.proofs.MapLemmas.{get-map_values}
-use Rattle.address_space.specs.Spaces.{Slot, slot_order, Cell, Spaces, cost, cost_of, need, accessed, stored, protected, joined, set_holders, with_holders, cell_or_fresh, without, at_page}
-use Rattle.address_space.specs.View.{directory_of, total_cost}
+use Rattle.address_space.proofs.Prelude.{◌≡◌, ◌≢◌, ℕ, ◌+◌, ◌<◌, ◌≤◌, Bool, true, false, cond, not, List, refl, ap, sym}
+use Rattle.address_space.proofs.Prelude.{◌∙◌, arith, Option, Some, None, is_some, if◌then◌else◌, option_map, same}
+use Rattle.address_space.proofs.Prelude.{get-map_values, Slot, slot_order, Cell, Spaces, cost, cost_of, need, accessed}
+use Rattle.address_space.proofs.Prelude.{stored, protected, joined, set_holders, with_holders, cell_or_fresh, without}
+use Rattle.address_space.proofs.Prelude.{at_page, directory_of, total_cost, some_value}
 use Rattle.address_space.proofs.costs.AccessCosts.{cost-same, key-insert, key-stored, kept}
 use Rattle.address_space.proofs.costs.Costs.{cost-insert, same_pages}
 use Rattle.address_space.proofs.costs.CostSteps.{total-insert, other_slot, need-most}
 use Rattle.address_space.proofs.steps.Departures.{get-without}
-use Rattle.page_words.proofs.OptionLemmas.{some_value}
+use Rattle.page_words.specs.FiniteMap as map
+use Rattle.page_words.specs.FiniteSet as set
 
 key-each : (f : Slot → Cell → Cell) (S : Spaces) (q : Slot) → map.contains_key (map.map_values f S) q ≡ map.contains_key S q
 key-each f S q = ap is_some (get-map_values slot_order f S q) ∙ by (map.get S q)

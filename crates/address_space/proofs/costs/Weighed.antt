@@ -1,29 +1,16 @@
 -- Where frames agree, they and the lazy pages weigh no more than the costs: each process has as many uses as it costs,
 -- and a frame has a use for each of its slots.
-use Rattle.std.proofs.Common.{◌≡◌, ℕ, zero, suc, ◌+◌, ◌*◌, ◌<◌, ◌≤◌, ◌==◌, Bool, true, false, cond, ◌||◌, List, [], ◌∷◌, ◌++◌, map as list_map, length, length-append, refl, ap, sym, subst, ◌∙◌, arith, inl, inr, Option, Some, None}
-use Rattle.std.specs.Prelude.{slice_get, is_some, if◌then◌else◌, sum_by, unwrap_or}
-use Rattle.std.specs.Option.{option_map, option_and_then}
-use Rattle.std.specs.List.{list_any, range_with_len}
-use Rattle.std.specs.FinMap.Entries.{is_some-find}
-use Rattle.std.proofs.lemmas.Bool.{cases_eq, cases_lt}
-use Rattle.std.proofs.lemmas.List.{length-map}
-use Rattle.std.proofs.lemmas.List.Sums.{sum_by-cons}
-use Rattle.page_words.specs.Addresses.{slot_number, index_number}
-use Rattle.page_words.specs.FiniteMap as map_of
-use Rattle.page_words.specs.FiniteMap.{Order, nat_order, same}
-use Rattle.page_words.specs.FiniteSet as set
-use Rattle.page_words.specs.FiniteSet.{Set}
-use Rattle.page_words.proofs.MapLemmas.{same_or_not, same_itself, contains-from_list, len-insert}
-use Rattle.phys_memory.specs.Bytes.{frame_bytes, word_in}
-use Rattle.alloc_table.specs.declared.Role.{Role}
-use Rattle.alloc_table.specs.declared.Role.TheVariants.{Reserved, Free, Directory, Table, Page}
-use Rattle.alloc_table.specs.Roles.{weight, frames_weight}
-use Rattle.page_map.specs.declared.PageEntry.{PageEntry}
-use Rattle.page_map.specs.Entries.{Frames, table_of, word_table, word_entry, entry_from, entry_at}
-use Rattle.address_space.specs.Spaces.{Slot, slot_order, Spaces, cost, pages_of, regions_of, at_page}
-use Rattle.address_space.specs.Slots.{user_slots}
-use Rattle.address_space.specs.Cells.{Entries, names, holders_of, lazy_count, spaces_of}
-use Rattle.address_space.specs.View.{Directories, directory_of, table_in, entry_in, entries_in, spaces_in, live_cost, total_cost}
+use Rattle.address_space.proofs.Prelude
+use Prelude.{◌≡◌, ℕ, zero, suc, ◌+◌, ◌*◌, ◌<◌, ◌≤◌, ◌==◌, Bool, true, false, cond, ◌||◌, List, [], ◌∷◌, ◌++◌, length}
+use Prelude.{length-append, refl, ap, sym, subst, ◌∙◌, arith, inl, inr, Option, Some, None, slice_get, is_some}
+use Prelude.{if◌then◌else◌, sum_by, unwrap_or, option_map, option_and_then, list_any, range_with_len, is_some-find}
+use Prelude.{cases_eq, cases_lt, length-map, sum_by-cons, slot_number, index_number, Order, nat_order, same, Set}
+use Prelude.{same_or_not, same_itself, contains-from_list, len-insert, frame_bytes, word_in, Role, Reserved, Free}
+use Prelude.{Directory, Table, Page, weight, frames_weight, PageEntry, Frames, table_of, word_table, word_entry}
+use Prelude.{entry_from, entry_at, Slot, slot_order, Spaces, cost, pages_of, regions_of, at_page, user_slots, Entries}
+use Prelude.{names, holders_of, lazy_count, spaces_of, Directories, directory_of, table_in, entry_in, entries_in}
+use Prelude.{spaces_in, live_cost, total_cost, eqb-true, eq-eqb}
+use Rattle.std.proofs.Common.{map as list_map}
 use Rattle.address_space.specs.Sound.{IsSound, InUse, weight_in}
 use Rattle.address_space.proofs.costs.Costs.{contains-pages_of}
 use Rattle.address_space.proofs.costs.CostSteps.{keys, region_there}
@@ -33,7 +20,8 @@ use Rattle.address_space.proofs.entries.EntrySteps.{get-entries_in, entry_by_tab
 use Rattle.address_space.proofs.entries.Refinement.{contains-holders_of}
 use Rattle.address_space.proofs.entries.UserSlots.{in_user_slots}
 use Rattle.address_space.proofs.steps.Steps.{live_small}
-use borrow.Author.Tests.{eqb-true, eq-eqb}
+use Rattle.page_words.specs.FiniteMap as map_of
+use Rattle.page_words.specs.FiniteSet as set
 
 -- a list has at least as many places as keys
 len-from_list : {K : Type 0} (o : Order K) (ks : List K) → set.len (set.from_list {o = o} ks) ≤ length ks

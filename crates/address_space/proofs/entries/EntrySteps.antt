@@ -1,26 +1,15 @@
 -- How tables and entries change where one frame, one word or one role does.
-use Rattle.std.proofs.Common.{◌≡◌, ◌≢◌, ℕ, ◌^◌, ◌<◌, ◌≤◌, Bool, true, false, cond, length, refl, ap, sym, ◌∙◌, subst, arith, inl, inr, Option, Some, None}
-use Rattle.std.specs.Option.{option_and_then}
-use Rattle.std.specs.List.{list_any}
-use Rattle.std.proofs.lemmas.Bool.{cases_eq}
-use Rattle.page_words.specs.Addresses.{slot_number, index_number}
-use Rattle.page_words.specs.Words.{IsKernelDirWord, IsKernelTableWord, is_present}
-use Rattle.phys_memory.specs.Bytes.{word_in, with_word_in, with_frame}
-use Rattle.phys_memory.proofs.Frames.{with_frame-same, with_frame-other, word_in_same, word_in_other, length-with_word_in}
-use Rattle.alloc_table.specs.declared.Role.TheVariants.{Reserved, Directory, Table}
-use Rattle.page_map.specs.declared.PageEntry.{PageEntry}
-use Rattle.page_map.specs.Entries.{Frames, word_table, table_of, word_entry, entry_at}
-use Rattle.page_words.specs.FiniteMap as map
-use Rattle.address_space.specs.Spaces.{Slot, slot_order, at_page}
-use Rattle.page_words.specs.FiniteMap.{collect}
-use Rattle.address_space.specs.Slots.{user_slots}
-use Rattle.page_words.specs.FiniteMap.{same}
-use Rattle.page_words.proofs.MapLemmas.{same_or_not, same_itself, get-insert, same_map}
-use Rattle.page_words.proofs.MapLemmas.{get-collect}
+use Rattle.address_space.proofs.Prelude
+use Prelude.{◌≡◌, ◌≢◌, ℕ, ◌^◌, ◌<◌, ◌≤◌, Bool, true, false, cond, length, refl, ap, sym, ◌∙◌, subst, arith, inl, inr}
+use Prelude.{Option, Some, None, option_and_then, list_any, cases_eq, slot_number, index_number, IsKernelDirWord}
+use Prelude.{IsKernelTableWord, is_present, word_in, with_word_in, with_frame, with_frame-same, with_frame-other}
+use Prelude.{word_in_same, word_in_other, length-with_word_in, Reserved, Directory, Table, PageEntry, Frames}
+use Prelude.{word_table, table_of, word_entry, entry_at, Slot, slot_order, at_page, same, user_slots}
+use Prelude.{same_or_not, same_itself, get-insert, same_map, get-collect, Directories, Roles, table_in, entry_in}
+use Prelude.{entries_in, Tables, InUseAt}
 use Rattle.address_space.proofs.entries.UserSlots.{in_user_slots}
 use Rattle.address_space.proofs.entries.Removal.{removed, kept_other}
-use Rattle.address_space.specs.View.{Directories, Roles, table_in, entry_in, entries_in}
-use Rattle.address_space.specs.Sound.{Tables, InUseAt}
+use Rattle.page_words.specs.FiniteMap as map
 
 -- memory with another word at a page, in this table
 abbrev pub with_word_at : Frames → ℕ → ℕ → ℕ → Frames
@@ -46,6 +35,18 @@ entry_by_table D m q = by (D q.pid)
     by : (x : Option ℕ) → option_and_then (λ d. entry_at m d q.page) x ≡ option_and_then (λ table. word_entry (word_in (m table) (index_number q.page))) (option_and_then (λ d. table_of m d (slot_number q.page)) x)
     by None = refl
     by (Some d) = refl
+
+-- an entry stays where its table does, with its bytes
+pub entry_kept : (D D' : Directories) (m m' : Frames) (q : Slot) → table_in D' m' q.pid (slot_number q.page) ≡ table_in D m q.pid (slot_number q.page)
+    → ((t : ℕ) → table_in D m q.pid (slot_number q.page) ≡ Some t → m' t ≡ m t) → entry_in D' m' q ≡ entry_in D m q
+entry_kept D D' m m' q same kept =
+    entry_by_table D' m' q ∙ ap (option_and_then (λ table. word_entry (word_in (m' table) (index_number q.page)))) same
+    ∙ by (table_in D m q.pid (slot_number q.page)) refl ∙ sym (entry_by_table D m q)
+  where
+    by : (y : Option ℕ) → table_in D m q.pid (slot_number q.page) ≡ y
+        → option_and_then (λ table. word_entry (word_in (m' table) (index_number q.page))) y ≡ option_and_then (λ table. word_entry (word_in (m table) (index_number q.page))) y
+    by None is = refl
+    by (Some t) is = ap (λ l. word_entry (word_in l (index_number q.page))) (kept t is)
 
 -- where each process has the same entries, so has the whole
 pub same_entries : (D : Directories) (m m' : Frames) → ((q : Slot) → entry_in D m' q ≡ entry_in D m q) → entries_in D m' ≡ entries_in D m

@@ -1,28 +1,18 @@
 -- What a slot, its bytes and its needs are read as.
-use Rattle.std.proofs.Common.{◌≡◌, ℕ, ◌+◌, ◌*◌, ◌<◌, ◌≤◌, Bool, true, false, cond, List, [], ◌∷◌, length, take, drop, refl, ap, sym, ◌∙◌, arith, Option, Some, None, length-drop}
-use Rattle.std.specs.Prelude.{slice_index, slice_get, is_some}
-use Rattle.std.specs.Option.{option_and_then, option_map}
-use Rattle.std.proofs.lemmas.List.{get_or-drop}
-use Rattle.page_words.proofs.OptionLemmas.{is_some-map}
-use Rattle.page_words.specs.Addresses.{slot_number}
-use Rattle.page_words.specs.FiniteMap as map
-use Rattle.page_words.specs.FiniteMap.{same}
-use Rattle.page_words.specs.FiniteSet as set
-use Rattle.phys_memory.specs.Bytes.{frame_bytes, word_at}
+use Rattle.address_space.proofs.Prelude
+use Prelude.{◌≡◌, ℕ, ◌+◌, ◌*◌, ◌<◌, ◌≤◌, Bool, true, false, cond, List, [], ◌∷◌, length, take, drop, refl, ap, sym, ◌∙◌}
+use Prelude.{arith, Option, Some, None, length-drop, slice_index, slice_get, is_some, option_and_then, option_map}
+use Prelude.{get_or-drop, is_some-map, slot_number, frame_bytes, word_at, Role, Page, Frames, entry_at}
+use Prelude.{IsKernelEntry, PageEntry, nat_tests, Slot, need, value_of, bytes_at, at_page, Entries, group_of, cell_of}
+use Prelude.{spaces_of, holders_of, Directories, directory_of, entry_in, entries_in, spaces_in, table_in, IsSound}
+use Prelude.{InUse, Inside}
 use Rattle.phys_memory.proofs.Frames.{byte-frame, length-frame, word_at-frame}
-use Rattle.alloc_table.specs.declared.Role.{Role}
-use Rattle.alloc_table.specs.declared.Role.TheVariants.{Page}
-use Rattle.page_map.specs.Entries.{Frames, entry_at, IsKernelEntry}
-use Rattle.page_map.specs.declared.PageEntry.{PageEntry}
-use Rattle.std.proofs.lemmas.Bool.Decides.{nat_tests}
-use Rattle.address_space.specs.Spaces.{Slot, need, value_of, bytes_at, at_page}
-use Rattle.address_space.specs.Cells.{Entries, group_of, cell_of, spaces_of, holders_of}
-use Rattle.address_space.specs.View.{Directories, directory_of, entry_in, entries_in, spaces_in, table_in}
-use Rattle.address_space.specs.Sound.{IsSound, InUse, Inside}
 use Rattle.address_space.proofs.entries.UserSlots.{in_user_slots}
 use Rattle.address_space.proofs.entries.EntrySteps.{get-entries_in}
 use Rattle.address_space.proofs.costs.CostSteps.{need-one, need-two}
 use Rattle.address_space.proofs.entries.Refinement.{get-spaces_of, group-real}
+use Rattle.page_words.specs.FiniteMap as map
+use Rattle.page_words.specs.FiniteSet as set
 
 -- the cell of a user page is that of its entry
 pub get-spaces_in : (directories : List (Option ℕ)) (bytes : List ℕ) (p page : ℕ) → p < 64 → 0x40000 ≤ page → page < 0xf0000

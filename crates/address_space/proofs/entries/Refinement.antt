@@ -1,19 +1,14 @@
 -- The spaces that a map from slots to page entries represents, given bytes for each frame; its steps are the machine's.
-use Rattle.std.proofs.Common.{◌≡◌, ℕ, inl, inr, Bool, true, false, cond, not, ◌&&◌, ◌||◌, ◌==◌, if◌then◌else◌, List, refl, sym, ap, ◌∙◌, Option, Some, None, is_some, unwrap_or}
-use Rattle.std.specs.Option.{option_map}
+use Rattle.address_space.proofs.Prelude
+use Prelude.{◌≡◌, ℕ, inl, inr, Bool, true, false, cond, not, ◌&&◌, ◌||◌, ◌==◌, if◌then◌else◌, List, refl, sym, ap, ◌∙◌}
+use Prelude.{Option, Some, None, is_some, unwrap_or, option_map, Map, same, Set, Slot, slot_order, Cell, Spaces}
+use Prelude.{write_at, stored, joined, set_bytes, set_holders, store_in, with_bytes, with_holders, without, fresh}
+use Prelude.{cell_or_fresh, same_or_not, get-insert, get-retain_keys, same_map, get-map_values, contains-insert}
+use Prelude.{contains-retain, same_set, nat_eq_equiv, PageEntry, with_frame, Entries, names, nothing, holders_of}
+use Prelude.{group_of, cell_of, spaces_of, eqb-true, eq-eqb, and-false, and-true}
+use Rattle.address_space.specs.Spaces.{join_in, zeros}
 use Rattle.page_words.specs.FiniteMap as map
-use Rattle.page_words.specs.FiniteMap.{Order, Map}
 use Rattle.page_words.specs.FiniteSet as set
-use Rattle.page_words.specs.FiniteSet.{Set}
-use Rattle.address_space.specs.Spaces.{Slot, slot_order, Cell, Spaces, write_at, stored, joined, set_bytes, set_holders, store_in, join_in, with_bytes, with_holders, without, fresh, zeros, cell_or_fresh}
-use Rattle.page_words.specs.FiniteMap.{same}
-use Rattle.page_words.proofs.MapLemmas.{same_or_not, get-insert, get-retain_keys, same_map, get-map_values, contains-insert, contains-retain, same_set}
-use Rattle.std.specs.Cmp.{nat_eq_equiv}
-use Rattle.page_map.specs.declared.PageEntry.{PageEntry}
-use Rattle.phys_memory.specs.Bytes.{with_frame}
-use Rattle.address_space.specs.Cells.{Entries, names, nothing, holders_of, group_of, cell_of, spaces_of}
-use borrow.Author.Tests.{eqb-true, eq-eqb}
-use Rattle.std.proofs.Math.Bool.{and-false, and-true}
 
 contained : (slot : Slot) (x : Option PageEntry) (f : ℕ) → (is_some (option_map (nothing slot) x) && names f x) ≡ names f x
 contained slot None f = refl
@@ -88,6 +83,17 @@ cell_kept d e b c slot entry h = λ i. record { write = entry.write; may = entry
 chosen : (b : Bool) (cell : Cell) (new : List ℕ) → with_bytes cell (if b then new else cell.bytes) ≡ (if b then with_bytes cell new else cell)
 chosen true cell new = refl
 chosen false cell new = refl
+
+-- where the other slots keep their groups, an entry that is put in changes its own cell alone
+spaces_kept : (entries : Entries) (bytes : ℕ → List ℕ) (slot : Slot) (new : PageEntry) (own : Cell) → cell_of (map.insert entries slot new) bytes slot new ≡ own
+    → ((q : Slot) (d : PageEntry) → map.get entries q ≡ Some d → group_of (map.insert entries slot new) q d.frame ≡ group_of entries q d.frame)
+    → spaces_of (map.insert entries slot new) bytes ≡ map.insert (spaces_of entries bytes) slot own
+spaces_kept entries bytes slot new own mine kept =
+    spaces_insert entries bytes slot new (spaces_of entries bytes) own mine (λ q x is. by q x is ∙ sym (get-spaces_of entries bytes q ∙ ap (option_map (cell_of entries bytes q)) is))
+  where
+    by : (q : Slot) (x : Option PageEntry) → map.get entries q ≡ x → option_map (cell_of (map.insert entries slot new) bytes q) x ≡ option_map (cell_of entries bytes q) x
+    by q None is = refl
+    by q (Some d) is = ap Some (cell_kept entries (map.insert entries slot new) bytes bytes q d (kept q d is))
 
 -- storing into the frame of a slot changes its group as the machine says
 pub store_refines : (entries : Entries) (bytes : ℕ → List ℕ) (slot : Slot) (e : PageEntry) (at : ℕ) (new : List ℕ) → map.get entries slot ≡ Some e → (e.frame == 0) ≡ false
@@ -224,13 +230,8 @@ flags_refine entries bytes slot old new found same_frame =
     let entries' : Entries = map.insert entries slot new in
     let kept : (q : Slot) (f : ℕ) → group_of entries' q f ≡ group_of entries q f = λ q f. group-kept entries entries' q f (λ _. same_holders entries' entries f (names-insert_same entries slot old new found same_frame f)) in
     let flagged : Cell → Cell = λ c. record c { write = new.write; may = new.may; accessed = new.accessed; dirty = new.dirty } in
-    let own : cell_of entries' bytes slot new ≡ flagged (cell_of entries bytes slot old) = (λ i. record { write = new.write; may = new.may; accessed = new.accessed; dirty = new.dirty; bytes = bytes (same_frame i); holders = kept slot (same_frame i) i }) in
-    let others : (q : Slot) (x : Option PageEntry) → option_map (cell_of entries' bytes q) x ≡ option_map (cell_of entries bytes q) x = λ q x. elim x as (λ x. option_map (cell_of entries' bytes q) x ≡ option_map (cell_of entries bytes q) x) [
-      | None ↦ refl
-      | Some d ↦ ap Some (cell_kept entries entries' bytes bytes q d (kept q d.frame))
-    ] in
-    spaces_insert entries bytes slot new (spaces_of entries bytes) (flagged (cell_of entries bytes slot old)) own
-    (λ q x is. others q x ∙ sym (get-spaces_of entries bytes q ∙ ap (option_map (cell_of entries bytes q)) is))
+    spaces_kept entries bytes slot new (flagged (cell_of entries bytes slot old))
+    (λ i. record { write = new.write; may = new.may; accessed = new.accessed; dirty = new.dirty; bytes = bytes (same_frame i); holders = kept slot (same_frame i) i }) (λ q d _. kept q d.frame)
     ∙ sym (ap (λ (c : Cell). map.insert (spaces_of entries bytes) slot (flagged c)) (cell_at entries bytes slot old found))
 
 -- ---- A fresh page, and one that gets its frame
@@ -244,33 +245,20 @@ groups-stay : (entries : Entries) (slot : Slot) (new : PageEntry) → ((f : ℕ)
     → (q : Slot) → group_of (map.insert entries slot new) q d.frame ≡ group_of entries q d.frame
 groups-stay entries slot new nowhere d apart q = group-kept entries (map.insert entries slot new) q d.frame (λ real. holders-other entries slot new d.frame (nowhere d.frame real) (apart real))
 
+-- a slot gets an entry in a group of its own, on a frame that nothing names or on frame 0
+pub lone_refines : (entries : Entries) (bytes : ℕ → List ℕ) (slot : Slot) (new : PageEntry) → ((f : ℕ) → (f == 0) ≡ false → names f (map.get entries slot) ≡ false)
+    → group_of (map.insert entries slot new) slot new.frame ≡ set.insert set.empty slot → ((q : Slot) (d : PageEntry) → map.get entries q ≡ Some d → (d.frame == 0) ≡ false → (new.frame == d.frame) ≡ false)
+    → spaces_of (map.insert entries slot new) bytes ≡ map.insert (spaces_of entries bytes) slot (record { write = new.write; may = new.may; accessed = new.accessed; dirty = new.dirty; bytes = bytes new.frame; holders = set.insert set.empty slot })
+lone_refines entries bytes slot new nowhere alone apart =
+    spaces_kept entries bytes slot new (record { write = new.write; may = new.may; accessed = new.accessed; dirty = new.dirty; bytes = bytes new.frame; holders = set.insert set.empty slot })
+    (λ i. record { write = new.write; may = new.may; accessed = new.accessed; dirty = new.dirty; bytes = bytes new.frame; holders = alone i }) (λ q d is. groups-stay entries slot new nowhere d (apart q d is) q)
+
 -- a slot without an entry gets a lazy one: it has a fresh page
 pub lazy_refines : (entries : Entries) (bytes : ℕ → List ℕ) (slot : Slot) (write : Bool) → map.get entries slot ≡ None → bytes 0 ≡ zeros
     → spaces_of (map.insert entries slot (record { frame = 0; write = write; may = true; accessed = false; dirty = false; lazy = true })) bytes ≡ map.insert (spaces_of entries bytes) slot (fresh slot write)
 lazy_refines entries bytes slot write none clean =
-    let new : PageEntry = record { frame = 0; write = write; may = true; accessed = false; dirty = false; lazy = true } in
-    let entries' : Entries = map.insert entries slot new in
-    let others : (q : Slot) (x : Option PageEntry) → option_map (cell_of entries' bytes q) x ≡ option_map (cell_of entries bytes q) x = λ q x. elim x as (λ x. option_map (cell_of entries' bytes q) x ≡ option_map (cell_of entries bytes q) x) [
-      | None ↦ refl
-      | Some d ↦ ap Some (cell_kept entries entries' bytes bytes q d (groups-stay entries slot new (λ f _. ap (names f) none) d (λ real. nat_eq_equiv.symm 0 d.frame ∙ real) q))
-    ] in
-    spaces_insert entries bytes slot new (spaces_of entries bytes) (fresh slot write)
-    (λ i. record { write = write; may = true; accessed = false; dirty = false; bytes = clean i; holders = set.insert set.empty slot })
-    (λ q x is. others q x ∙ sym (get-spaces_of entries bytes q ∙ ap (option_map (cell_of entries bytes q)) is))
-
--- a slot without an entry gets one in a group of its own, on a frame that nothing names or on frame 0
-pub lone_refines : (entries : Entries) (bytes : ℕ → List ℕ) (slot : Slot) (new : PageEntry) → map.get entries slot ≡ None → group_of (map.insert entries slot new) slot new.frame ≡ set.insert set.empty slot
-    → ((q : Slot) (d : PageEntry) → map.get entries q ≡ Some d → (d.frame == 0) ≡ false → (new.frame == d.frame) ≡ false)
-    → spaces_of (map.insert entries slot new) bytes ≡ map.insert (spaces_of entries bytes) slot (record { write = new.write; may = new.may; accessed = new.accessed; dirty = new.dirty; bytes = bytes new.frame; holders = set.insert set.empty slot })
-lone_refines entries bytes slot new none alone apart =
-    let entries' : Entries = map.insert entries slot new in
-    let others : (q : Slot) (x : Option PageEntry) → map.get entries q ≡ x → option_map (cell_of entries' bytes q) x ≡ option_map (cell_of entries bytes q) x = λ q x. elim x as (λ x. map.get entries q ≡ x → option_map (cell_of entries' bytes q) x ≡ option_map (cell_of entries bytes q) x) [
-      | None ↦ λ _. refl
-      | Some d ↦ λ is. ap Some (cell_kept entries entries' bytes bytes q d (groups-stay entries slot new (λ f _. ap (names f) none) d (apart q d is) q))
-    ] in
-    spaces_insert entries bytes slot new (spaces_of entries bytes) (record { write = new.write; may = new.may; accessed = new.accessed; dirty = new.dirty; bytes = bytes new.frame; holders = set.insert set.empty slot })
-    (λ i. record { write = new.write; may = new.may; accessed = new.accessed; dirty = new.dirty; bytes = bytes new.frame; holders = alone i })
-    (λ q x is. others q x is ∙ sym (get-spaces_of entries bytes q ∙ ap (option_map (cell_of entries bytes q)) is))
+    lone_refines entries bytes slot (record { frame = 0; write = write; may = true; accessed = false; dirty = false; lazy = true }) (λ f _. ap (names f) none) refl (λ q d _ real. nat_eq_equiv.symm 0 d.frame ∙ real)
+    ∙ ap (λ x. map.insert (spaces_of entries bytes) slot (record (fresh slot write) { bytes = x })) clean
 
 -- the group of a slot whose entry is on frame 0
 pub alone_lazy : (entries : Entries) (slot : Slot) (f : ℕ) → f ≡ 0 → group_of entries slot f ≡ set.insert set.empty slot
@@ -295,18 +283,10 @@ pub fill_refines : (entries : Entries) (bytes : ℕ → List ℕ) (slot : Slot) 
     → spaces_of (map.insert entries slot (record e { frame = f; lazy = false })) bytes ≡ spaces_of entries bytes
 fill_refines entries bytes slot e f found lazy unused real zero clean =
     let new : PageEntry = record e { frame = f; lazy = false } in
-    let entries' : Entries = map.insert entries slot new in
     let nowhere : (g : ℕ) → (g == 0) ≡ false → names g (map.get entries slot) ≡ false = λ g other. ap (names g) found ∙ ap (λ n. n == g) lazy ∙ nat_eq_equiv.symm 0 g ∙ other in
-    let apart : (q : Slot) (d : PageEntry) → map.get entries q ≡ Some d → (f == d.frame) ≡ false = λ q d is. nat_eq_equiv.symm f d.frame ∙ sym (ap (names f) is) ∙ unused q in
-    let others : (q : Slot) (x : Option PageEntry) → map.get entries q ≡ x → option_map (cell_of entries' bytes q) x ≡ option_map (cell_of entries bytes q) x = λ q x. elim x as (λ x. map.get entries q ≡ x → option_map (cell_of entries' bytes q) x ≡ option_map (cell_of entries bytes q) x) [
-      | None ↦ λ _. refl
-      | Some d ↦ λ is. ap Some (cell_kept entries entries' bytes bytes q d (groups-stay entries slot new nowhere d (λ _. apart q d is) q))
-    ] in
-    let alone : group_of entries' slot f ≡ set.insert set.empty slot = group-real entries' slot f real ∙ holders-insert entries slot new ∙ ap (λ s. set.insert s slot) (same_set (holders_of entries f) set.empty (λ q. contains-holders_of entries f q ∙ unused q)) in
     let before : group_of entries slot e.frame ≡ set.insert set.empty slot = ap (group_of entries slot) lazy in
-    spaces_insert entries bytes slot new (spaces_of entries bytes) (cell_of entries bytes slot e)
-    (λ i. record { write = e.write; may = e.may; accessed = e.accessed; dirty = e.dirty; bytes = (clean ∙ sym (ap bytes lazy ∙ zero)) i; holders = (alone ∙ sym before) i })
-    (λ q x is. others q x is ∙ sym (get-spaces_of entries bytes q ∙ ap (option_map (cell_of entries bytes q)) is))
+    lone_refines entries bytes slot new nowhere (alone_real entries slot new unused real) (λ q d is _. nat_eq_equiv.symm f d.frame ∙ sym (ap (names f) is) ∙ unused q)
+    ∙ ap (map.insert (spaces_of entries bytes) slot) (λ i. record { write = e.write; may = e.may; accessed = e.accessed; dirty = e.dirty; bytes = (clean ∙ sym (ap bytes lazy ∙ zero)) i; holders = sym before i })
     ∙ insert_there (spaces_of entries bytes) slot (cell_of entries bytes slot e) (get-spaces_of entries bytes slot ∙ ap (option_map (cell_of entries bytes slot)) found)
 
 -- ---- Groups

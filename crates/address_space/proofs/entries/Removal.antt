@@ -1,11 +1,7 @@
 -- A map without a key, and the key put back.
-use Rattle.std.proofs.Common.{◌≡◌, true, cond, ap, sym, ◌∙◌, inl, inr, Some, None}
-use Rattle.std.specs.Prelude.{not}
+use Rattle.address_space.proofs.Prelude.{◌≡◌, true, cond, ap, sym, ◌∙◌, inl, inr, Some, None, not, Map, same, Slot}
+use Rattle.address_space.proofs.Prelude.{slot_order, same_itself, same_or_not, same_map, get-insert, get-retain_keys}
 use Rattle.page_words.specs.FiniteMap as map_of
-use Rattle.page_words.specs.FiniteMap.{Map}
-use Rattle.address_space.specs.Spaces.{Slot, slot_order}
-use Rattle.page_words.specs.FiniteMap.{same}
-use Rattle.page_words.proofs.MapLemmas.{same_itself, same_or_not, same_map, get-insert, get-retain_keys}
 
 get-remove : {X : Type 0} (m : Map slot_order X) (k q : Slot) → map_of.get (map_of.remove m k) q ≡ cond (not (same slot_order k q)) (map_of.get m q) None
 get-remove m k q = get-retain_keys m (λ j. not (same slot_order k j)) q

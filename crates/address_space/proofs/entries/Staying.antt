@@ -1,24 +1,14 @@
 -- Entries on the same frame, and in the same table, after a change.
-use Rattle.std.proofs.Common.{◌≡◌, ◌≢◌, ℕ, Bool, true, false, cond, refl, ap, sym, ◌∙◌, inl, inr, Option, Some, None}
-use Rattle.std.specs.Option.{option_map}
-use Rattle.page_words.specs.FiniteMap as map
-use Rattle.page_words.proofs.MapLemmas.{get-insert, same_or_not, same_itself}
-use Rattle.page_map.specs.declared.PageEntry.{PageEntry}
-use Rattle.address_space.specs.Spaces.{Slot, slot_order, at_page, is_slot}
-use Rattle.address_space.specs.Cells.{Entries}
-use Rattle.page_words.specs.Addresses.{slot_number, index_number}
-use Rattle.phys_memory.specs.Bytes.{word_in}
-use Rattle.page_map.specs.Entries.{Frames, word_entry}
-use Rattle.std.specs.List.{list_any}
-use Rattle.std.specs.Option.{option_and_then}
-use Rattle.page_words.specs.FiniteMap.{same}
-use Rattle.address_space.specs.Slots.{user_slots}
-use Rattle.address_space.specs.View.{Directories, table_in, entry_in, entries_in}
+use Rattle.address_space.proofs.Prelude.{none_goes, subst}
+use Rattle.address_space.proofs.Prelude.{◌≡◌, ◌≢◌, ℕ, Bool, true, false, cond, refl, ap, sym, ◌∙◌, inl, inr, Option}
+use Rattle.address_space.proofs.Prelude.{Some, None, option_map, option_and_then, get-insert, same_or_not, same_itself}
+use Rattle.address_space.proofs.Prelude.{PageEntry, Slot, slot_order, at_page, is_slot, Entries, slot_number}
+use Rattle.address_space.proofs.Prelude.{index_number, word_in, Frames, word_entry, list_any, same, user_slots}
+use Rattle.address_space.proofs.Prelude.{Directories, table_in, entry_in, entries_in, ◌&&◌, eq-eqb}
 use Rattle.address_space.specs.Stays.{Gone, of_page, of_lazy, entry_frame, EntriesStay, slot_table, PlacesStay}
 use Rattle.address_space.proofs.entries.EntrySteps.{get-entries_in, entry_by_table}
-use Rattle.std.specs.Prelude.{◌&&◌}
-use borrow.Author.Tests.{eq-eqb}
 use Rattle.address_space.proofs.entries.Removal.{kept_other}
+use Rattle.page_words.specs.FiniteMap as map
 
 pub stay_same : (gone : Gone) (old new : Entries) → new ≡ old → EntriesStay gone old new
 stay_same gone old new is slot f stays names = ap (λ E. entry_frame E slot) is ∙ names
@@ -84,6 +74,15 @@ places_by gone D m D' m' entries tables = record {
   entries = entries;
   tables = λ slot f t stays names is. tables slot.pid (slot_number slot.page) t is;
 }
+
+-- where an entry was put where none was, and where one was put on the frame that it names
+pub places_new : (D : Directories) (m : Frames) (D' : Directories) (m' : Frames) (slot : Slot) (e : PageEntry) → map.get (entries_in D m) slot ≡ None
+    → entries_in D' m' ≡ map.insert (entries_in D m) slot e → ((q r t : ℕ) → table_in D m q r ≡ Some t → table_in D' m' q r ≡ Some t) → PlacesStay none_goes D m D' m'
+places_new D m D' m' slot e none is = places_by none_goes D m D' m' (subst (EntriesStay none_goes (entries_in D m)) (sym is) (stay_new none_goes (entries_in D m) slot e none))
+
+pub places_put : (D : Directories) (m : Frames) (D' : Directories) (m' : Frames) (slot : Slot) (e e' : PageEntry) → map.get (entries_in D m) slot ≡ Some e → e'.frame ≡ e.frame
+    → entries_in D' m' ≡ map.insert (entries_in D m) slot e' → ((q r t : ℕ) → table_in D m q r ≡ Some t → table_in D' m' q r ≡ Some t) → PlacesStay none_goes D m D' m'
+places_put D m D' m' slot e e' there kept is = places_by none_goes D m D' m' (subst (EntriesStay none_goes (entries_in D m)) (sym is) (stay_put none_goes (entries_in D m) slot e e' there kept))
 
 pub places_then : (gone : Gone) (D : Directories) (m : Frames) (D' : Directories) (m' : Frames) (D'' : Directories)
     (m'' : Frames) → PlacesStay gone D m D' m' → PlacesStay gone D' m' D'' m'' → PlacesStay gone D m D'' m''

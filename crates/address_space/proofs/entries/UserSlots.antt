@@ -1,13 +1,8 @@
 -- Every slot of the user range is one of the user slots.
-use Rattle.std.proofs.Common.{◌≡◌, ℕ, zero, suc, ◌+◌, ◌<◌, ◌≤◌, Bool, true, false, ◌||◌, ◌&&◌, List, [], ◌∷◌, ◌++◌, map, refl, sym, ap, ◌∙◌, arith, inl, inr}
-use Rattle.std.specs.Ordering.{nat_cmp}
-use Rattle.std.specs.List.{list_any, range_with_len}
-use Rattle.page_words.specs.FiniteMap.{same, nat_order}
-use Rattle.page_words.proofs.MapLemmas.{same_or_not, same_itself, list_any-map}
-use Rattle.address_space.specs.Spaces.{slot_order, at_page}
-use Rattle.address_space.specs.Slots.{user_slots, slots_below}
-use Rattle.std.proofs.Math.Bool.{or-true}
-use Rattle.std.specs.Cmp.{tied_then}
+use Rattle.address_space.proofs.Prelude.{◌≡◌, ℕ, zero, suc, ◌+◌, ◌<◌, ◌≤◌, Bool, true, false, ◌||◌, ◌&&◌, List, [], ◌∷◌}
+use Rattle.address_space.proofs.Prelude.{◌++◌, map, refl, sym, ap, ◌∙◌, arith, inl, inr, nat_cmp, list_any}
+use Rattle.address_space.proofs.Prelude.{range_with_len, same, nat_order, same_or_not, same_itself, list_any-map}
+use Rattle.address_space.proofs.Prelude.{slot_order, at_page, user_slots, slots_below, or-true, tied_then}
 
 any-append : {A : Type 0} (t : A → Bool) (xs ys : List A) → list_any t (xs ++ ys) ≡ (list_any t xs || list_any t ys)
 any-append t [] ys = refl

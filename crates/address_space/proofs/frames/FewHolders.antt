@@ -1,24 +1,13 @@
 -- A page has fewer holders than a count can say.
-use Rattle.std.proofs.Common.{◌≡◌, ℕ, zero, suc, ◌+◌, ◌*◌, ◌<◌, ◌≤◌, Bool, true, false, cond, List, [], ◌∷◌, length, refl, ap, arith, Option, Some, None}
-use Rattle.std.specs.List.{range_with_len}
+use Rattle.address_space.proofs.Prelude
+use Prelude.{◌≡◌, ℕ, zero, suc, ◌+◌, ◌*◌, ◌<◌, ◌≤◌, Bool, true, false, cond, List, [], ◌∷◌, length, refl, ap, arith}
+use Prelude.{Option, Some, None, length-append, range_with_len, Page, PageEntry, Frames, change_each, collect, put_some}
+use Prelude.{where_key, length-map, Slot, slot_order, at_page, user_slots, slots_below, len-insert, Entries}
+use Prelude.{names, holders_of, nothing, Directories, Roles, entry_in, entries_in, Pages}
+use Rattle.std.proofs.Common.{map as map_list}
 use Rattle.std.proofs.Math.Nat.{add-mul}
-use Rattle.alloc_table.specs.declared.Role.TheVariants.{Page}
-use Rattle.page_map.specs.declared.PageEntry.{PageEntry}
-use Rattle.page_map.specs.Entries.{Frames}
 use Rattle.page_words.specs.FiniteMap as map
-use Rattle.page_words.specs.FiniteMap.{change_each}
 use Rattle.page_words.specs.FiniteSet as set
-use Rattle.std.specs.FinMap.Entries.{where_key}
-use Rattle.std.proofs.Common.{map as map_list, length-append}
-use Rattle.std.proofs.lemmas.List.{length-map}
-use Rattle.address_space.specs.Spaces.{Slot, slot_order, at_page}
-use Rattle.page_words.specs.FiniteMap.{collect, put_some}
-use Rattle.address_space.specs.Slots.{user_slots, slots_below}
-use Rattle.page_words.specs.FiniteMap.{same}
-use Rattle.page_words.proofs.MapLemmas.{len-insert}
-use Rattle.address_space.specs.Cells.{Entries, names, holders_of, nothing}
-use Rattle.address_space.specs.View.{Directories, Roles, entry_in, entries_in}
-use Rattle.address_space.specs.Sound.{Pages}
 
 -- a frame has at most as many holders as there are entries
 few_holders : (E : Entries) (f n : ℕ) → map.len E ≤ n → set.len (holders_of E f) ≤ n

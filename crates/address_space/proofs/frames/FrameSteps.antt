@@ -1,21 +1,15 @@
 -- How tables and entries stay where a page's bytes or its role change, and how a blank table is linked.
-use Rattle.std.proofs.Common.{◌≡◌, ◌≢◌, ℕ, ◌^◌, ◌<◌, ◌≤◌, false, List, length, replicate, refl, ap, sym, ◌∙◌, subst, arith, inl, inr, Option, Some, None}
-use Rattle.std.specs.Prelude.{◌⊎◌, if◌then◌else◌}
-use Rattle.std.specs.Option.{option_and_then}
-use Rattle.std.proofs.lemmas.Bool.{cases_eq}
-use Rattle.std.proofs.lemmas.List.{length-replicate}
-use Rattle.page_words.specs.Addresses.{slot_number, index_number}
-use Rattle.page_words.specs.Words.{IsKernelDirWord, IsKernelTableWord, NamesTable, is_present}
-use Rattle.phys_memory.specs.Bytes.{word_in, with_word_in, with_frame}
-use Rattle.phys_memory.proofs.Frames.{with_frame-same, with_frame-other, word_in_same, word_in_other, length-with_word_in, word_in-zeros}
-use Rattle.alloc_table.specs.declared.Role.{Role}
-use Rattle.alloc_table.specs.declared.Role.TheVariants.{Reserved, Free, Directory, Table}
-use Rattle.page_map.specs.Entries.{Frames, word_table, table_of, word_entry, entry_from, link_word, with_table, without_table}
+use Rattle.address_space.proofs.Prelude
+use Prelude.{◌≡◌, ◌≢◌, ℕ, ◌^◌, ◌<◌, ◌≤◌, false, List, length, replicate, refl, ap, sym, ◌∙◌, subst, arith, inl, inr}
+use Prelude.{Option, Some, None, ◌⊎◌, if◌then◌else◌, option_and_then, cases_eq, length-replicate, slot_number}
+use Prelude.{index_number, IsKernelDirWord, IsKernelTableWord, NamesTable, is_present, word_in, with_word_in}
+use Prelude.{with_frame, with_frame-same, with_frame-other, word_in_same, word_in_other, length-with_word_in, Role}
+use Prelude.{Reserved, Free, Directory, Table, Frames, word_table, table_of, word_entry, entry_from, with_table}
+use Prelude.{without_table, Slot, Directories, Roles, table_in, entry_in, entries_in, Tables, InUseAt}
+use Rattle.phys_memory.proofs.Frames.{word_in-zeros}
+use Rattle.page_map.specs.Entries.{link_word}
 use Rattle.page_map.proofs.WordLaws.{link_word-lt, word_table-link_word, link_word-names}
-use Rattle.address_space.specs.Spaces.{Slot}
-use Rattle.address_space.specs.View.{Directories, Roles, table_in, entry_in, entries_in}
-use Rattle.address_space.specs.Sound.{Tables, InUseAt}
-use Rattle.address_space.proofs.entries.EntrySteps.{Loose, same_entries, entry_by_table}
+use Rattle.address_space.proofs.entries.EntrySteps.{Loose, same_entries, entry_by_table, entry_kept}
 
 -- ---- A frame's bytes
 
@@ -34,16 +28,7 @@ module _ (D : Directories) (m : Frames) (R : Roles) (T : Tables D m R) (f : ℕ)
   loose-table q s t is = with_frame-other m f t new (λ same. loose.no_table q s (sym (ap R same) ∙ T.table q s t is))
 
   pub loose-entry : (q : Slot) → entry_in D (with_frame m f new) q ≡ entry_in D m q
-  loose-entry q =
-      entry_by_table D (with_frame m f new) q
-      ∙ ap (option_and_then (λ table. word_entry (word_in (with_frame m f new table) (index_number q.page)))) (loose-tables q.pid (slot_number q.page))
-      ∙ by (table_in D m q.pid (slot_number q.page)) refl
-      ∙ sym (entry_by_table D m q)
-    where
-      by : (y : Option ℕ) → table_in D m q.pid (slot_number q.page) ≡ y
-          → option_and_then (λ table. word_entry (word_in (with_frame m f new table) (index_number q.page))) y ≡ option_and_then (λ table. word_entry (word_in (m table) (index_number q.page))) y
-      by None is = refl
-      by (Some t) is = ap (λ l. word_entry (word_in l (index_number q.page))) (loose-table q.pid (slot_number q.page) t is)
+  loose-entry q = entry_kept D D m (with_frame m f new) q (loose-tables q.pid (slot_number q.page)) (loose-table q.pid (slot_number q.page))
 
   pub loose-entries : entries_in D (with_frame m f new) ≡ entries_in D m
   loose-entries = same_entries D m (with_frame m f new) loose-entry
@@ -159,24 +144,16 @@ module _ (D : Directories) (m : Frames) (R : Roles) (T : Tables D m R) (p d s t 
       linked-other f (λ same. let k : R f ≡ R d = ap R same in let b = T.directory p d live in cc) (not_t f (Table q r) a (λ e. cc))
 
   pub linked-entry : (q : Slot) → entry_in D (with_table m d s t) q ≡ entry_in D m q
-  linked-entry q =
-      entry_by_table D (with_table m d s t) q
-      ∙ elim (here_or_not p s q.pid (slot_number q.page)) [
-        | inl h ↦
-            ap (option_and_then (λ table. word_entry (word_in (with_table m d s t table) (index_number q.page)))) ((λ i. table_in D (with_table m d s t) (h.0 i) (h.1 i)) ∙ linked-own)
-            ∙ ap (λ l. word_entry (word_in l (index_number q.page))) own_table
-            ∙ ap word_entry (word_in-zeros 4096 (index_number q.page) (omega arith))
-            ∙ sym (ap (option_and_then (λ table. word_entry (word_in (m table) (index_number q.page)))) ((λ i. table_in D m (h.0 i) (h.1 i)) ∙ none_in))
-        | inr n ↦
-            ap (option_and_then (λ table. word_entry (word_in (with_table m d s t table) (index_number q.page)))) (linked-others q.pid (slot_number q.page) n)
-            ∙ by (table_in D m q.pid (slot_number q.page)) refl
-      ]
-      ∙ sym (entry_by_table D m q)
-    where
-      by : (y : Option ℕ) → table_in D m q.pid (slot_number q.page) ≡ y
-          → option_and_then (λ table. word_entry (word_in (with_table m d s t table) (index_number q.page))) y ≡ option_and_then (λ table. word_entry (word_in (m table) (index_number q.page))) y
-      by None is = refl
-      by (Some f) is = ap (λ l. word_entry (word_in l (index_number q.page))) (kept_table q.pid (slot_number q.page) f is)
+  linked-entry q = elim (here_or_not p s q.pid (slot_number q.page)) [
+    | inl h ↦
+        entry_by_table D (with_table m d s t) q
+        ∙ ap (option_and_then (λ table. word_entry (word_in (with_table m d s t table) (index_number q.page)))) ((λ i. table_in D (with_table m d s t) (h.0 i) (h.1 i)) ∙ linked-own)
+        ∙ ap (λ l. word_entry (word_in l (index_number q.page))) own_table
+        ∙ ap word_entry (word_in-zeros 4096 (index_number q.page) (omega arith))
+        ∙ sym (ap (option_and_then (λ table. word_entry (word_in (m table) (index_number q.page)))) ((λ i. table_in D m (h.0 i) (h.1 i)) ∙ none_in))
+        ∙ sym (entry_by_table D m q)
+    | inr n ↦ entry_kept D D m (with_table m d s t) q (linked-others q.pid (slot_number q.page) n) (kept_table q.pid (slot_number q.page))
+  ]
 
   pub linked-entries : entries_in D (with_table m d s t) ≡ entries_in D m
   linked-entries = same_entries D m (with_table m d s t) linked-entry
@@ -335,19 +312,11 @@ module _ (D : Directories) (m : Frames) (R : Roles) (T : Tables D m R) (p d s t 
   }
 
   pub unlinked-entry : ((i : ℕ) → i < 1024 → is_present (word_in (m t) i) ≡ false) → (q : Slot) → entry_in D (without_table m d s) q ≡ entry_in D m q
-  unlinked-entry blank q =
-      entry_by_table D (without_table m d s) q
-      ∙ elim (here_or_not p s q.pid (slot_number q.page)) [
-        | inl h ↦
-            ap (option_and_then (λ table. word_entry (word_in (without_table m d s table) (index_number q.page)))) ((λ i. table_in D (without_table m d s) (h.0 i) (h.1 i)) ∙ unlinked-own)
-            ∙ sym (ap (option_and_then (λ table. word_entry (word_in (m table) (index_number q.page)))) ((λ i. table_in D m (h.0 i) (h.1 i)) ∙ there_in) ∙ ap (λ b. if b then Some (entry_from (word_in (m t) (index_number q.page))) else None) (blank (index_number q.page) (omega arith)))
-        | inr n ↦
-            ap (option_and_then (λ table. word_entry (word_in (without_table m d s table) (index_number q.page)))) (unlinked-others q.pid (slot_number q.page) n)
-            ∙ by (table_in D m q.pid (slot_number q.page)) refl
-      ]
-      ∙ sym (entry_by_table D m q)
-    where
-      by : (y : Option ℕ) → table_in D m q.pid (slot_number q.page) ≡ y
-          → option_and_then (λ table. word_entry (word_in (without_table m d s table) (index_number q.page))) y ≡ option_and_then (λ table. word_entry (word_in (m table) (index_number q.page))) y
-      by None is = refl
-      by (Some f) is = ap (λ l. word_entry (word_in l (index_number q.page))) (unlinked-table q.pid (slot_number q.page) f is)
+  unlinked-entry blank q = elim (here_or_not p s q.pid (slot_number q.page)) [
+    | inl h ↦
+        entry_by_table D (without_table m d s) q
+        ∙ ap (option_and_then (λ table. word_entry (word_in (without_table m d s table) (index_number q.page)))) ((λ i. table_in D (without_table m d s) (h.0 i) (h.1 i)) ∙ unlinked-own)
+        ∙ sym (ap (option_and_then (λ table. word_entry (word_in (m table) (index_number q.page)))) ((λ i. table_in D m (h.0 i) (h.1 i)) ∙ there_in) ∙ ap (λ b. if b then Some (entry_from (word_in (m t) (index_number q.page))) else None) (blank (index_number q.page) (omega arith)))
+        ∙ sym (entry_by_table D m q)
+    | inr n ↦ entry_kept D D m (without_table m d s) q (unlinked-others q.pid (slot_number q.page) n) (unlinked-table q.pid (slot_number q.page))
+  ]

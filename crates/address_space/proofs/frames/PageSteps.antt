@@ -1,22 +1,13 @@
 -- How pages and their counts change with one entry, and what the bytes of pages give.
-use Rattle.std.proofs.Common.{Bool, ◌≡◌, ◌≢◌, ℕ, ◌+◌, true, false, cond, List, refl, ap, sym, ◌∙◌, subst, arith, inl, inr, Option, Some, None}
-use Rattle.std.specs.Prelude.{◌⊎◌}
-use Rattle.std.specs.Option.{option_map}
-use Rattle.std.proofs.lemmas.Bool.{cases_eq}
-use Rattle.alloc_table.specs.declared.Role.TheVariants.{Reserved, Free, Directory, Table, Page}
-use Rattle.page_map.specs.declared.PageEntry.{PageEntry}
-use Rattle.page_words.specs.FiniteMap as map
-use Rattle.page_words.specs.FiniteMap.{Map}
-use Rattle.page_words.specs.FiniteSet as set
-use Rattle.address_space.specs.Spaces.{Slot, slot_order}
-use Rattle.page_words.specs.FiniteMap.{same}
-use Rattle.page_words.proofs.MapLemmas.{same_or_not, same_itself, get-insert, same_map, same_set, len-insert}
-use Rattle.address_space.specs.Cells.{Entries, names, holders_of, group_of, lazy_count, cell_of, spaces_of}
-use Rattle.address_space.specs.View.{Roles}
-use Rattle.address_space.specs.Sound.{Pages, HoldsPage}
+use Rattle.address_space.proofs.Prelude
+use Prelude.{Bool, ◌≡◌, ◌≢◌, ℕ, ◌+◌, true, false, cond, List, refl, ap, sym, ◌∙◌, subst, arith, inl, inr, Option, Some}
+use Prelude.{None, ◌⊎◌, option_map, cases_eq, ne_eqb, Reserved, Free, Directory, Table, Page, PageEntry, same}
+use Prelude.{Slot, slot_order, same_or_not, same_itself, get-insert, same_map, same_set, len-insert, Entries, names}
+use Prelude.{holders_of, group_of, lazy_count, cell_of, spaces_of, Roles, Pages, HoldsPage}
 use Rattle.address_space.proofs.entries.Removal.{put_back, removed, kept_other}
 use Rattle.address_space.proofs.entries.Refinement.{contains-holders_of, same_holders, names-insert_same, holders-insert, holders-other, get-spaces_of, Unused}
-use Rattle.std.proofs.lemmas.Bool.{ne_eqb}
+use Rattle.page_words.specs.FiniteMap as map
+use Rattle.page_words.specs.FiniteSet as set
 
 -- the entry at a slot after one was put in: the new one, or one from before
 inserted : (E : Entries) (slot : Slot) (e : PageEntry) (q : Slot) (d : PageEntry) → map.get (map.insert E slot e) q ≡ Some d → (d ≡ e) ⊎ (map.get E q ≡ Some d)
@@ -103,6 +94,13 @@ pages-fresh E R R' slot e P none free own others =
 pub pages-join : (E : Entries) (R R' : Roles) (slot : Slot) (e : PageEntry) (c : ℕ) → Pages E R → map.get E slot ≡ None → R e.frame ≡ Some (Page c) → R' e.frame ≡ Some (Page (c + 1))
     → ((g : ℕ) → g ≢ e.frame → R' g ≡ R g) → Pages (map.insert E slot e) R'
 pages-join E R R' slot e c P none was own others = pages-more E R R' slot e c P (λ f n _. ap (names f) none) own (P.counts e.frame c was).1 others
+
+-- an entry beside the new one still names a page
+pub kept_holder : (E : Entries) (R : Roles) (slot : Slot) (e : PageEntry) (q : Slot) (x : PageEntry) → Pages (map.insert E slot e) R → map.get E slot ≡ None → map.get E q ≡ Some x → HoldsPage (R x.frame)
+kept_holder E R slot e q x P none found = P.pages q x (get-insert E slot e q ∙ elim (same_or_not slot_order q slot) [
+  | inl h ↦ absurd (let k : None ≡ Some x = sym none ∙ ap (map.get E) (sym h.0) ∙ found in cc)
+  | inr h ↦ ap (λ b. cond b (Some e) (map.get E q)) h ∙ found
+])
 
 -- the role of a frame that was no page and is none
 pub pages-role : (E : Entries) (R R' : Roles) (f : ℕ) → Pages E R → R f ≢ Some Reserved → ((c : ℕ) → R f ≢ Some (Page c)) → ((c : ℕ) → R' f ≢ Some (Page c)) → ((g : ℕ) → g ≢ f → R' g ≡ R g) → Pages E R'

@@ -1,10 +1,6 @@
-use Rattle.std.proofs.Common.{ap, sym, ◌∙◌, subst, replicate, length, None}
-use Rattle.phys_memory.specs.Bytes.{blank_bytes}
-use Rattle.address_space.specs.View.{spaces_in}
-use Rattle.address_space.specs.Sound.{IsSpaces}
+use Rattle.address_space.proofs.Prelude.{ap, sym, ◌∙◌, subst, replicate, length, None, blank_bytes, spaces_in, IsSpaces}
+use Rattle.address_space.proofs.Prelude.{opening_roles, IsCounted}
 use Rattle.address_space.proofs.steps.Openings.{opening_is_sound, opening_spaces, opening_length, opening_cost}
-use Rattle.alloc_table.specs.Roles.{opening_roles}
-use Rattle.address_space.specs.Counts.{IsCounted}
 use Rattle.address_space.proofs.steps.CountSteps.{opening_counted}
 use Rattle.address_space.proofs.opened.Goals as goal
 

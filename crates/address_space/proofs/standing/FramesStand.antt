@@ -1,17 +1,9 @@
 -- Slots whose walk leads to the same frame after a change.
-use Rattle.std.proofs.Common.{◌≡◌, ℕ, false, List, refl, ap, sym, ◌∙◌, Option, Some, None}
-use Rattle.std.specs.Option.{option_map, option_and_then}
-use Rattle.page_words.specs.Words.{frame_number}
-use Rattle.page_words.specs.Addresses.{slot_number}
-use Rattle.phys_memory.specs.Bytes.{frame_bytes}
-use Rattle.alloc_table.specs.declared.Role.{Role}
-use Rattle.page_map.specs.declared.PageEntry.{PageEntry}
-use Rattle.page_map.specs.Entries.{entry_from}
-use Rattle.address_space.specs.Spaces.{Slot, at_page}
-use Rattle.address_space.specs.Image.{Image, directory_at, page_word, image_from}
-use Rattle.address_space.specs.View.{directory_of, entries_in}
-use Rattle.address_space.specs.Sound.{IsSound}
-use Rattle.address_space.specs.Stays.{way_of, Gone, Spares, FramesStay, none_goes, entry_frame, PlacesStay}
+use Rattle.address_space.proofs.Prelude.{◌≡◌, ℕ, false, List, refl, ap, sym, ◌∙◌, Option, Some, None, option_map}
+use Rattle.address_space.proofs.Prelude.{option_and_then, frame_number, slot_number, frame_bytes, Role, PageEntry}
+use Rattle.address_space.proofs.Prelude.{entry_from, Slot, at_page, Image, directory_at, page_word, image_from}
+use Rattle.address_space.proofs.Prelude.{directory_of, entries_in, IsSound}
+use Rattle.address_space.specs.Stays.{LooseStay, way_of, Gone, Spares, FramesStay, none_goes, entry_frame, PlacesStay}
 use Rattle.address_space.proofs.standing.Standing.{read_entry, same_table}
 
 -- the frame of a slot's word is that of its entry
@@ -129,3 +121,16 @@ stays_more fewer stay = record {
 
 pub stays_most : {gone : Gone} {a b : Image} → FramesStay none_goes a b → FramesStay gone a b
 stays_most stay = stays_more (λ q f stays. refl) stay
+
+-- ---- Frames of pages, and free ones
+
+pub loose_same : {a : Image} → LooseStay a a
+loose_same = record { each = λ f loose. (refl, loose) }
+
+pub loose_then : {a b c : Image} → LooseStay a b → LooseStay b c → LooseStay a c
+loose_then one two = record {
+  each = λ f loose.
+      let here = one.each f loose in
+      let there = two.each f here.1 in
+      (there.0 ∙ here.0, there.1);
+}

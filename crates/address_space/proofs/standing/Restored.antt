@@ -1,41 +1,29 @@
 -- The frames of a sound image with today's words agree, as a machine's own do.
-use Rattle.std.proofs.Common.{◌≡◌, ℕ, zero, suc, ◌+◌, ◌*◌, ◌<◌, ◌≤◌, Bool, true, false, cond, List, [], ◌∷◌, length, map as list_map, refl, ap, sym, ◌∙◌, subst, arith, inl, inr, Option, Some, None}
-use Rattle.std.specs.Prelude.{◌⊎◌, ◌↔◌, ◌&&◌, is_some, slice_get, slice_index, nat_lt, nat_le, IsTrue, unwrap_or, if◌then◌else◌}
-use Rattle.std.specs.Option.{option_and_then, option_map}
+use Rattle.address_space.proofs.Prelude
+use Prelude.{◌≡◌, ℕ, zero, suc, ◌+◌, ◌*◌, ◌<◌, ◌≤◌, Bool, true, false, cond, List, [], ◌∷◌, length, refl, ap, sym, ◌∙◌}
+use Prelude.{subst, arith, inl, inr, Option, Some, None, ◌⊎◌, ◌↔◌, ◌&&◌, is_some, slice_get, slice_index, nat_lt}
+use Prelude.{nat_le, IsTrue, unwrap_or, if◌then◌else◌, option_and_then, option_map, cases_lt, nat_tests}
+use Prelude.{slice_get_within, slot_number, index_number, frame_number, is_present, is_lazy, NamesPage, same_set}
+use Prelude.{frame_bytes, word_in, length-frame, byte-frame, Role, Reserved, Free, Directory, Table, Page, PageEntry}
+use Prelude.{Frames, dir_word, word_table, table_of, word_entry, entry_from, count_range-same, Slot, slot_order, Cell}
+use Prelude.{at_page, Entries, holders_of, spaces_of, Image, IsSoundImage, StandsFor, image_from, directory_at, word_of}
+use Prelude.{is_user_slot, named_by, table_at, page_word, page_frame, own_frame, Directories, directory_of, table_in}
+use Prelude.{entry_in, entries_in, spaces_in, IsCounted, pages_by, Tables, HoldsPage, IsSound, InUse, IsSpaces}
+use Rattle.std.proofs.Common.{map as list_map}
 use Rattle.std.specs.List.{All, range_with_len}
-use Rattle.std.proofs.lemmas.Bool.{cases_lt}
 use Rattle.std.proofs.lemmas.List.{get_or_default}
-use Rattle.std.proofs.lemmas.Bool.Decides.{nat_tests}
-use Rattle.std.proofs.lemmas.Option.{slice_get_within}
-use Rattle.page_words.specs.Addresses.{slot_number, index_number}
-use Rattle.page_words.specs.Words.{frame_number, is_present, is_lazy, NamesPage}
-use Rattle.page_words.specs.FiniteMap as map
-use Rattle.page_words.specs.FiniteSet as set
-use Rattle.page_words.specs.FiniteSet.{Set}
-use Rattle.page_words.proofs.MapLemmas.{same_set}
-use Rattle.phys_memory.specs.Bytes.{frame_bytes, word_in}
-use Rattle.phys_memory.proofs.Frames.{length-frame, byte-frame}
-use Rattle.alloc_table.specs.declared.Role.{Role}
-use Rattle.alloc_table.specs.declared.Role.TheVariants.{Reserved, Free, Directory, Table, Page}
-use Rattle.page_map.specs.declared.PageEntry.{PageEntry}
-use Rattle.page_map.specs.Entries.{Frames, dir_word, word_table, table_of, word_entry, entry_from}
-use Rattle.page_map.proofs.PageLemmas.{count_range-same}
-use Rattle.address_space.specs.Spaces.{Slot, slot_order, Cell, at_page}
-use Rattle.address_space.specs.Cells.{Entries, holders_of, spaces_of}
-use Rattle.address_space.specs.Image.{Image, CellStands, IsCount, IsSoundImage, StandsFor, image_from, directory_at, word_of, is_user_slot, named_by, table_at, page_word, page_frame}
-use Rattle.address_space.specs.ImageWords.{own_frame}
-use Rattle.address_space.specs.View.{Directories, directory_of, table_in, entry_in, entries_in, spaces_in}
-use Rattle.address_space.specs.Counts.{IsCounted, pages_by}
+use Rattle.address_space.specs.Image.{CellStands, IsCount}
 use Rattle.address_space.specs.Restored.{HasRoom, words_by, words_where, counted_at}
-use Rattle.address_space.specs.Sound.{Tables, HoldsPage, IsSound, InUse, IsSpaces}
 use Rattle.address_space.proofs.costs.CostSteps.{keys}
 use Rattle.address_space.proofs.costs.Weighed.{weighs}
 use Rattle.address_space.proofs.entries.EntrySteps.{get-entries_in, entry_by_table}
 use Rattle.address_space.proofs.entries.UserSlots.{in_user_slots}
 use Rattle.address_space.proofs.steps.Steps.{live_small}
-use Rattle.address_space.proofs.standing.TablesStand as tables
 use Rattle.address_space.proofs.standing.TablesStand.{past_end, own_is}
 use Rattle.address_space.proofs.standing.Standing.{one_group}
+use Rattle.page_words.specs.FiniteMap as map
+use Rattle.page_words.specs.FiniteSet as set
+use Rattle.address_space.proofs.standing.TablesStand as tables
 
 -- a slot past either end of the user range
 beside : (s : ℕ) → (s < 256) ⊎ (960 ≤ s) → is_user_slot s ≡ false

@@ -1,31 +1,22 @@
 -- Directories, memory and roles that agree represent their spaces, and no others.
-use Rattle.std.proofs.Common.{◌≡◌, ◌≢◌, ℕ, ◌<◌, ◌≤◌, Bool, true, false, List, refl, ap, sym, ◌∙◌, subst, arith, inl, inr, Option, Some, None}
-use Rattle.std.specs.Prelude.{◌↔◌, ◌&&◌, not, is_some, slice_get, IsTrue}
+use Rattle.address_space.proofs.Prelude
+use Prelude.{◌≡◌, ◌≢◌, ℕ, ◌<◌, ◌≤◌, Bool, true, false, List, refl, ap, sym, ◌∙◌, subst, arith, inl, inr, Option, Some}
+use Prelude.{None, ◌↔◌, ◌&&◌, not, is_some, slice_get, IsTrue, option_and_then, option_map, frame_number, is_present}
+use Prelude.{NamesPage, same, same_map, same_set, frame_bytes, word_in, Role, Page, PageEntry, Frames, entry_from}
+use Prelude.{entry_at, is_lazy_entry, Slot, Cell, cell_or_fresh, at_page, Entries, spaces_of, holders_of, Image}
+use Prelude.{table_at, is_lazy_at, takes_stores, page_word, page_frame, IsSoundImage, SlotStands, StandsFor, image_from}
+use Prelude.{own_frame, Directories, directory_of, table_in, entry_in, entries_in, spaces_in, IsSound, IsSpaces}
+use Prelude.{takes_stores_through}
 use Rattle.std.specs.Cmp.{both_ways}
-use Rattle.std.specs.Option.{option_and_then, option_map}
-use Rattle.page_words.specs.Words.{frame_number, is_present, NamesPage}
-use Rattle.page_words.specs.FiniteMap as map
-use Rattle.page_words.specs.FiniteMap.{same}
-use Rattle.page_words.specs.FiniteSet as set
-use Rattle.page_words.proofs.MapLemmas.{same_map, same_set}
-use Rattle.phys_memory.specs.Bytes.{frame_bytes, word_in}
-use Rattle.alloc_table.specs.declared.Role.{Role}
-use Rattle.alloc_table.specs.declared.Role.TheVariants.{Page}
-use Rattle.page_map.specs.declared.PageEntry.{PageEntry}
-use Rattle.page_map.specs.Entries.{Frames, entry_from, entry_at, is_lazy_entry}
-use Rattle.address_space.specs.Spaces.{Slot, Cell, cell_or_fresh, at_page}
-use Rattle.address_space.specs.Cells.{Entries, spaces_of, holders_of}
-use Rattle.address_space.specs.Image.{Image, table_at, is_lazy_at, takes_stores, page_word, page_frame, IsSoundImage, SlotStands, StandsFor, StandsForOne, image_from}
-use Rattle.address_space.specs.ImageWords.{own_frame}
-use Rattle.address_space.specs.View.{Directories, directory_of, table_in, entry_in, entries_in, spaces_in}
-use Rattle.address_space.specs.Sound.{IsSound, IsSpaces}
-use Rattle.address_space.specs.Changes.{takes_stores_through}
+use Rattle.address_space.specs.Image.{StandsForOne}
 use Rattle.address_space.proofs.entries.Readings.{mapped_read}
 use Rattle.address_space.proofs.steps.Steps.{live_small}
 use Rattle.address_space.proofs.steps.Stores.{cell_read}
 use Rattle.address_space.proofs.steps.Openings.{no_cell}
-use Rattle.address_space.proofs.standing.TablesStand as tables
 use Rattle.address_space.proofs.standing.TablesStand.{not_user_slot, owned}
+use Rattle.page_words.specs.FiniteMap as map
+use Rattle.page_words.specs.FiniteSet as set
+use Rattle.address_space.proofs.standing.TablesStand as tables
 
 -- ---- One set of spaces at most
 

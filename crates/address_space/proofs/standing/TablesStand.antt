@@ -1,34 +1,21 @@
 -- Tables and pages as an image names them, where directories and tables agree with the roles.
-use Rattle.std.proofs.Common.{◌≡◌, ℕ, ◌+◌, ◌*◌, ◌<◌, ◌≤◌, Bool, true, false, cond, List, [], ◌∷◌, length, drop, refl, ap, sym, ◌∙◌, subst, arith, inl, inr, Option, Some, None, length-drop}
-use Rattle.std.specs.Prelude.{◌⊎◌, ◌↔◌, ◌&&◌, slice_get, slice_index, nat_lt, nat_le, IsTrue, MatchBool, ◌==◌, ◌||◌, unwrap_or, if◌then◌else◌}
-use Rattle.std.specs.Option.{option_and_then, option_map}
-use Rattle.std.specs.List.{list_any}
-use Rattle.std.proofs.lemmas.Bool.{cases_lt}
-use Rattle.std.proofs.lemmas.Bool.Decides.{nat_tests}
-use Rattle.std.proofs.lemmas.Option.{slice_get_within}
-use Rattle.page_words.specs.Addresses.{slot_number, index_number}
-use Rattle.page_words.specs.Words.{frame_number, is_present, is_lazy, IsKernelTableWord, NamesPage}
-use Rattle.page_words.specs.FiniteMap as map
-use Rattle.page_words.specs.FiniteMap.{same}
-use Rattle.page_words.specs.FiniteSet as set
-use Rattle.page_words.proofs.MapLemmas.{same_or_not, same_itself, contains-insert}
-use Rattle.phys_memory.specs.Bytes.{frame_bytes, word_at, word_in}
-use Rattle.alloc_table.specs.declared.Role.{Role}
-use Rattle.alloc_table.specs.declared.Role.TheVariants.{Directory, Table}
-use Rattle.page_map.specs.declared.PageEntry.{PageEntry}
-use Rattle.page_map.specs.Entries.{Frames, dir_word, word_table, table_of, word_entry, entry_from, is_lazy_entry}
-use Rattle.address_space.specs.Spaces.{Slot, slot_order}
-use Rattle.address_space.specs.Slots.{user_slots}
-use Rattle.address_space.specs.Cells.{Entries, names, group_of, cell_of, spaces_of, holders_of}
-use Rattle.address_space.specs.Image.{Image, word_of, is_user_slot, named_by, table_at, is_lazy_at, IsOneGroup, present_word, page_word, page_frame, SlotStands, image_from}
-use Rattle.address_space.specs.ImageWords.{own_frame}
-use Rattle.address_space.specs.View.{Directories, directory_of, table_in, entry_in, entries_in}
-use Rattle.address_space.specs.Sound.{Tables}
+use Rattle.address_space.proofs.Prelude
+use Prelude.{◌≡◌, ℕ, ◌+◌, ◌*◌, ◌<◌, ◌≤◌, Bool, true, false, cond, List, [], ◌∷◌, length, drop, refl, ap, sym, ◌∙◌}
+use Prelude.{subst, arith, inl, inr, Option, Some, None, length-drop, ◌⊎◌, ◌↔◌, ◌&&◌, slice_get, slice_index, nat_lt}
+use Prelude.{nat_le, IsTrue, MatchBool, ◌==◌, ◌||◌, unwrap_or, if◌then◌else◌, option_and_then, option_map, list_any}
+use Prelude.{cases_lt, nat_tests, slice_get_within, slot_number, index_number, frame_number, is_present, is_lazy}
+use Prelude.{IsKernelTableWord, NamesPage, same, same_or_not, same_itself, contains-insert, frame_bytes, word_at}
+use Prelude.{word_in, Role, Directory, Table, PageEntry, Frames, dir_word, word_table, table_of, word_entry, entry_from}
+use Prelude.{is_lazy_entry, Slot, slot_order, user_slots, Entries, names, group_of, cell_of, spaces_of, holders_of}
+use Prelude.{Image, word_of, is_user_slot, named_by, table_at, is_lazy_at, page_word, page_frame, SlotStands}
+use Prelude.{image_from, own_frame, Directories, directory_of, table_in, entry_in, entries_in, Tables, eqb-true, eq-eqb}
+use Rattle.address_space.specs.Image.{IsOneGroup, present_word}
 use Rattle.address_space.proofs.entries.UserSlots.{in_user_slots}
 use Rattle.address_space.proofs.entries.EntrySteps.{get-entries_in, entry_by_table}
 use Rattle.address_space.proofs.entries.Refinement.{get-spaces_of, contains-holders_of, group-real}
 use Rattle.address_space.proofs.steps.Steps.{live_small}
-use borrow.Author.Tests.{eqb-true, eq-eqb}
+use Rattle.page_words.specs.FiniteMap as map
+use Rattle.page_words.specs.FiniteSet as set
 
 -- past its 1,024 words a frame has none
 pub past_end : (xs : List ℕ) (s : ℕ) → length xs ≡ 4096 → 1024 ≤ s → word_in xs s ≡ 0

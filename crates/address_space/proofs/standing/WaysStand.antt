@@ -1,26 +1,64 @@
 -- Each walk that finds a frame goes the way of its slot.
-use Rattle.std.proofs.Common.{◌≡◌, ◌≤◌, ◌==◌, ℕ, Bool, true, false, List, refl, ap, sym, ◌∙◌, arith, Option, Some, None}
-use Rattle.std.specs.Prelude.{Ok, Result}
-use Rattle.std.specs.Option.{option_map, unwrap_or}
-use Rattle.std.specs.Result.{is_ok}
-use Rattle.std.proofs.lemmas.Bool.{ne_eqb}
-use Rattle.page_words.specs.Words.{frame_number, is_lazy}
-use Rattle.page_words.specs.Addresses.{page_number}
-use Rattle.phys_memory.specs.Bytes.{frame_bytes}
-use Rattle.alloc_table.specs.declared.Role.{Role}
-use Rattle.page_map.specs.declared.PageEntry.{PageEntry}
-use Rattle.table_walk.specs.declared.WalkEnd.{WalkEnd}
-use Rattle.address_space.specs.Spaces.{Slot, slot_at}
-use Rattle.address_space.specs.Image.{page_word, is_lazy_at, image_from}
-use Rattle.address_space.specs.View.{directory_of}
-use Rattle.address_space.specs.Sound.{IsSound}
-use Rattle.address_space.specs.Stays.{WaysAgree}
-use Rattle.address_space.proofs.standing.Standing.{word_names}
+use Rattle.address_space.proofs.Prelude.{◌≡◌, ◌≤◌, ◌==◌, ℕ, Bool, true, false, List, refl, ap, sym, ◌∙◌, arith, Option}
+use Rattle.address_space.proofs.Prelude.{Some, None, Ok, Result, option_map, unwrap_or, is_ok, ne_eqb, frame_number}
+use Rattle.address_space.proofs.Prelude.{is_lazy, page_number, frame_bytes, Role, PageEntry, WalkEnd, Slot, slot_at}
+use Rattle.address_space.proofs.Prelude.{page_word, is_lazy_at, image_from, directory_of, IsSound, WaysAgree, eq-eqb}
+use Rattle.address_space.proofs.Prelude.{not, subst, ◌&&◌, if◌then◌else◌, MatchBool, Err, option_and_then, nat_tests}
+use Rattle.address_space.proofs.Prelude.{Access, Outside, walk_of, is_write, is_outside, not_allowed, entry_at}
+use Rattle.address_space.proofs.Prelude.{lets_writes, is_lazy_entry, end_at_entry, walks_read_entries, cell_of}
+use Rattle.address_space.proofs.Prelude.{entries_in, spaces_in, IsSpaces}
+use Rattle.address_space.proofs.standing.Standing.{word_names, same_entry, read_entry, same_lazy}
 use Rattle.address_space.proofs.standing.FramesStand.{frame_read, way_parts, way_whole}
-use Rattle.address_space.proofs.steps.Steps.{live_small}
+use Rattle.address_space.proofs.steps.Steps.{live_small, page_map_of, holds_inside}
 use Rattle.address_space.proofs.steps.Stores.{get_user}
 use Rattle.address_space.proofs.steps.WalkSteps.{found_entry}
-use borrow.Author.Tests.{eq-eqb}
+use Rattle.address_space.specs.Walks.{FindsBytes, WalkEndsBy, WalksAgree}
+use Rattle.address_space.proofs.entries.Refinement.{get-spaces_of}
+use Rattle.page_words.specs.FiniteMap as map
+
+-- ---- Every walk ends as the spaces say.
+
+module _ (directories : List (Option ℕ)) (bytes : List ℕ) (roles : List Role) (sound : IsSound directories bytes roles) where
+  -- what is mapped at an address is what its entry says
+  cell_of_entry : (p d address : ℕ) → directory_of directories p ≡ Some d
+      → map.get (spaces_in directories bytes) (slot_at p address) ≡ option_map (cell_of (entries_in (directory_of directories) (frame_bytes bytes)) (frame_bytes bytes) (slot_at p address)) (entry_at (frame_bytes bytes) d (page_number address))
+  unfolding spaces_in
+  cell_of_entry p d address live =
+      let m = frame_bytes bytes in
+      let E = entries_in (directory_of directories) m in
+      get-spaces_of E m (slot_at p address)
+      ∙ ap (option_map (cell_of E m (slot_at p address))) (read_entry directories bytes roles sound (slot_at p address) ∙ sym (same_entry directories bytes roles sound (slot_at p address))
+      ∙ ap (option_and_then (λ d. entry_at m d (page_number address))) live)
+
+  entry_found : (p d address : ℕ) (e : PageEntry) → directory_of directories p ≡ Some d → entry_at (frame_bytes bytes) d (page_number address) ≡ Some e
+      → map.get (entries_in (directory_of directories) (frame_bytes bytes)) (slot_at p address) ≡ Some e
+  entry_found p d address e live is =
+      read_entry directories bytes roles sound (slot_at p address) ∙ sym (same_entry directories bytes roles sound (slot_at p address))
+      ∙ ap (option_and_then (λ d. entry_at (frame_bytes bytes) d (page_number address))) live ∙ is
+
+  ends_by : (p d address : ℕ) (access : Access) → directory_of directories p ≡ Some d → (x : Option PageEntry) → entry_at (frame_bytes bytes) d (page_number address) ≡ x
+      → walk_of bytes d address access ≡ end_at_entry bytes address access x
+      → WalkEndsBy bytes d address access (is_lazy_entry x) (option_map (cell_of (entries_in (directory_of directories) (frame_bytes bytes)) (frame_bytes bytes) (slot_at p address)) x)
+  ends_by p d address access live None at walk = walk
+  ends_by p d address access live (Some e) at walk = by (is_write access && not (lets_writes e)) walk
+    where
+      within : is_outside bytes e.frame ≡ false
+      within =
+          let i = (holds_inside directories bytes roles e.frame sound (sound.pages.pages (slot_at p address) e (entry_found p d address e live at))).fits in
+          grind (arith, nat_tests)
+
+      by : (b : Bool) → walk_of bytes d address access ≡ (if b then not_allowed address access else if is_outside bytes e.frame then Err Outside else Ok e.frame)
+          → MatchBool b (walk_of bytes d address access ≡ not_allowed address access) (FindsBytes bytes d address access (cell_of (entries_in (directory_of directories) (frame_bytes bytes)) (frame_bytes bytes) (slot_at p address) e))
+      by true h = h
+      by false h = record { frame = e.frame; found = h ∙ ap (λ b. if b then Err Outside else Ok e.frame) within; same = refl }
+
+pub walks_agree : (directories : List (Option ℕ)) (bytes : List ℕ) (roles : List Role) → IsSpaces directories bytes roles → WalksAgree (image_from directories bytes roles) (spaces_in directories bytes)
+walks_agree directories bytes roles s p d address access live small =
+    subst (λ l. WalkEndsBy bytes d address access l (map.get (spaces_in directories bytes) (slot_at p address)))
+    (ap is_lazy_entry (sym (ap (option_and_then (λ d. entry_at (frame_bytes bytes) d (page_number address))) live)) ∙ sym (same_lazy directories bytes roles s.sound (slot_at p address)))
+    (subst (WalkEndsBy bytes d address access (is_lazy_entry (entry_at (frame_bytes bytes) d (page_number address)))) (sym (cell_of_entry directories bytes roles s.sound p d address live))
+    (ends_by directories bytes roles s.sound p d address access live (entry_at (frame_bytes bytes) d (page_number address)) refl
+    (walks_read_entries bytes d address access (page_map_of directories bytes roles p d s.sound live) small)))
 
 one_frame : (a b : ℕ) → ◌≡◌ {A = Result ℕ WalkEnd} (Ok a) (Ok b) → a ≡ b
 one_frame a b h = cc

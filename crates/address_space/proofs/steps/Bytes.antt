@@ -1,20 +1,18 @@
 -- Accesses byte by byte, and as one where their bytes lie in one page.
-use Rattle.std.proofs.Common.{◌≡◌, ℕ, zero, suc, ◌+◌, ◌*◌, ◌/◌, ◌%◌, ◌<◌, ◌≤◌, Bool, true, false, cond, List, [], ◌∷◌, ◌++◌, map as each, length, take, drop, refl, ap, sym, ◌∙◌, subst, arith, inl, inr, Option, Some, None, unwrap_or, get_or-drop, drop-drop, length-drop, ◌-◌}
-use Rattle.std.specs.Prelude.{slice_index, if◌then◌else◌, ◌⊎◌, IfSome}
-use Rattle.std.specs.List.{range_with_len}
-use Rattle.std.specs.Option.{option_map}
-use Rattle.page_words.specs.Addresses.{page_number, offset_number, byte_count, covered, second_page, EachTouched}
-use Rattle.page_words.specs.declared.addresses.Size.{Size}
-use Rattle.page_words.specs.FiniteMap as map
-use Rattle.page_words.specs.FiniteMap.{same}
-use Rattle.page_words.specs.FiniteSet as set
-use Rattle.std.proofs.lemmas.Bool.{cases_lt}
+use Rattle.address_space.proofs.Prelude
+use Prelude.{◌≡◌, ℕ, zero, suc, ◌+◌, ◌*◌, ◌/◌, ◌%◌, ◌<◌, ◌≤◌, Bool, true, false, cond, List, [], ◌∷◌, ◌++◌, length}
+use Prelude.{take, drop, refl, ap, sym, ◌∙◌, subst, arith, inl, inr, Option, Some, None, unwrap_or, get_or-drop}
+use Prelude.{length-drop, ◌-◌, slice_index, if◌then◌else◌, ◌⊎◌, IfSome, range_with_len, slice_range, option_map}
+use Prelude.{page_number, offset_number, byte_count, covered, second_page, EachTouched, Size, same, cases_lt}
+use Prelude.{same_or_not, same_itself, same_map, get-insert, get-map_values, Slot, slot_order, at_page, slot_at, Cell}
+use Prelude.{Spaces, fresh, cell_or_fresh, set_bytes, with_bytes, stored, store_in, write_at, bytes_at, bytes_of}
+use Prelude.{value_of, byte_at, number_of, all_stored}
+use Rattle.std.proofs.Common.{map as each, drop-drop}
 use Rattle.std.proofs.lemmas.List.{append-nil, drop-take, length-take-le, take-append-drop}
-use Rattle.std.specs.List.{slice_range}
 use Rattle.page_words.specs.declared.addresses.Size.TheVariants.{One, Two, Four}
 use Rattle.page_words.proofs.Accesses.{stays, crosses, some_bytes, page_stays, page_next}
-use Rattle.page_words.proofs.MapLemmas.{same_or_not, same_itself, same_map, get-insert, get-map_values}
-use Rattle.address_space.specs.Spaces.{Slot, slot_order, at_page, slot_at, Cell, Spaces, fresh, cell_or_fresh, set_bytes, with_bytes, stored, store_in, write_at, bytes_at, bytes_of, value_of, byte_at, number_of, all_stored}
+use Rattle.page_words.specs.FiniteMap as map
+use Rattle.page_words.specs.FiniteSet as set
 
 -- ---- The pages of the bytes
 

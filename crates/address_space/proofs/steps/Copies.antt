@@ -1,52 +1,37 @@
 -- What a copy of a page leaves, and then a copy of all pages of a process.
-use Rattle.std.proofs.Common.{◌≡◌, ◌≢◌, ℕ, ◌+◌, ◌*◌, ◌^◌, ◌<◌, ◌≤◌, true, false, cond, List, length, refl, ap, sym, ◌∙◌, subst, arith, inl, inr, Option, Some, None, length-set, unwrap_or}
-use Rattle.std.specs.Prelude.{◌⊎◌, is_some, slice_get, ◌==◌, if◌then◌else◌}
-use Rattle.std.specs.Option.{option_and_then, option_map}
-use Rattle.page_words.specs.Addresses.{slot_number}
-use Rattle.page_words.specs.Words.{frame_number}
-use Rattle.page_words.specs.FiniteMap as map
-use Rattle.page_words.specs.FiniteSet as set
-use Rattle.page_words.specs.FiniteMap.{Map}
-use Rattle.page_words.proofs.MapLemmas.{get-insert, same_itself, same_map}
-use Rattle.page_words.proofs.SetLemmas.{same_apart}
-use Rattle.page_words.proofs.OptionLemmas.{some_value}
-use Rattle.phys_memory.specs.Bytes.{frame_bytes, with_frame, with_frame_bytes}
-use Rattle.phys_memory.proofs.Frames.{with_frame-same, with_frame-other, length-frame, frames-with_frame_bytes}
-use Rattle.alloc_table.specs.declared.Role.{Role}
-use Rattle.alloc_table.specs.declared.Role.TheVariants.{Free, Table, Page}
-use Rattle.alloc_table.specs.Roles.{frames_weight, IsTaken}
-use Rattle.alloc_table.proofs.RoleLemmas.{weight-taken}
-use Rattle.page_map.specs.declared.PageEntry.{PageEntry}
-use Rattle.page_map.specs.Entries.{Frames, dir_word, table_of, entry_at, with_entry, entry_word, is_lazy_entry, IsKernelEntry}
-use Rattle.page_map.proofs.WordLaws.{entry_word-names, entry_word-lt, entry_word-present, word_entry-entry_word}
-use Rattle.address_space.specs.Spaces.{Slot, slot_order, Cell, Spaces, cell_or_fresh, copy_of, copied, copied_at, cost, cost_of, fresh, pages_of, regions_of, at_page}
-use Rattle.address_space.specs.Cells.{Entries, group_of, lazy_count, cell_of, spaces_of}
-use Rattle.address_space.specs.View.{Directories, Roles, directory_of, table_in, entry_in, entries_in, spaces_in, live_cost, total_cost}
-use Rattle.address_space.specs.Sound.{Tables, Pages, IsSound, IsSpaces, InUseAt}
-use Rattle.address_space.specs.Changes.{TableGiven, IsEmptySpace, SlotCopied, PageCopied, CopiedBelow, PagesCopied}
+use Rattle.address_space.proofs.Prelude
+use Rattle.address_space.proofs.Prelude.{names}
+use Prelude.{◌≡◌, ◌≢◌, ℕ, ◌+◌, ◌<◌, ◌≤◌, true, false, cond, List, length, refl, ap, sym, ◌∙◌, subst, arith}
+use Prelude.{inl, inr, Option, Some, None, length-set, unwrap_or, ◌⊎◌, is_some, slice_get, ◌==◌, if◌then◌else◌}
+use Prelude.{option_and_then, option_map, slot_number, IsUserPage, frame_number, Map, get-insert, same_itself, same_map}
+use Prelude.{same_apart, some_value, frame_bytes, with_frame, with_frame_bytes, with_frame-same, with_frame-other}
+use Prelude.{length-frame, frames-with_frame_bytes, Role, Free, Page, IsTaken, weight-taken}
+use Prelude.{PageEntry, Frames, dir_word, table_of, entry_at, with_entry, is_lazy_entry}
+use Prelude.{Slot, slot_order, Cell, Spaces}
+use Prelude.{cell_or_fresh, copy_of, copied, copied_at, cost, cost_of, fresh, pages_of, regions_of, at_page, Entries}
+use Prelude.{group_of, spaces_of, Directories, Roles, directory_of, table_in, entry_in, entries_in}
+use Prelude.{spaces_in, live_cost, total_cost, Tables, IsSound, IsSpaces, InUseAt, TableGiven, IsEmptySpace}
+use Prelude.{SlotCopied, PageCopied, CopiedBelow, PagesCopied, cases_eq, cases_lt, ne_eqb, eq-eqb, nat_eq_equiv}
+use Prelude.{none_goes}
 use Rattle.address_space.proofs.costs.Copied.{get-copied}
 use Rattle.address_space.proofs.costs.Costed.{Room, mapped}
 use Rattle.address_space.proofs.costs.Costs.{same_pages}
-use Rattle.address_space.proofs.costs.CostSteps.{total-entry, total-insert, sum_one}
+use Rattle.address_space.proofs.costs.CostSteps.{total-insert, sum_one}
 use Rattle.address_space.proofs.costs.Sizes.{cost-within}
-use Rattle.address_space.proofs.entries.EntrySteps.{Loose, get-entries_in, entries-insert, tables-entry, tables_kept, use_own, use_kept}
+use Rattle.address_space.proofs.entries.EntrySteps.{Loose, get-entries_in}
 use Rattle.address_space.proofs.entries.Refinement.{get-spaces_of, lone_refines, alone_lazy, alone_real, cell_at}
 use Rattle.address_space.proofs.entries.Readings.{mapped_read}
 use Rattle.address_space.proofs.entries.UserSlots.{in_user_slots}
 use Rattle.address_space.proofs.frames.FrameSteps.{loose-tables, loose-entries, tables-loose, tables-role, use_loose}
-use Rattle.address_space.proofs.frames.PageSteps.{same_bytes, pages-fresh, pages-lazy, lazy-more, lazy-real, no_free, no_table, unused}
-use Rattle.address_space.proofs.steps.Steps.{inside, live_small, none_before, table_by_word, role_own, role_other, free_loose, page_loose, holds_inside, MapStays, map_kept}
+use Rattle.address_space.proofs.frames.PageSteps.{same_bytes, pages-fresh, pages-lazy, lazy-more, lazy-real, no_free, unused}
+use Rattle.address_space.proofs.steps.Steps.{IsReady, entry_added, inside, live_small, none_before, role_own, role_other, free_loose, page_loose, holds_inside, MapStays, map_kept}
 use Rattle.address_space.proofs.steps.Stores.{get_user, entry_rules}
 use Rattle.address_space.proofs.steps.Departures.{no_cell_outside, no_cell_unmapped}
 use Rattle.address_space.proofs.steps.Openings.{empty_cost}
 use Rattle.address_space.proofs.standing.Standing.{same_entry, read_entry}
-use Rattle.std.proofs.lemmas.Bool.{cases_eq, cases_lt}
-use borrow.Author.Tests.{eq-eqb}
-use Rattle.page_words.specs.Addresses.{IsUserPage}
-use Rattle.std.specs.Cmp.{nat_eq_equiv}
-use Rattle.std.proofs.lemmas.Bool.{ne_eqb}
-use Rattle.address_space.specs.Stays.{none_goes}
-use Rattle.address_space.proofs.entries.Staying.{stay_same, stay_then, stay_new, places_by, places_then}
+use Rattle.address_space.proofs.entries.Staying.{stay_same, places_by, places_then}
+use Rattle.page_words.specs.FiniteMap as map
+use Rattle.page_words.specs.FiniteSet as set
 
 -- ---- One page
 
@@ -54,86 +39,41 @@ use Rattle.address_space.proofs.entries.Staying.{stay_same, stay_then, stay_new,
 abbrev pub copied_entry : PageEntry → ℕ → PageEntry
 copied_entry e f = record e { frame = f; accessed = false; dirty = false }
 
--- memory and roles that are ready for a new entry at a slot, on a frame with the bytes of an old one
-pub record IsReady (directories : List (Option ℕ)) (bytes : List ℕ) (roles : List Role) (d page : ℕ) (slot : Slot) (e : PageEntry) (f : ℕ) (one : List ℕ) (roles' : List Role) : Type 0 where
-  pub size : length one ≡ 4096 * length roles'
-  pub length : length roles' ≡ length roles
-  pub small : f < 2 ^ 20
-  pub tables : Tables (directory_of directories) (frame_bytes one) (slice_get roles')
-  pub pages : Pages (map.insert (entries_in (directory_of directories) (frame_bytes bytes)) slot (copied_entry e f)) (slice_get roles')
-  pub entries : entries_in (directory_of directories) (frame_bytes one) ≡ entries_in (directory_of directories) (frame_bytes bytes)
-  pub table : table_of (frame_bytes one) d (slot_number page) ≡ table_of (frame_bytes bytes) d (slot_number page)
-  pub rules : IsKernelEntry (copied_entry e f)
-  pub kept : (q : Slot) (x : PageEntry) → map.get (entries_in (directory_of directories) (frame_bytes bytes)) q ≡ Some x → frame_bytes one x.frame ≡ frame_bytes bytes x.frame
+-- memory and roles that are ready for a new entry at a slot, on a frame of its own with the bytes of an old one
+pub record IsCopyReady (directories : List (Option ℕ)) (bytes : List ℕ) (roles : List Role) (d page : ℕ) (slot : Slot) (e : PageEntry) (f : ℕ) (one : List ℕ) (roles' : List Role) : Type 0 where
+  pub ready : IsReady directories bytes roles d page slot (copied_entry e f) one roles'
   pub copy : frame_bytes one f ≡ frame_bytes bytes e.frame
   pub alone : group_of (map.insert (entries_in (directory_of directories) (frame_bytes bytes)) slot (copied_entry e f)) slot f ≡ set.insert set.empty slot
   pub apart : (q : Slot) (x : PageEntry) → map.get (entries_in (directory_of directories) (frame_bytes bytes)) q ≡ Some x → (x.frame == 0) ≡ false → (f == x.frame) ≡ false
-  pub weight : frames_weight roles' + lazy_count (map.insert (entries_in (directory_of directories) (frame_bytes bytes)) slot (copied_entry e f)) ≡ frames_weight roles + lazy_count (entries_in (directory_of directories) (frame_bytes bytes)) + 1
-  pub used : (q r : ℕ) → InUseAt (directory_of directories) (frame_bytes bytes) q r → InUseAt (directory_of directories) (frame_bytes one) q r
-  pub linked : (q r : ℕ) → table_in (directory_of directories) (frame_bytes one) q r ≡ table_in (directory_of directories) (frame_bytes bytes) q r
 
 -- the entry was put in
 entry_copied : (directories : List (Option ℕ)) (bytes one two : List ℕ) (roles roles' : List Role) (from source p d page t f : ℕ) (e : PageEntry) → IsSound directories bytes roles
     → directory_of directories from ≡ Some source → directory_of directories p ≡ Some d → 0x40000 ≤ page → page < 0xf0000
     → map.get (spaces_in directories bytes) (at_page p page) ≡ None → table_of (frame_bytes bytes) d (slot_number page) ≡ Some t → entry_at (frame_bytes bytes) source page ≡ Some e
-    → IsReady directories bytes roles d page (at_page p page) e f one roles'
+    → IsCopyReady directories bytes roles d page (at_page p page) e f one roles'
     → frame_bytes two ≡ with_entry (frame_bytes one) (frame_number (dir_word (frame_bytes one) d (slot_number page))) page (copied_entry e f) → length two ≡ length one
     → SlotCopied directories from p page bytes roles two roles'
 unfolding spaces_in
 entry_copied directories bytes one two roles roles' from source p d page t f e sound home live low high unmapped there here ready is_two long_two =
-    let few : p < 64 = live_small directories p d sound.pids live in
     let D : Directories = directory_of directories in
     let m : Frames = frame_bytes bytes in
-    let m1 : Frames = frame_bytes one in
+    let m2 : Frames = frame_bytes two in
     let e' : PageEntry = copied_entry e f in
-    let m2 : Frames = with_entry m1 t page e' in
     let slot : Slot = at_page p page in
-    let R : Roles = slice_get roles in
-    let R' : Roles = slice_get roles' in
-    let T : Tables D m R = sound.tables in
-    let Tb : Tables D m1 R' = ready.tables in
-    let E : Entries = entries_in D m in
-    let there_one : table_of m1 d (slot_number page) ≡ Some t = ready.table ∙ there in
-    let role_t : R t ≡ Some (Table p (slot_number page)) = T.table p (slot_number page) t (ap (option_and_then (λ x. table_of m x (slot_number page))) live ∙ there) in
-    let role_t' : R' t ≡ Some (Table p (slot_number page)) = Tb.table p (slot_number page) t (ap (option_and_then (λ x. table_of m1 x (slot_number page))) live ∙ there_one) in
-    let is : frame_bytes two ≡ m2 = is_two ∙ ap (λ g. with_entry m1 g page e') (table_by_word (dir_word m1 d (slot_number page)) t there_one) in
-    let E2 : entries_in D (frame_bytes two) ≡ map.insert E slot e' = ap (entries_in D) is ∙ entries-insert D m1 R' Tb p d page t (entry_word e') live there_one (entry_word-lt e' ready.small) e' (word_entry-entry_word e' ready.small) few low high ∙ ap (λ x. map.insert x slot e') ready.entries in
-    let none : map.get E slot ≡ None = none_before E m slot (map.get E slot) (sym (get-spaces_of E m slot) ∙ unmapped) in
-    let page_kept : (q : Slot) (x : PageEntry) → map.get E q ≡ Some x → m2 x.frame ≡ m x.frame = λ q x found.
-    with_frame-other m1 t x.frame _ (no_table R x.frame t p (slot_number page) (sound.pages.pages q x found) role_t) ∙ ready.kept q x found in
-    let inserted : map.get (map.insert E slot e') slot ≡ Some e' = get-insert E slot e' slot ∙ ap (λ b. cond b (Some e') (map.get E slot)) (same_itself slot_order slot) in
-    let copy : m2 f ≡ m e.frame = with_frame-other m1 t f _ (no_table R' f t p (slot_number page) (ready.pages.pages slot e' inserted) role_t') ∙ ready.copy in
     let given : Slot = at_page from page in
+    let E : Entries = entries_in D m in
+    let none : map.get E slot ≡ None = none_before E m slot (map.get E slot) (sym (get-spaces_of E m slot) ∙ unmapped) in
+    let added = entry_added directories bytes one two roles roles' p d page t e' sound live low high none there ready.ready is_two long_two in
+    let own : map.get (map.insert E slot e') slot ≡ Some e' = get-insert E slot e' slot ∙ ap (λ b. cond b (Some e') (map.get E slot)) (same_itself slot_order slot) in
+    let copy : m2 f ≡ m e.frame = added.held f (ready.ready.pages.pages slot e' own) ∙ ready.copy in
     let found : map.get E given ≡ Some e = get_user D m from source page e home (live_small directories from source sound.pids home) low high here in
-    let cell : Cell = copy_of slot (cell_of E m given e) in
-    let linked : (q r : ℕ) → table_in D (frame_bytes two) q r ≡ table_in D m q r = λ q r.
-    ap (λ x. table_in D x q r) is ∙ tables_kept D m1 R' Tb p d page t (entry_word e') live there_one (entry_word-lt e' ready.small) q r ∙ ready.linked q r in
     record {
-      slot = record {
-        sound = record {
-          size = long_two ∙ ready.size;
-          few = subst (λ n. n ≤ 1048576) (sym ready.length) sound.few;
-          pids = sound.pids;
-          tables = subst (λ x. Tables D x R') (sym is) (tables-entry D m1 R' Tb p d page t (entry_word e') live there_one (entry_word-lt e' ready.small) (inr (entry_word-names e' ready.small ready.rules)));
-          pages = subst (λ x. Pages x R') (sym E2) ready.pages;
-        };
-        cost = (λ i. total_cost directories (spaces_of (E2 i) (frame_bytes two))) ∙ total-entry directories E m (frame_bytes two) slot e' cell d few live none;
-        weight = ap (λ x. frames_weight roles' + lazy_count x) E2 ∙ ready.weight;
-        length = ready.length;
-        own = subst (λ x. InUseAt D x p (slot_number page)) (sym is) (use_own D m1 R' Tb p d page t (entry_word e') live there_one (entry_word-lt e' ready.small) (entry_word-present e'));
-        others = λ q r n use_at. subst (λ x. InUseAt D x q r) (sym is) (use_kept D m1 R' Tb p d page t (entry_word e') live there_one (entry_word-lt e' ready.small) (entry_word-present e') q r (ready.used q r use_at));
-        stay = places_by none_goes D m D (frame_bytes two)
-            (stay_then none_goes E (map.insert E slot e') (entries_in D (frame_bytes two))
-            (stay_new none_goes E slot e' none) (stay_same none_goes (map.insert E slot e')
-            (entries_in D (frame_bytes two)) E2))
-            (λ q r g found. linked q r ∙ found);
-      };
-      spaces =
-          (λ i. spaces_of (E2 i) (is i)) ∙ lone_refines E m2 slot e' none ready.alone ready.apart
-          ∙ (λ i. map.insert (same_bytes E m m2 page_kept i) slot (record { write = e.write; may = e.may; accessed = false; dirty = false; bytes = copy i; holders = set.insert set.empty slot }))
+      slot = added.slot;
+      spaces = (λ i. spaces_of (added.entries i) m2) ∙ lone_refines E m2 slot e' (λ g _. ap (names g) none) ready.alone ready.apart
+          ∙ (λ i. map.insert (same_bytes E m m2 added.kept i) slot (record { write = e.write; may = e.may; accessed = false; dirty = false; bytes = copy i; holders = set.insert set.empty slot }))
           ∙ sym (ap (λ c. map.insert (spaces_of E m) slot (copy_of slot c)) (cell_at E m given e found));
-      entries = (e', E2, sym (ap is_lazy_entry (ap (option_and_then (λ x. entry_at m x page)) home ∙ here)));
-      linked = linked;
+      entries = (e', added.entries, sym (ap is_lazy_entry (ap (option_and_then (λ x. entry_at m x page)) home ∙ here)));
+      linked = added.linked;
     }
 
 -- a lazy page was copied
@@ -154,21 +94,23 @@ lazy_copied directories bytes two roles from source p d page t e sound home live
     let more = lazy-more E slot (copied_entry e e.frame) none zero in
     entry_copied directories bytes bytes two roles roles from source p d page t e.frame e sound home live low high unmapped there here
     (record {
-      size = sound.size;
-      length = refl;
-      small = omega (arith, zero);
-      tables = sound.tables;
-      pages = pages-lazy E (slice_get roles) slot (copied_entry e e.frame) sound.pages none zero sound.tables.zero_role;
-      entries = refl;
-      table = refl;
-      rules = record { frame = rules.frame; zero = rules.zero; clean = λ h. refl; right = rules.right; touched = λ h. cc };
-      kept = λ q x found. refl;
+      ready = record {
+        size = refl;
+        length = refl;
+        small = omega (arith, zero);
+        tables = sound.tables;
+        pages = pages-lazy E (slice_get roles) slot (copied_entry e e.frame) sound.pages none zero sound.tables.zero_role;
+        entries = refl;
+        table = refl;
+        rules = record { frame = rules.frame; zero = rules.zero; clean = λ h. refl; right = rules.right; touched = λ h. cc };
+        kept = λ q x found. refl;
+        weight = omega (arith, more);
+        used = λ q r u. u;
+        linked = λ q r. refl;
+      };
       copy = refl;
       alone = alone_lazy (map.insert E slot (copied_entry e e.frame)) slot e.frame zero;
       apart = λ q x found real. ap (λ n. n == x.frame) zero ∙ nat_eq_equiv.symm 0 x.frame ∙ real;
-      weight = omega (arith, more);
-      used = λ q r u. u;
-      linked = λ q r. refl;
     })
     is_two long_two
 
@@ -207,21 +149,23 @@ real_copied directories bytes one two roles roles' from source p d page t f e so
     let table : table_in D m1 p (slot_number page) ≡ table_in D m p (slot_number page) = loose-tables D m R T f new loose p (slot_number page) in
     entry_copied directories bytes one two roles roles' from source p d page t f e sound home live low high unmapped there here
     (record {
-      size = long_one ∙ sound.size ∙ ap (λ n. 4096 * n) (sym same_length);
-      length = same_length;
-      small = (inside directories bytes roles f Free sound free).small;
-      tables = subst (λ x. Tables D x R') (sym is_one) Tb;
-      pages = pages-fresh E R R' slot e' sound.pages none free own others;
-      entries = ap (entries_in D) is_one ∙ loose-entries D m R T f new loose;
-      table = ap (λ x. table_of x d (slot_number page)) is_one ∙ sym (ap (option_and_then (λ x. table_of m1 x (slot_number page))) live) ∙ table ∙ ap (option_and_then (λ x. table_of m x (slot_number page))) live;
-      rules = record { frame = λ _. up; zero = λ h. cc; clean = λ h. refl; right = rules.right; touched = λ h. cc };
-      kept = λ q x found. (λ i. is_one i x.frame) ∙ with_frame-other m f x.frame new (apart q x found);
+      ready = record {
+        size = long_one;
+        length = same_length;
+        small = (inside directories bytes roles f Free sound free).small;
+        tables = subst (λ x. Tables D x R') (sym is_one) Tb;
+        pages = pages-fresh E R R' slot e' sound.pages none free own others;
+        entries = ap (entries_in D) is_one ∙ loose-entries D m R T f new loose;
+        table = ap (λ x. table_of x d (slot_number page)) is_one ∙ sym (ap (option_and_then (λ x. table_of m1 x (slot_number page))) live) ∙ table ∙ ap (option_and_then (λ x. table_of m x (slot_number page))) live;
+        rules = record { frame = λ _. up; zero = λ h. cc; clean = λ h. refl; right = rules.right; touched = λ h. cc };
+        kept = λ q x found. (λ i. is_one i x.frame) ∙ with_frame-other m f x.frame new (apart q x found);
+        weight = omega (arith, heavier, as_many);
+        used = λ q r u. subst (λ x. InUseAt D x q r) (sym is_one) (use_loose D m R T f new loose q r u);
+        linked = λ q r. ap (λ x. table_in D x q r) is_one ∙ loose-tables D m R T f new loose q r;
+      };
       copy = (λ i. is_one i f) ∙ with_frame-same m f new;
       alone = alone_real E slot e' (unused E R f sound.pages free) (ne_eqb f 0 (λ z. omega (arith, z, up)));
       apart = λ q x found _. ne_eqb f x.frame (λ same. apart q x found (sym same));
-      weight = omega (arith, heavier, as_many);
-      used = λ q r u. subst (λ x. InUseAt D x q r) (sym is_one) (use_loose D m R T f new loose q r u);
-      linked = λ q r. ap (λ x. table_in D x q r) is_one ∙ loose-tables D m R T f new loose q r;
     })
     is_two long_two
   where

@@ -1,37 +1,25 @@
 -- How the counts of the tables' pages change.
-use Rattle.std.proofs.Common.{◌≡◌, ◌≢◌, ℕ, zero, suc, ◌+◌, ◌-◌, ◌*◌, ◌<◌, ◌≤◌, Bool, true, false, cond, List, length, replicate, refl, ap, sym, ◌∙◌, subst, arith, inl, inr, Option, Some, None}
-use Rattle.std.specs.Prelude.{is_some, slice_get, slice_set, nat_lt, if◌then◌else◌}
-use Rattle.std.specs.Option.{option_map, option_and_then}
-use Rattle.std.proofs.lemmas.Bool.{cases_eq}
-use Rattle.std.proofs.lemmas.Option.{slice_get_within}
-use Rattle.page_words.specs.Addresses.{slot_number, IsUserPage}
-use Rattle.page_words.specs.FiniteMap as map
-use Rattle.page_words.proofs.OptionLemmas.{is_some-map}
-use Rattle.phys_memory.specs.Bytes.{frame_bytes}
-use Rattle.alloc_table.specs.declared.Role.{Role}
-use Rattle.alloc_table.specs.declared.Role.TheVariants.{Reserved, Free, Directory, Table, Page}
+use Rattle.address_space.proofs.Prelude
+use Prelude.{◌≡◌, ◌≢◌, ℕ, zero, suc, ◌+◌, ◌-◌, ◌*◌, ◌<◌, ◌≤◌, Bool, true, false, cond, List, length, replicate, refl}
+use Prelude.{ap, sym, ◌∙◌, subst, arith, inl, inr, Option, Some, None, is_some, slice_get, slice_set, nat_lt}
+use Prelude.{if◌then◌else◌, option_map, option_and_then, cases_eq, slice_get_within, slot_number, IsUserPage}
+use Prelude.{is_some-map, frame_bytes, Role, Reserved, Free, Directory, Table, Page, get-set_same, get-set_other}
+use Prelude.{table_of, entry_at, IsCleared, counted, count_range, PageEntry, same, same_or_not, same_itself, Slot}
+use Prelude.{slot_order, Cell, Spaces, without, is_slot, at_page, TableFreed, EntryLeft, cell_of, directory_of}
+use Prelude.{table_in, entries_in, spaces_in, IsSound, region_pages, pages_by, pages_under, IsCounted, AlwaysMapsAlike}
+use Prelude.{KeepsCounts, MapsOneMore}
 use Rattle.alloc_table.specs.Roles.{IsTaken, IsHeld, IsReleased, released, opening_roles}
-use Rattle.alloc_table.proofs.RoleLemmas.{get-set_same, get-set_other}
-use Rattle.page_map.specs.Entries.{table_of, entry_at, IsCleared}
-use Rattle.page_map.specs.Pages.{counted, count_range}
 use Rattle.page_map.proofs.PageLemmas.{count_range-same, count_range-le, count-no_table}
-use Rattle.page_map.specs.declared.PageEntry.{PageEntry}
 use Rattle.page_map.proofs.Counting.{count_some, table_mapped}
 use Rattle.page_map.proofs.MapChanges.{table_there}
-use Rattle.page_words.specs.FiniteMap.{same}
-use Rattle.page_words.proofs.MapLemmas.{same_or_not, same_itself}
-use Rattle.address_space.specs.Spaces.{Slot, slot_order, Cell, Spaces, without, is_slot, at_page}
-use Rattle.address_space.specs.Changes.{TableFreed, EntryLeft}
 use Rattle.address_space.proofs.costs.AccessCosts.{key-insert}
 use Rattle.address_space.proofs.costs.Relief.{is_gone}
 use Rattle.address_space.proofs.costs.Totals.{key-without}
 use Rattle.address_space.proofs.steps.Stores.{named_entry, page_of_name, entry_rules}
-use Rattle.address_space.specs.Cells.{cell_of}
-use Rattle.address_space.specs.View.{directory_of, table_in, entries_in, spaces_in}
-use Rattle.address_space.specs.Sound.{IsSound}
-use Rattle.address_space.specs.Counts.{region_pages, pages_by, pages_under, IsCounted, MapsAlike, AlwaysMapsAlike, KeepsCounts, MapsOneMore}
+use Rattle.address_space.specs.Counts.{MapsAlike}
 use Rattle.address_space.proofs.entries.Readings.{get-spaces_in}
 use Rattle.address_space.proofs.steps.Steps.{role_own, role_other, live_small}
+use Rattle.page_words.specs.FiniteMap as map
 
 -- ---- What is mapped stays, or the roles do
 

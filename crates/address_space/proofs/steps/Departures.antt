@@ -1,28 +1,17 @@
 -- A process whose pages leave their groups, and whose directory then goes.
-use Rattle.std.proofs.Common.{◌≡◌, ◌≢◌, ℕ, ◌+◌, ◌*◌, ◌<◌, ◌≤◌, Bool, true, false, cond, not, ◌&&◌, ◌==◌, List, length, refl, ap, sym, ◌∙◌, subst, arith, inl, inr, Option, Some, None, length-set}
-use Rattle.std.specs.Prelude.{◌⊎◌, is_some, slice_get, slice_set, if◌then◌else◌}
-use Rattle.std.specs.Option.{option_and_then, option_map, unwrap_or}
-use Rattle.std.specs.List.{list_any}
-use Rattle.std.proofs.lemmas.Bool.{cases_eq, cases_lt}
-use Rattle.page_words.specs.Addresses.{slot_number, index_number}
-use Rattle.page_words.specs.FiniteMap as map
-use Rattle.page_words.specs.FiniteMap.{same}
-use Rattle.page_words.specs.FiniteSet as set
-use Rattle.page_words.specs.FiniteSet.{Set}
-use Rattle.page_words.proofs.MapLemmas.{same_or_not, same_itself, same_map, same_set, get-map_values, get-retain_keys, contains-retain, get-collect}
-use Rattle.phys_memory.specs.Bytes.{frame_bytes, word_in}
-use Rattle.alloc_table.specs.declared.Role.{Role}
-use Rattle.alloc_table.specs.declared.Role.TheVariants.{Free, Directory, Table}
-use Rattle.alloc_table.specs.Roles.{frames_weight, weight, IsReleased, released}
-use Rattle.alloc_table.proofs.RoleLemmas.{weight-set, get-set_same, get-set_other}
-use Rattle.page_map.specs.declared.PageEntry.{PageEntry}
-use Rattle.page_map.specs.Entries.{Frames, word_table, word_entry, table_of, entry_at}
-use Rattle.address_space.specs.Spaces.{Slot, slot_order, Cell, Spaces, cost, need, pages_of, regions_of, without, with_holders, is_slot, is_of, at_page}
-use Rattle.address_space.specs.Slots.{user_slots}
-use Rattle.address_space.specs.Cells.{Entries, lazy_count, cell_of, spaces_of}
-use Rattle.address_space.specs.View.{View, Directories, Roles, directory_of, table_in, entry_in, entries_in, spaces_in, live_cost, total_cost}
-use Rattle.address_space.specs.Sound.{Tables, Pages, IsSound, IsSpaces}
-use Rattle.address_space.specs.Changes.{IsEmptySpace, DroppedBelow, DirectoryDropped}
+use Rattle.address_space.proofs.Prelude
+use Prelude.{◌≡◌, ◌≢◌, ℕ, ◌+◌, ◌*◌, ◌<◌, ◌≤◌, Bool, true, false, cond, not, ◌&&◌, ◌==◌, List, length, refl, ap, sym}
+use Prelude.{◌∙◌, subst, arith, inl, inr, Option, Some, None, length-set, ◌⊎◌, is_some, slice_get, slice_set}
+use Prelude.{if◌then◌else◌, option_and_then, option_map, unwrap_or, list_any, cases_eq, cases_lt, slot_number}
+use Prelude.{index_number, same, Set, same_or_not, same_itself, same_map, same_set, get-map_values, get-retain_keys}
+use Prelude.{contains-retain, get-collect, frame_bytes, word_in, Role, Free, Directory, Table, frames_weight, weight}
+use Prelude.{IsReleased, released, weight-set, get-set_same, get-set_other, PageEntry, Frames, word_table, word_entry}
+use Prelude.{table_of, entry_at, Slot, slot_order, Cell, Spaces, cost, need, pages_of, regions_of, without}
+use Prelude.{with_holders, is_slot, at_page, user_slots, Entries, lazy_count, cell_of, spaces_of, View, Directories}
+use Prelude.{Roles, directory_of, table_in, entry_in, entries_in, spaces_in, live_cost, total_cost, Tables, Pages}
+use Prelude.{IsSound, IsSpaces, IsEmptySpace, DroppedBelow, DirectoryDropped, eqb-true, eq-eqb, FramesStay, none_goes}
+use Prelude.{of_page, image_of}
+use Rattle.address_space.specs.Spaces.{is_of}
 use Rattle.address_space.proofs.costs.Costs.{contains-pages_of}
 use Rattle.address_space.proofs.costs.CostSteps.{sum_one}
 use Rattle.address_space.proofs.entries.EntrySteps.{get-entries_in, entry_by_table}
@@ -32,13 +21,13 @@ use Rattle.address_space.proofs.entries.Readings.{need_read}
 use Rattle.address_space.proofs.entries.Refinement.{get-spaces_of, leave_refines}
 use Rattle.address_space.proofs.standing.TablesStand.{past_end}
 use Rattle.address_space.proofs.steps.Steps.{live_small, none_before, role_own, role_other}
-use borrow.Author.Tests.{eqb-true, eq-eqb}
-use Rattle.address_space.specs.Stays.{FramesStay, none_goes, of_page}
-use Rattle.address_space.specs.Image.{image_of}
+use Rattle.address_space.specs.Stays.{LooseStay}
 use Rattle.address_space.specs.declared.Spaces.TheInside.{Inside as Inner}
 use Rattle.address_space.proofs.Insides.{AreCountedInside, spaces_at, view_of}
-use Rattle.address_space.proofs.standing.FramesStand.{stays_same, stays_then, stays_more}
+use Rattle.address_space.proofs.standing.FramesStand.{loose_same, loose_then, stays_same, stays_then, stays_more}
 use Rattle.address_space.proofs.entries.Staying.{stay_same, places_by}
+use Rattle.page_words.specs.FiniteMap as map
+use Rattle.page_words.specs.FiniteSet as set
 
 -- ---- Slots that leave
 
@@ -165,6 +154,7 @@ dropped_at_first inner p before = record {
   directories = refl;
   spaces = refl;
   stay = stays_same;
+  loose = loose_same;
   below = λ page l. no_cell_outside inner.directories inner.memory inner.frames p page before.spaces.sound (inl l);
   length = refl;
   low = omega arith;
@@ -180,6 +170,7 @@ dropped_past v inner p d from beyond so_far live up high none =
       directories = so_far.directories;
       spaces = so_far.spaces;
       stay = so_far.stay;
+      loose = so_far.loose;
       below = λ page l. elim (cases_lt page from) [
         | inl below ↦ so_far.below page below
         | inr above ↦ no_cell_unmapped inner.directories inner.memory p d page live (none page above l)
@@ -191,14 +182,15 @@ dropped_past v inner p d from beyond so_far live up high none =
 
 -- and one page more
 pub dropped_next : (v one two : View) (p page : ℕ) → DroppedBelow v p page one → page < 0xf0000
-    → two.spaces ≡ without one.spaces (is_slot p page) → FramesStay (of_page p page) (image_of one) (image_of two) → two.directories ≡ one.directories → length two.roles ≡ length one.roles
+    → two.spaces ≡ without one.spaces (is_slot p page) → FramesStay (of_page p page) (image_of one) (image_of two) → LooseStay (image_of one) (image_of two) → two.directories ≡ one.directories → length two.roles ≡ length one.roles
     → DroppedBelow v p (page + 1) two
-dropped_next v one two p page so_far high spaces stay directories long =
+dropped_next v one two p page so_far high spaces stay loose directories long =
     let low = so_far.low in
     record {
       directories = directories ∙ so_far.directories;
       spaces = ap (λ x. without x (is_of p)) spaces ∙ without-without one.spaces (is_slot p page) (is_of p) (slot_of_process p page) ∙ so_far.spaces;
       stay = stays_then so_far.stay (stays_more (λ q f stays. slot_of_process p page q stays) stay);
+      loose = loose_then so_far.loose loose;
       below = λ other l. ap (λ x. map.get x (at_page p other)) spaces ∙ get-without one.spaces (is_slot p page) (at_page p other) ∙ elim (cases_eq other page) [
         | inl same_page ↦ ap (λ b. cond (not b) (option_map (left (is_slot p page)) (map.get one.spaces (at_page p other))) None) (ap (λ n. same slot_order (at_page p page) (at_page p n)) same_page ∙ same_itself slot_order (at_page p page))
         | inr differ ↦ nothing_if (not (is_slot p page (at_page p other))) (left (is_slot p page)) (map.get one.spaces (at_page p other)) (so_far.below other (omega (arith, l, differ)))

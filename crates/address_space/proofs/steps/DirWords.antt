@@ -1,31 +1,20 @@
 -- Accessed of a directory word says nothing of the spaces.
-use Rattle.std.proofs.Common.{◌≡◌, ◌≢◌, ℕ, ◌^◌, ◌<◌, Bool, true, false, List, length, refl, ap, sym, ◌∙◌, subst, arith, inl, inr, Option, Some, None}
-use Rattle.std.specs.Prelude.{slice_get, if◌then◌else◌}
-use Rattle.std.specs.Option.{option_and_then}
-use Rattle.std.proofs.lemmas.Bool.{cases_eq, cases_lt}
-use Rattle.page_words.specs.Addresses.{slot_number, index_number}
+use Rattle.address_space.proofs.Prelude
+use Prelude.{◌≡◌, ◌≢◌, ℕ, ◌^◌, ◌<◌, Bool, true, false, List, length, refl, ap, sym, ◌∙◌, subst, arith, inl, inr, Option}
+use Prelude.{Some, None, slice_get, if◌then◌else◌, option_and_then, cases_eq, cases_lt, slot_number}
+use Prelude.{frame_bytes, word_at, word_place, with_word, word_in, with_word_in, with_frame, with_frame-same}
+use Prelude.{with_frame-other, word_in_same, word_in_other, length-with_word_in, frames-with_word, word_in-frame, Role}
+use Prelude.{Reserved, Free, Directory, Table, Page, PageEntry, Frames, word_table, table_of, with_flag_lt}
+use Prelude.{walked_word, with_walked, Slot, holders_of, spaces_of, Directories, Roles, directory_of, table_in}
+use Prelude.{entry_in, entries_in, spaces_in, total_cost, Tables, Pages, IsSound, InUse, Touched, none_goes}
 use Rattle.page_words.specs.Words.{with_flag, frame_number, is_present, IsKernelDirWord, IsKernelTableWord, NamesTable}
 use Rattle.page_words.proofs.Flags.{flag-with_flag_other, frame-with_flag}
-use Rattle.phys_memory.specs.Bytes.{frame_bytes, word_at, word_place, with_word, word_in, with_word_in, with_frame}
-use Rattle.phys_memory.proofs.Frames.{with_frame-same, with_frame-other, word_in_same, word_in_other, length-with_word_in, frames-with_word, word_in-frame}
-use Rattle.alloc_table.specs.declared.Role.{Role}
-use Rattle.alloc_table.specs.declared.Role.TheVariants.{Reserved, Free, Directory, Table, Page}
-use Rattle.page_words.specs.FiniteMap as map
-use Rattle.page_map.specs.declared.PageEntry.{PageEntry}
-use Rattle.page_map.specs.Entries.{Frames, word_table, table_of, word_entry}
-use Rattle.page_map.proofs.WordLaws.{with_flag_lt}
-use Rattle.address_space.specs.ByWalk.{walked_word, with_walked}
-use Rattle.address_space.specs.Spaces.{Slot}
-use Rattle.address_space.specs.Cells.{holders_of, spaces_of}
-use Rattle.address_space.specs.View.{Directories, Roles, directory_of, table_in, entry_in, entries_in, spaces_in, total_cost}
-use Rattle.address_space.specs.Sound.{Tables, Pages, IsSound, InUse}
-use Rattle.address_space.specs.Changes.{Touched}
-use Rattle.address_space.proofs.entries.EntrySteps.{same_entries, entry_by_table}
+use Rattle.address_space.proofs.entries.EntrySteps.{same_entries, entry_kept}
 use Rattle.address_space.proofs.frames.PageSteps.{same_bytes, no_directory}
 use Rattle.address_space.proofs.standing.TablesStand.{past_end}
-use Rattle.address_space.proofs.steps.Steps.{inside}
-use Rattle.address_space.specs.Stays.{none_goes}
+use Rattle.address_space.proofs.steps.Steps.{inside, sound_by}
 use Rattle.address_space.proofs.entries.Staying.{stay_same, places_by}
+use Rattle.page_words.specs.FiniteMap as map
 
 -- a directory word that names the same table, and is one of the kernel's where the first is
 pub record Alike (w w' : ℕ) : Type 0 where
@@ -124,16 +113,7 @@ module _ (D : Directories) (m m' : Frames) (R : Roles) (T : Tables D m R) (A : D
   dirs-table q s t is = role_kept t (Table q s) (T.table q s t is) (λ p. λ e. cc)
 
   pub dirs-entry : (q : Slot) → entry_in D m' q ≡ entry_in D m q
-  dirs-entry q =
-      entry_by_table D m' q
-      ∙ ap (option_and_then (λ table. word_entry (word_in (m' table) (index_number q.page)))) (dirs-tables q.pid (slot_number q.page))
-      ∙ by (table_in D m q.pid (slot_number q.page)) refl
-      ∙ sym (entry_by_table D m q)
-    where
-      by : (y : Option ℕ) → table_in D m q.pid (slot_number q.page) ≡ y
-          → option_and_then (λ table. word_entry (word_in (m' table) (index_number q.page))) y ≡ option_and_then (λ table. word_entry (word_in (m table) (index_number q.page))) y
-      by None is = refl
-      by (Some t) is = ap (λ l. word_entry (word_in l (index_number q.page))) (dirs-table q.pid (slot_number q.page) t is)
+  dirs-entry q = entry_kept D D m m' q (dirs-tables q.pid (slot_number q.page)) (dirs-table q.pid (slot_number q.page))
 
   pub dirs-entries : entries_in D m' ≡ entries_in D m
   dirs-entries = same_entries D m m' dirs-entry
@@ -182,13 +162,7 @@ dirs_touched directories bytes bytes' roles sound alike long =
     let E : entries_in D m' ≡ entries_in D m = dirs-entries D m m' R T alike in
     let S : spaces_of (entries_in D m') m' ≡ spaces_of (entries_in D m) m = ap (λ x. spaces_of x m') E ∙ same_bytes (entries_in D m) m m' (λ q e is. dirs-page D m m' R T alike q e sound.pages is) in
     record {
-      sound = record {
-        size = long ∙ sound.size;
-        few = sound.few;
-        pids = sound.pids;
-        tables = tables-dirs D m m' R T alike;
-        pages = subst (λ x. Pages x R) (sym E) sound.pages;
-      };
+      sound = sound_by directories bytes bytes' roles roles m' (entries_in D m) sound long refl refl (tables-dirs D m m' R T alike) E sound.pages;
       spaces = S;
       cost = ap (total_cost directories) S;
       in_use = use_dirs D m m' R T alike;

@@ -1,32 +1,19 @@
 -- What walks that find a frame for each page of an access find at each of its bytes.
-use Rattle.std.proofs.Common.{◌≡◌, ℕ, zero, suc, ◌+◌, ◌^◌, ◌<◌, true, false, List, ◌∷◌, map as each, refl, ap, sym, ◌∙◌, subst, arith, Option, Some, None}
-use Rattle.std.specs.Prelude.{◌&&◌, is_some, nat_lt, IfSome, IsOk, slice_index}
-use Rattle.std.specs.Option.{option_map, option_and_then, unwrap_or}
-use Rattle.std.specs.List.{range_with_len}
-use Rattle.std.specs.Result.{is_ok}
-use Rattle.std.proofs.lemmas.Bool.{and_parts}
-use Rattle.std.proofs.lemmas.Bool.Decides.{nat_tests}
-use Rattle.page_words.specs.Addresses.{IsUserPage, page_number, start_number, byte_count, covered, second_page, EachTouched}
-use Rattle.page_words.specs.declared.addresses.Size.{Size}
-use Rattle.page_words.proofs.Accesses.{some_bytes}
-use Rattle.page_words.specs.FiniteMap as map
-use Rattle.phys_memory.specs.Bytes.{frame_bytes}
-use Rattle.alloc_table.specs.declared.Role.{Role}
-use Rattle.table_walk.specs.declared.Access.{Access}
-use Rattle.table_walk.specs.declared.Access.TheVariants.{Read, Write}
-use Rattle.table_walk.specs.Walk.{walk_of}
+use Rattle.address_space.proofs.Prelude
+use Prelude.{◌≡◌, ℕ, zero, suc, ◌+◌, ◌^◌, ◌<◌, true, false, List, ◌∷◌, refl, ap, sym, ◌∙◌, subst, arith, Option, Some}
+use Prelude.{None, ◌&&◌, is_some, nat_lt, IfSome, IsOk, slice_index, option_map, option_and_then, unwrap_or}
+use Prelude.{range_with_len, is_ok, and_parts, nat_tests, IsUserPage, page_number, start_number, byte_count, covered}
+use Prelude.{second_page, EachTouched, Size, some_bytes, frame_bytes, Role, Access, Read, Write, walk_of, Image}
+use Prelude.{directory_at, takes_stores, image_from, Spaces, at_page, byte_at, number_of, value_of, slot_at}
+use Prelude.{directory_of, spaces_in, IsSound, takes_stores_through, entry_at}
+use Rattle.std.proofs.Common.{map as each}
 use Rattle.address_space.specs.ByWalk.{finds_at, finds, byte_place, number_found}
-use Rattle.address_space.specs.Image.{Image, directory_at, takes_stores, image_from}
-use Rattle.address_space.specs.Spaces.{Spaces, at_page, byte_at, number_of, value_of, slot_at}
-use Rattle.address_space.specs.View.{directory_of, spaces_in}
-use Rattle.address_space.specs.Sound.{IsSound}
-use Rattle.address_space.specs.Changes.{takes_stores_through}
 use Rattle.address_space.proofs.entries.Readings.{mapped_read}
 use Rattle.address_space.proofs.standing.Standing.{stores_read}
-use Rattle.page_map.specs.Entries.{entry_at}
 use Rattle.address_space.proofs.steps.Steps.{live_small}
 use Rattle.address_space.proofs.steps.Bytes.{each_byte}
 use Rattle.address_space.proofs.steps.WalkSteps.{found_entry, page_found, found_byte}
+use Rattle.page_words.specs.FiniteMap as map
 
 -- ---- By the test
 

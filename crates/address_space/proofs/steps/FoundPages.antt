@@ -1,27 +1,17 @@
 -- A page that was found: what is known of it, and what an access through it leaves.
-use Rattle.std.proofs.Common.{◌≡◌, ℕ, ◌+◌, ◌^◌, ◌<◌, ◌≤◌, Bool, true, false, List, length, refl, ap, sym, ◌∙◌, subst, arith, inl, inr, Option, Some, None}
-use Rattle.std.specs.Prelude.{is_some, slice_get, replicate}
-use Rattle.std.specs.Option.{option_and_then, option_map}
-use Rattle.page_words.specs.Addresses.{slot_number, index_number, byte_count, IsUserPage}
-use Rattle.page_words.specs.declared.addresses.Size.{Size}
-use Rattle.page_words.specs.FiniteMap as map
-use Rattle.phys_memory.specs.Bytes.{frame_bytes, word_in, with_word_in}
-use Rattle.phys_memory.proofs.Frames.{with_frame-same, word_in_same, length-frame}
-use Rattle.page_map.specs.declared.PageEntry.{PageEntry}
-use Rattle.page_map.specs.Entries.{Frames, dir_word, table_of, word_entry, entry_at, with_entry, entry_word, is_lazy_entry, IsKernelEntry}
-use Rattle.page_map.proofs.WordLaws.{entry_word-lt, word_entry-entry_word}
+use Rattle.address_space.proofs.Prelude
+use Prelude.{◌≡◌, ℕ, ◌+◌, ◌^◌, ◌<◌, ◌≤◌, Bool, true, false, List, length, refl, ap, sym, ◌∙◌, subst, arith, inl, inr}
+use Prelude.{Option, Some, None, is_some, slice_get, replicate, option_and_then, option_map, slot_number, index_number}
+use Prelude.{byte_count, IsUserPage, Size, frame_bytes, word_in, with_word_in, with_frame-same, word_in_same}
+use Prelude.{length-frame, PageEntry, Frames, dir_word, table_of, word_entry, entry_at, with_entry, entry_word}
+use Prelude.{is_lazy_entry, IsKernelEntry, entry_word-lt, word_entry-entry_word, Found, need, Slot, Spaces, Cell}
+use Prelude.{cell_or_fresh, bytes_of, stored, accessed, protected, at_page, FramesStay, none_goes, of_lazy, cell_of}
+use Prelude.{Directories, directory_of, entry_in, entries_in, spaces_in, PageFilled, EntryPut, Touched}
+use Prelude.{takes_stores_through, is_lazy_at, takes_stores, image_from, AreCountedSpaces, IsSound, Names, IsPageBelow}
+use Prelude.{free_frames, Free, Page, Table, shown, Role, length-replicate}
 use Rattle.address_space.proofs.entries.EntrySteps.{tables_kept}
-use Rattle.address_space.specs.declared.place.Found.{Found}
 use Rattle.address_space.specs.declared.Spaces.TheInside.{Inside as Inner}
-use Rattle.address_space.specs.Spaces.{need, Slot, Spaces, Cell, cell_or_fresh, bytes_of, stored, accessed, protected, at_page}
-use Rattle.address_space.specs.Stays.{FramesStay, none_goes, of_lazy}
 use Rattle.address_space.proofs.standing.FramesStand.{frames_stay}
-use Rattle.address_space.specs.Cells.{cell_of}
-use Rattle.address_space.specs.View.{Directories, directory_of, entry_in, entries_in, spaces_in}
-use Rattle.address_space.specs.Changes.{PageFilled, EntryPut, Touched, takes_stores_through}
-use Rattle.address_space.specs.Image.{is_lazy_at, takes_stores, image_from}
-use Rattle.address_space.specs.Counts.{AreCountedSpaces}
-use Rattle.address_space.specs.Sound.{IsSound, Names}
 use Rattle.address_space.proofs.costs.AccessCosts.{kept, key-stored}
 use Rattle.address_space.proofs.standing.Standing.{stores_read, lazy_read, same_lazy, lazy_kept, real_kept}
 use Rattle.address_space.proofs.steps.Touches.{kept_touched}
@@ -30,17 +20,13 @@ use Rattle.address_space.proofs.Insides.{AreCountedInside, spaces_at, image_at, 
 use Rattle.address_space.proofs.entries.Readings.{mapped_read, get-spaces_in, group_counted}
 use Rattle.address_space.proofs.frames.FewHolders.{count_few}
 use Rattle.address_space.proofs.costs.CostSteps.{need-one, need-two}
-use Rattle.alloc_table.specs.Roles.{IsPageBelow, free_frames}
-use Rattle.alloc_table.specs.declared.Role.TheVariants.{Free, Page, Table}
-use Rattle.address_space.specs.Shown.{shown}
 use Rattle.address_space.specs.declared.Cell.{Cell as Shown}
 use Rattle.address_space.proofs.steps.Openings.{no_cell}
 use Rattle.address_space.proofs.steps.Steps.{page_map_of, live_small, table_by_word, map_kept, zeroed, inside, free_loose}
 use Rattle.address_space.proofs.steps.LazyFilling.{page_filled, room_to_fill}
 use Rattle.address_space.proofs.steps.CountSteps.{counts_kept, alike_taken}
-use Rattle.alloc_table.specs.declared.Role.{Role}
-use Rattle.std.proofs.lemmas.List.{length-replicate}
 use Rattle.address_space.proofs.steps.Stores.{frame_written, length-write_at, named_entry, page_of_name, named_inside, entry_rules, cell_read, flags_set, marks_cleared, flagged_load, flagged_right, stored_place, page_stored, written_long}
+use Rattle.page_words.specs.FiniteMap as map
 
 -- what was found is the entry of the page's slot
 pub found_entry : (D : Directories) (m : Frames) (p page : ℕ) → option_map (λ (f : Found). f.entry) (found_in D m p page) ≡ entry_in D m (at_page p page)

@@ -1,19 +1,10 @@
 -- A page whose entry goes: its frame, the count of its table, and the table, which goes with its last page.
-use Rattle.std.proofs.Common.{◌≡◌, ℕ, ◌-◌, ◌*◌, ◌<◌, ◌≤◌, true, false, List, length, refl, ap, sym, ◌∙◌, subst, Option, Some}
-use Rattle.std.specs.Prelude.{is_some, slice_get, slice_set}
-use Rattle.page_words.specs.Addresses.{slot_number, IsUserPage}
-use Rattle.phys_memory.specs.Bytes.{frame_bytes}
-use Rattle.alloc_table.specs.declared.Role.{Role}
-use Rattle.alloc_table.specs.declared.Role.TheVariants.{Page}
-use Rattle.alloc_table.specs.Roles.{IsInUse}
-use Rattle.alloc_table.proofs.RoleLemmas.{get-set_same}
-use Rattle.page_map.specs.Entries.{table_of, entry_at, IsCleared}
-use Rattle.page_map.specs.Pages.{count_range}
-use Rattle.address_space.specs.declared.place.Found.{Found}
+use Rattle.address_space.proofs.Prelude.{◌≡◌, ℕ, ◌-◌, ◌*◌, ◌<◌, ◌≤◌, true, false, List, length, refl, ap, sym, ◌∙◌}
+use Rattle.address_space.proofs.Prelude.{subst, Option, Some, is_some, slice_get, slice_set, slot_number, IsUserPage}
+use Rattle.address_space.proofs.Prelude.{frame_bytes, Role, Page, IsInUse, get-set_same, table_of, entry_at, IsCleared}
+use Rattle.address_space.proofs.Prelude.{count_range, Found, directory_of, spaces_in, IsCounted, AreCountedSpaces}
+use Rattle.address_space.proofs.Prelude.{EntryLeft, TableFreed, SlotRemoved}
 use Rattle.address_space.specs.declared.Spaces.TheInside.{Inside as Inner}
-use Rattle.address_space.specs.View.{directory_of, spaces_in}
-use Rattle.address_space.specs.Counts.{IsCounted, AreCountedSpaces}
-use Rattle.address_space.specs.Changes.{EntryLeft, TableFreed, SlotRemoved}
 use Rattle.address_space.proofs.Insides.{AreCountedInside, found_at}
 use Rattle.address_space.proofs.steps.CountSteps.{one_less, counted_roles, alike_left, counted_freed, table_freed, count_there, count_positive, count_by_entries, page_uncounted}
 use Rattle.address_space.proofs.steps.FoundPages.{found_known, found_there, found_below}

@@ -1,26 +1,15 @@
 -- What a lazy page that got a frame of its own leaves.
-use Rattle.std.proofs.Common.{◌≡◌, ◌≢◌, ℕ, ◌+◌, ◌*◌, ◌^◌, ◌<◌, ◌≤◌, true, false, List, length, replicate, refl, ap, sym, ◌∙◌, subst, arith, inr, Option, Some, None, length-set}
-use Rattle.std.specs.Prelude.{slice_get}
-use Rattle.std.specs.Option.{option_and_then}
-use Rattle.std.proofs.lemmas.List.{length-replicate}
-use Rattle.page_words.specs.Addresses.{slot_number}
-use Rattle.page_words.specs.Words.{frame_number}
-use Rattle.page_words.specs.FiniteMap as map
-use Rattle.page_words.specs.FiniteSet as set
-use Rattle.phys_memory.specs.Bytes.{frame_bytes, with_frame}
-use Rattle.phys_memory.proofs.Frames.{with_frame-same, with_frame-other}
-use Rattle.alloc_table.specs.declared.Role.{Role}
-use Rattle.alloc_table.specs.declared.Role.TheVariants.{Reserved, Free, Table, Page}
-use Rattle.alloc_table.specs.Roles.{free_frames, frames_weight, IsTaken}
-use Rattle.alloc_table.proofs.RoleLemmas.{weight-taken}
-use Rattle.page_map.specs.declared.PageEntry.{PageEntry}
-use Rattle.page_map.specs.Entries.{Frames, dir_word, table_of, entry_at, with_entry, entry_word, IsKernelEntry}
-use Rattle.page_map.proofs.WordLaws.{entry_word-names, entry_word-lt, entry_word-present, word_entry-entry_word}
-use Rattle.address_space.specs.Spaces.{Slot, at_page}
-use Rattle.address_space.specs.Cells.{Entries, names, lazy_count, spaces_of, holders_of}
-use Rattle.address_space.specs.View.{Directories, Roles, directory_of, table_in, entry_in, entries_in, spaces_in, total_cost}
-use Rattle.address_space.specs.Sound.{Tables, Pages, IsSpaces, InUseAt}
-use Rattle.address_space.specs.Changes.{PageFilled}
+use Rattle.address_space.proofs.Prelude
+use Rattle.address_space.proofs.Prelude.{EntriesStay}
+use Rattle.address_space.proofs.steps.Steps.{sound_by}
+use Prelude.{◌≡◌, ◌≢◌, ℕ, ◌+◌, ◌^◌, ◌<◌, ◌≤◌, true, false, List, length, replicate, refl, ap, sym, ◌∙◌, subst}
+use Prelude.{arith, inr, Option, Some, None, length-set, slice_get, option_and_then, length-replicate, slot_number}
+use Prelude.{frame_number, frame_bytes, with_frame, with_frame-same, with_frame-other, Role, Reserved, Free, Table}
+use Prelude.{Page, free_frames, frames_weight, IsTaken, weight-taken, PageEntry, Frames, dir_word, table_of, entry_at}
+use Prelude.{with_entry, entry_word, IsKernelEntry, entry_word-names, entry_word-lt, entry_word-present}
+use Prelude.{word_entry-entry_word, Slot, at_page, Entries, names, lazy_count, spaces_of, holders_of, Directories}
+use Prelude.{Roles, directory_of, table_in, entry_in, entries_in, spaces_in, total_cost, Tables, Pages, IsSpaces}
+use Prelude.{InUseAt, PageFilled, ne_eqb, of_lazy}
 use Rattle.address_space.proofs.costs.Costed.{free_where_light}
 use Rattle.address_space.proofs.entries.EntrySteps.{entries-insert, entry_own, entry_other, tables-entry, tables_kept, use_kept}
 use Rattle.address_space.proofs.frames.FrameSteps.{tables-role}
@@ -28,9 +17,9 @@ use Rattle.address_space.proofs.frames.PageSteps.{same_bytes, pages-more, unused
 use Rattle.address_space.proofs.entries.Refinement.{fill_refines}
 use Rattle.address_space.proofs.steps.Steps.{inside, live_small, table_by_word, role_own, role_other, free_loose, page_loose}
 use Rattle.address_space.proofs.steps.Stores.{found, get_user, entry_rules, frame_written}
-use Rattle.std.proofs.lemmas.Bool.{ne_eqb}
-use Rattle.address_space.proofs.entries.Staying.{stay_same, stay_then, stay_filled, places_by}
-use Rattle.address_space.specs.Stays.{of_lazy}
+use Rattle.address_space.proofs.entries.Staying.{stay_filled, places_by}
+use Rattle.page_words.specs.FiniteMap as map
+use Rattle.page_words.specs.FiniteSet as set
 
 -- a lazy page leaves room for its frame
 pub room_to_fill : (directories : List (Option ℕ)) (bytes : List ℕ) (roles : List Role) (p d page : ℕ) (e : PageEntry) → IsSpaces directories bytes roles → directory_of directories p ≡ Some d
@@ -102,13 +91,8 @@ page_filled directories bytes one two roles roles' p d page f e s live low high 
     let within = s.within in
     record {
       after = record {
-        sound = record {
-          size = long_two ∙ long_one ∙ sound.size ∙ ap (λ n. 4096 * n) (sym same_length);
-          few = subst (λ n. n ≤ 1048576) (sym same_length) sound.few;
-          pids = sound.pids;
-          tables = subst (λ x. Tables D x R') (sym is) (tables-entry D m1 R' Tb p d page t (entry_word e') live here.there (entry_word-lt e' small) (inr (entry_word-names e' small rules')));
-          pages = subst (λ x. Pages x R') (sym E2) P2;
-        };
+        sound = sound_by directories bytes two roles roles' _ _ sound (long_two ∙ long_one) same_length is
+            (tables-entry D m1 R' Tb p d page t (entry_word e') live here.there (entry_word-lt e' small) (inr (entry_word-names e' small rules'))) E2 P2;
         in_use = λ q r. subst (λ x. InUseAt D x q r) (sym is) (use_kept D m1 R' Tb p d page t (entry_word e') live here.there (entry_word-lt e' small) (entry_word-present e') q r (w.in_use s.in_use q r));
         weighs = omega (arith, weighs, weight, less, total);
         within = omega (arith, within, total, same_length);
@@ -116,11 +100,7 @@ page_filled directories bytes one two roles roles' p d page f e s live low high 
       spaces = spaces;
       real = (e', ap (λ x. entry_in D x slot) is ∙ entry_own D m1 R' Tb p d page t (entry_word e') live here.there (entry_word-lt e' small) ∙ word_entry-entry_word e' small, refl);
       fewer = λ q was. ap (λ x. set.contains (holders_of x 0) q) E2 ∙ lazy-fewer E slot e' (λ z. omega (arith, z, up)) q was;
-      stay = places_by (of_lazy p page) D m D (frame_bytes two)
-          (stay_then (of_lazy p page) E (map.insert E slot e') (entries_in D (frame_bytes two))
-          (stay_filled E p page e e' there zero) (stay_same (of_lazy p page) (map.insert E slot e')
-          (entries_in D (frame_bytes two)) E2))
-          (λ q r g found. tables q r ∙ found);
+      stay = places_by (of_lazy p page) D m D (frame_bytes two) (subst (EntriesStay (of_lazy p page) E) (sym E2) (stay_filled E p page e e' there zero)) (λ q r g found. tables q r ∙ found);
       tables = tables;
       others = λ q n. ap (λ x. entry_in D x q) is ∙ entry_other D m1 R' Tb p d page t (entry_word e') live here.there (entry_word-lt e' small) q n ∙ kept q.pid q.page (w.entry q.pid) (D q.pid) refl;
       length = same_length;

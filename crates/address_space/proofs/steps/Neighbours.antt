@@ -1,23 +1,11 @@
 -- The places of a process's other pages, after an access through one.
-use Rattle.std.proofs.Common.{◌≡◌, ◌≢◌, ◌+◌, ◌<◌, ◌≤◌, ◌^◌, ℕ, true, false, List, length, refl, ap, sym, ◌∙◌, inl, inr, Option, Some, None, arith}
-use Rattle.std.specs.Prelude.{slice_get}
-use Rattle.std.specs.Option.{option_map, option_and_then}
-use Rattle.page_words.specs.Addresses.{slot_number, index_number, IsUserPage}
-use Rattle.phys_memory.specs.Bytes.{frame_bytes, word_in}
-use Rattle.phys_memory.proofs.Frames.{length-frame}
-use Rattle.alloc_table.specs.declared.Role.{Role}
-use Rattle.page_map.specs.declared.PageEntry.{PageEntry}
-use Rattle.page_map.specs.Entries.{Frames, table_of, entry_at, word_entry, entry_word, with_entry}
-use Rattle.page_map.proofs.WordLaws.{entry_word-lt}
+use Rattle.address_space.proofs.Prelude
+use Prelude.{◌≡◌, ◌≢◌, ◌+◌, ◌<◌, ◌≤◌, ◌^◌, ℕ, true, false, List, length, refl, ap, sym, ◌∙◌, inl, inr, Option, Some}
+use Prelude.{None, arith, slice_get, option_map, option_and_then, slot_number, index_number, IsUserPage, frame_bytes}
+use Prelude.{word_in, length-frame, Role, PageEntry, Frames, table_of, entry_at, word_entry, entry_word, with_entry}
+use Prelude.{entry_word-lt, Found, Place, Slot, at_page, write_at, Directories, directory_of, table_in, entry_in}
+use Prelude.{PageFilled, EntryIs, BytesStored, place_by, place_there, place_in, IsSound}
 use Rattle.address_space.specs.declared.Spaces.TheInside.{Inside as Inner}
-use Rattle.address_space.specs.declared.place.Found.{Found}
-use Rattle.address_space.specs.declared.place.Place.{Place}
-use Rattle.address_space.specs.Spaces.{Slot, at_page, write_at}
-use Rattle.address_space.specs.View.{Directories, directory_of, table_in, entry_in}
-use Rattle.address_space.specs.Changes.{PageFilled}
-use Rattle.address_space.specs.Finds.{EntryIs, BytesStored}
-use Rattle.address_space.specs.Places.{place_by, place_there, place_in}
-use Rattle.address_space.specs.Sound.{IsSound}
 use Rattle.address_space.proofs.Insides.{AreCountedInside, found_at}
 use Rattle.address_space.proofs.entries.EntrySteps.{entry_by_table, tables_kept, entry_other}
 use Rattle.address_space.proofs.steps.FoundPages.{found_known, found_lies}

@@ -1,32 +1,17 @@
 -- A machine without any space, and a process that gets an empty one.
-use Rattle.std.proofs.Common.{◌≡◌, ◌≢◌, ℕ, zero, suc, ◌+◌, ◌*◌, ◌<◌, ◌≤◌, Bool, true, false, cond, List, length, replicate, refl, ap, sym, ◌∙◌, subst, arith, inl, inr, Option, Some, None, length-set, get_or, drop}
-use Rattle.std.specs.Prelude.{◌⊎◌, is_some, slice_get, slice_set, if◌then◌else◌, sum_by}
-use Rattle.std.specs.Option.{option_and_then, option_map, unwrap_or}
-use Rattle.std.specs.List.{list_any, range_with_len}
-use Rattle.std.proofs.lemmas.Bool.{cases_eq}
-use Rattle.std.proofs.lemmas.List.{length-replicate, get_or-drop}
-use Rattle.std.proofs.lemmas.List.Sums.{sum_by-cons}
-use Rattle.std.proofs.lemmas.Option.{slice_get_within}
-use Rattle.page_words.specs.Words.{is_present}
-use Rattle.page_words.specs.FiniteMap as map
-use Rattle.page_words.specs.FiniteMap.{collect, same}
-use Rattle.page_words.specs.FiniteSet as set
-use Rattle.page_words.specs.Addresses.{slot_number, index_number}
-use Rattle.page_words.proofs.MapLemmas.{same_map, same_set, get-collect}
-use Rattle.phys_memory.specs.Bytes.{frame_bytes, blank_bytes, word_at, word_in, with_frame}
-use Rattle.phys_memory.proofs.Frames.{with_frame-same, with_frame-other}
-use Rattle.alloc_table.specs.declared.Role.{Role}
-use Rattle.alloc_table.specs.declared.Role.TheVariants.{Reserved, Free, Directory, Table, Page}
-use Rattle.alloc_table.specs.Roles.{frames_weight, weight, IsTaken, opening_roles, free_frames}
-use Rattle.alloc_table.proofs.RoleLemmas.{weight-taken, get-set_same, get-set_other}
-use Rattle.page_map.specs.declared.PageEntry.{PageEntry}
-use Rattle.page_map.specs.Entries.{Frames, dir_word, word_table, word_entry, table_of, entry_at}
-use Rattle.address_space.specs.Spaces.{Slot, slot_order, Spaces, cost, cost_of, pages_of, at_page}
-use Rattle.address_space.specs.Slots.{user_slots}
-use Rattle.address_space.specs.Cells.{Entries, lazy_count, spaces_of, cell_of}
-use Rattle.address_space.specs.View.{Directories, Roles, directory_of, table_in, entry_in, entries_in, spaces_in, live_cost, total_cost}
-use Rattle.address_space.specs.Sound.{Tables, Pages, IsSpaces}
-use Rattle.address_space.specs.Changes.{SpaceAdded}
+use Rattle.address_space.proofs.Prelude
+use Prelude.{◌≡◌, ◌≢◌, ℕ, zero, suc, ◌+◌, ◌*◌, ◌<◌, ◌≤◌, Bool, true, false, cond, List, length, replicate, refl, ap}
+use Prelude.{sym, ◌∙◌, subst, arith, inl, inr, Option, Some, None, length-set, drop, ◌⊎◌, is_some, slice_get, slice_set}
+use Prelude.{if◌then◌else◌, sum_by, option_and_then, option_map, unwrap_or, list_any, range_with_len, cases_eq}
+use Prelude.{length-replicate, get_or-drop, sum_by-cons, slice_get_within, is_present, same, slot_number}
+use Prelude.{index_number, same_map, same_set, get-collect, frame_bytes, blank_bytes, word_at, word_in, with_frame}
+use Prelude.{Role, Reserved, Free, Directory, Table, Page, frames_weight, weight, IsTaken, opening_roles, free_frames}
+use Prelude.{weight-taken, get-set_same, get-set_other, PageEntry, Frames, dir_word, word_table, word_entry, table_of}
+use Prelude.{entry_at, Slot, slot_order, Spaces, cost, cost_of, pages_of, at_page, user_slots, Entries, lazy_count}
+use Prelude.{spaces_of, cell_of, Directories, Roles, directory_of, table_in, entry_in, entries_in, spaces_in, live_cost}
+use Prelude.{total_cost, Tables, Pages, IsSpaces, SpaceAdded, none_goes}
+use Rattle.std.proofs.Common.{get_or}
+use Rattle.phys_memory.proofs.Frames.{with_frame-same, with_frame-other, frame-blank}
 use Rattle.address_space.proofs.costs.Costs.{contains-pages_of}
 use Rattle.address_space.proofs.costs.CostSteps.{sum_one}
 use Rattle.address_space.proofs.costs.Costed.{free_where_light}
@@ -35,9 +20,9 @@ use Rattle.address_space.proofs.frames.FrameSteps.{loose-tables, loose-table, lo
 use Rattle.address_space.proofs.frames.PageSteps.{pages-role, same_bytes, no_free}
 use Rattle.address_space.proofs.entries.Refinement.{get-spaces_of}
 use Rattle.address_space.proofs.steps.Steps.{free_loose, live_small, role_own, role_other}
-use Rattle.phys_memory.proofs.Frames.{frame-blank}
-use Rattle.address_space.specs.Stays.{none_goes}
 use Rattle.address_space.proofs.entries.Staying.{stay_same, places_by}
+use Rattle.page_words.specs.FiniteMap as map
+use Rattle.page_words.specs.FiniteSet as set
 
 zero_byte : (n k : ℕ) → ◌≡◌ {A = ℕ} (get_or (replicate n 0) k 0) 0
 zero_byte zero k = refl

@@ -1,22 +1,16 @@
 -- What the place of a page says.
-use Rattle.std.proofs.Common.{◌≡◌, ℕ, List, refl, ap, sym, ◌∙◌, Option, Some, None}
-use Rattle.std.specs.Prelude.{is_some}
-use Rattle.std.specs.Option.{option_and_then, option_map}
-use Rattle.page_words.specs.Addresses.{slot_number, index_number, IsUserPage}
-use Rattle.page_words.specs.FiniteMap as map
-use Rattle.phys_memory.specs.Bytes.{frame_bytes, word_in}
-use Rattle.page_map.specs.Entries.{Frames, table_of, word_entry}
-use Rattle.page_map.specs.declared.PageEntry.{PageEntry}
+use Rattle.address_space.proofs.Prelude.{◌≡◌, ℕ, List, refl, ap, sym, ◌∙◌, Option, Some, None, is_some, option_and_then}
+use Rattle.address_space.proofs.Prelude.{option_map, slot_number, index_number, IsUserPage, frame_bytes, word_in}
+use Rattle.address_space.proofs.Prelude.{Frames, table_of, word_entry, PageEntry, Found, takes_stores_through, need}
+use Rattle.address_space.proofs.Prelude.{at_page, directory_of, table_in, place_there, place_by, place_in, found_of}
+use Rattle.address_space.proofs.Prelude.{table_of_place, need_of, PlacesTell}
 use Rattle.address_space.specs.declared.Spaces.TheInside.{Inside as Inner}
-use Rattle.address_space.specs.declared.place.Found.{Found}
 use Rattle.address_space.specs.declared.place.Place.TheVariants.{Mapped}
-use Rattle.address_space.specs.Changes.{takes_stores_through}
-use Rattle.address_space.specs.Spaces.{need, at_page}
-use Rattle.address_space.specs.View.{directory_of, table_in}
 use Rattle.address_space.specs.Finds.{found_by, found_in, entry_found}
-use Rattle.address_space.specs.Places.{place_there, place_by, place_in, found_of, table_of_place, need_of, entry_flags, cell_flags, PlacesTell}
+use Rattle.address_space.specs.Places.{entry_flags, cell_flags}
 use Rattle.address_space.proofs.Insides.{AreCountedInside, spaces_at, image_at, table_at, found_at}
 use Rattle.address_space.proofs.steps.FoundPages.{absent_cell, need_without, need_with, found_mapped, found_takes, found_lazy, found_get}
+use Rattle.page_words.specs.FiniteMap as map
 
 there_found : (t : ℕ) (x : Option Found) → found_of (place_there t x) ≡ x
 there_found t None = refl

@@ -1,28 +1,20 @@
 -- A copy of a process's pages goes from region to region, and through each by its table.
-use Rattle.std.proofs.Common.{◌≡◌, ℕ, suc, ◌+◌, ◌-◌, ◌*◌, ◌<◌, ◌≤◌, Bool, true, false, List, length, refl, ap, sym, ◌∙◌, subst, arith, Option, Some, None}
-use Rattle.std.specs.Prelude.{is_some, slice_get, IfSome, if◌then◌else◌}
-use Rattle.std.specs.Option.{option_and_then}
-use Rattle.page_words.specs.Addresses.{slot_number, index_number, IsUserPage}
-use Rattle.page_words.specs.Words.{is_present}
-use Rattle.page_words.specs.FiniteMap as map
-use Rattle.phys_memory.specs.Bytes.{frame_bytes, word_in}
-use Rattle.alloc_table.specs.declared.Role.{Role}
-use Rattle.page_map.specs.declared.PageEntry.{PageEntry}
+use Rattle.address_space.proofs.Prelude
+use Prelude.{◌≡◌, ℕ, suc, ◌+◌, ◌-◌, ◌*◌, ◌<◌, ◌≤◌, Bool, true, false, List, length, refl, ap, sym, ◌∙◌, subst, arith}
+use Prelude.{Option, Some, None, is_some, slice_get, IfSome, if◌then◌else◌, option_and_then, slot_number, index_number}
+use Prelude.{IsUserPage, is_present, frame_bytes, word_in, Role, PageEntry, Frames, table_of, entry_at, entry_from}
+use Prelude.{word_entry, counted, count_range, count_range-none, count_range-same, Slot, cost, at_page, cell_or_fresh}
+use Prelude.{copy_of, directory_of, spaces_in, total_cost, IsSound, IsSpaces, IsCounted, IsEmptySpace, PageCopied}
+use Prelude.{CopiedBelow, CopyIn, PagesCopied, words_left}
 use Rattle.page_map.specs.declared.regions.Listed.{Listed}
-use Rattle.page_map.specs.Entries.{Frames, table_of, entry_at, entry_from, word_entry}
-use Rattle.page_map.specs.Pages.{counted, count_range}
-use Rattle.page_map.proofs.PageLemmas.{count_range-add, count_range-none, count_range-same, count-table, mapped_in_table}
+use Rattle.page_map.proofs.PageLemmas.{count_range-add, count-table, mapped_in_table}
 use Rattle.page_map.proofs.Counting.{count_none}
-use Rattle.address_space.specs.Spaces.{Slot, cost, at_page, cell_or_fresh, copy_of}
-use Rattle.address_space.specs.View.{directory_of, spaces_in, total_cost}
-use Rattle.address_space.specs.Sound.{IsSound, IsSpaces}
-use Rattle.address_space.specs.Counts.{IsCounted}
-use Rattle.address_space.specs.Changes.{IsEmptySpace, PageCopied, CopiedBelow, CopyIn, PagesCopied, words_left}
 use Rattle.address_space.proofs.costs.Costed.{Room}
 use Rattle.address_space.proofs.entries.Readings.{mapped_read}
 use Rattle.address_space.proofs.steps.Steps.{live_small}
 use Rattle.address_space.proofs.steps.CountSteps.{count_there, count_by_entries}
 use Rattle.address_space.proofs.steps.Copies.{copied_past, copied_next, copied_at_last, room_for_copy, put_other}
+use Rattle.page_words.specs.FiniteMap as map
 
 -- ---- The words of a table that are left
 

@@ -1,18 +1,13 @@
 -- The pages of a process leave from region to region, and those of a region by its table.
-use Rattle.std.proofs.Common.{◌≡◌, ◌≢◌, ◌⊎◌, ℕ, ◌+◌, ◌-◌, ◌*◌, ◌<◌, ◌≤◌, false, List, length, refl, ap, sym, ◌∙◌, subst, arith, inl, inr, Option, Some, None}
-use Rattle.std.specs.Option.{option_and_then, option_map}
-use Rattle.page_words.specs.Addresses.{slot_number, index_number}
-use Rattle.page_words.specs.Words.{is_present, frame_number}
-use Rattle.phys_memory.specs.Bytes.{frame_bytes, word_in}
-use Rattle.phys_memory.proofs.Frames.{with_frame-same, with_frame-other, word_in_same, word_in_other}
-use Rattle.page_map.specs.declared.PageEntry.{PageEntry}
-use Rattle.page_map.specs.Entries.{Frames, IsPageMap, IsCleared, dir_word, table_of, entry_at, word_table, word_entry, without_entry, without_table}
-use Rattle.page_map.proofs.PageLemmas.{count_range-same, count_range-none}
-use Rattle.address_space.specs.declared.place.Found.{Found}
+use Rattle.address_space.proofs.Prelude
+use Prelude.{◌≡◌, ◌≢◌, ◌⊎◌, ℕ, ◌+◌, ◌-◌, ◌*◌, ◌<◌, ◌≤◌, false, List, length, refl, ap, sym, ◌∙◌, subst, arith, inl, inr}
+use Prelude.{Option, Some, None, option_and_then, option_map, slot_number, index_number, is_present, frame_number}
+use Prelude.{frame_bytes, word_in, with_frame-same, with_frame-other, word_in_same, word_in_other, PageEntry, Frames}
+use Prelude.{IsPageMap, IsCleared, dir_word, table_of, entry_at, word_table, word_entry, without_table}
+use Prelude.{count_range-same, count_range-none, Found, found_in, View, directory_of}
+use Rattle.page_map.specs.Entries.{without_entry}
 use Rattle.address_space.specs.declared.Spaces.TheInside.{Inside as Inner}
 use Rattle.address_space.specs.Changes.{EntryGone, DroppedBelow, words_left}
-use Rattle.address_space.specs.Finds.{found_in}
-use Rattle.address_space.specs.View.{View, directory_of}
 use Rattle.address_space.proofs.Insides.{view_of}
 use Rattle.address_space.proofs.steps.Departures.{dropped_past}
 use Rattle.address_space.proofs.steps.RegionCopies.{no_entry_there, listed_entry}

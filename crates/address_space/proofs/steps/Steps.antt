@@ -1,34 +1,23 @@
 -- What each step of the code leaves.
-use Rattle.std.proofs.Common.{◌≡◌, ◌≢◌, ℕ, ◌+◌, ◌*◌, ◌^◌, ◌<◌, ◌≤◌, Bool, true, false, List, length, replicate, refl, ap, sym, ◌∙◌, subst, arith, inl, inr, Option, Some, None, length-set}
-use Rattle.std.specs.Prelude.{is_some, slice_get, slice_set, if◌then◌else◌}
-use Rattle.std.specs.Option.{option_and_then, unwrap_or}
-use Rattle.std.proofs.lemmas.Option.{slice_get_within}
-use Rattle.page_words.specs.Addresses.{slot_number}
-use Rattle.page_words.specs.Words.{is_present, frame_number}
-use Rattle.phys_memory.specs.Bytes.{frame_bytes, word_in, with_frame, with_frame_bytes}
-use Rattle.alloc_table.specs.declared.Role.{Role}
-use Rattle.alloc_table.specs.declared.Role.TheVariants.{Reserved, Free, Directory, Table, Page}
-use Rattle.alloc_table.specs.Roles.{IsTaken}
-use Rattle.alloc_table.proofs.RoleLemmas.{get-set_same, get-set_other, weight-taken}
-use Rattle.phys_memory.proofs.Frames.{length-frame, with_frame-other, frames-with_frame_bytes}
-use Rattle.page_map.proofs.WordLaws.{entry_word-names, entry_word-lt, entry_word-present, word_entry-entry_word}
-use Rattle.std.proofs.lemmas.List.{length-replicate}
+use Rattle.address_space.proofs.Prelude
+use Prelude.{◌≡◌, ◌≢◌, ℕ, ◌+◌, ◌*◌, ◌^◌, ◌<◌, ◌≤◌, Bool, true, false, List, length, replicate, refl, ap, sym, ◌∙◌}
+use Prelude.{subst, arith, inl, inr, Option, Some, None, length-set, is_some, slice_get, slice_set, if◌then◌else◌}
+use Prelude.{option_and_then, unwrap_or, option_map, slice_get_within, slot_number, is_present, frame_number}
+use Prelude.{frame_bytes, word_in, with_frame, with_frame_bytes, Role, Reserved, Free, Directory, Table, Page, IsTaken}
+use Prelude.{get-set_same, get-set_other, weight-taken, length-frame, with_frame-other, frames-with_frame_bytes}
+use Prelude.{entry_word-names, entry_word-lt, entry_word-present, word_entry-entry_word, length-replicate, PageEntry}
+use Prelude.{Frames, dir_word, word_table, table_of, with_table, with_entry, entry_word, IsKernelEntry, IsPageMap, Slot}
+use Prelude.{fresh, at_page, Entries, lazy_count, cell_of, spaces_of, Directories, Roles, directory_of, table_in}
+use Prelude.{entry_in, entries_in, spaces_in, total_cost, Tables, Pages, HoldsPage, IsSound, InUseAt, Inside}
+use Prelude.{TableGiven, PageAdded, table_need}
 use Rattle.address_space.proofs.entries.Refinement.{lazy_refines, get-spaces_of}
-use Rattle.std.specs.Option.{option_map}
-use Rattle.page_map.specs.declared.PageEntry.{PageEntry}
-use Rattle.page_map.specs.Entries.{Frames, dir_word, word_table, table_of, with_table, with_entry, entry_word, IsKernelEntry, IsPageMap}
-use Rattle.page_words.specs.FiniteMap as map
-use Rattle.address_space.specs.Spaces.{Slot, fresh, at_page}
-use Rattle.address_space.specs.Cells.{Entries, lazy_count, cell_of, spaces_of}
-use Rattle.address_space.specs.View.{Directories, Roles, directory_of, table_in, entry_in, entries_in, spaces_in, total_cost}
-use Rattle.address_space.specs.Sound.{Tables, Pages, HoldsPage, IsSound, InUseAt, Inside}
-use Rattle.address_space.specs.Changes.{TableGiven, PageAdded, table_need}
 use Rattle.address_space.proofs.costs.CostSteps.{total-entry}
 use Rattle.address_space.proofs.entries.EntrySteps.{Loose, entries-insert, entry_own, tables-entry, tables_kept, use_own, use_kept}
 use Rattle.address_space.proofs.frames.FrameSteps.{tables-linked, linked-entries, linked-own, linked-others, linked-other, kept_table, loose-directory, tables-loose}
-use Rattle.address_space.proofs.frames.PageSteps.{same_bytes, pages-role, pages-lazy, lazy-more, no_free, no_table, no_directory}
-use Rattle.address_space.specs.Stays.{none_goes}
-use Rattle.address_space.proofs.entries.Staying.{stay_same, stay_then, stay_new, places_by}
+use Rattle.address_space.proofs.frames.PageSteps.{same_bytes, pages-role, pages-lazy, lazy-more, kept_holder, no_free, no_table, no_directory}
+use Rattle.address_space.proofs.entries.Staying.{places_new}
+use Rattle.address_space.proofs.Prelude.{frames_weight, SlotAdded, get-insert, same_itself, slot_order, cond}
+use Rattle.page_words.specs.FiniteMap as map
 
 -- a frame with a role lies in memory
 inside_by : (bytes : List ℕ) (roles : List Role) (f : ℕ) (r : Role) → length bytes ≡ 4096 * length roles → length roles ≤ 1048576 → slice_get roles f ≡ Some r → Inside bytes f
@@ -36,6 +25,17 @@ inside_by bytes roles f r a b is = let h = slice_get_within roles f r is in reco
 
 pub inside : (directories : List (Option ℕ)) (bytes : List ℕ) (roles : List Role) (f : ℕ) (r : Role) → IsSound directories bytes roles → slice_get roles f ≡ Some r → Inside bytes f
 inside directories bytes roles f r s is = inside_by bytes roles f r s.size s.few is
+
+-- memory of the same size whose tables and pages agree with as many roles is sound
+pub sound_by : (directories : List (Option ℕ)) (bytes two : List ℕ) (roles roles' : List Role) (m2 : Frames) (E : Entries) → IsSound directories bytes roles → length two ≡ length bytes → length roles' ≡ length roles
+    → frame_bytes two ≡ m2 → Tables (directory_of directories) m2 (slice_get roles') → entries_in (directory_of directories) (frame_bytes two) ≡ E → Pages E (slice_get roles') → IsSound directories two roles'
+sound_by directories bytes two roles roles' m2 E sound long same is T entries P = record {
+  size = long ∙ sound.size ∙ ap (λ n. 4096 * n) (sym same);
+  few = subst (λ n. n ≤ 1048576) (sym same) sound.few;
+  pids = sound.pids;
+  tables = subst (λ x. Tables (directory_of directories) x (slice_get roles')) (sym is) T;
+  pages = subst (λ x. Pages x (slice_get roles')) (sym entries) P;
+}
 
 -- each process's page map is as the layer below asks
 pub page_map_by : (D : Directories) (bytes : List ℕ) (roles : List Role) (p d : ℕ) → length bytes ≡ 4096 * length roles → length roles ≤ 1048576 → Tables D (frame_bytes bytes) (slice_get roles) → D p ≡ Some d → IsPageMap bytes d
@@ -84,13 +84,8 @@ table_given directories bytes bytes' roles roles' p d s t sound live low high no
     (λ i. is i e.frame) ∙ linked-other D m R T p d s t live none free small low high e.frame
     (no_directory R e.frame d p holds (T.directory p d live)) (no_free R e.frame t holds free) in
     record {
-      sound = record {
-        size = long ∙ sound.size ∙ ap (λ n. 4096 * n) (sym same_length);
-        few = subst (λ n. n ≤ 1048576) (sym same_length) sound.few;
-        pids = sound.pids;
-        tables = subst (λ x. Tables D x R') (sym is) (tables-linked D m R T p d s t live none free small low high R' own others);
-        pages = subst (λ x. Pages x R') (sym E) (pages-role (entries_in D m) R R' t sound.pages (λ h. cc) (λ c h. cc) (λ c h. cc) others);
-      };
+      sound = sound_by directories bytes bytes' roles roles' _ _ sound long same_length is (tables-linked D m R T p d s t live none free small low high R' own others)
+          E (pages-role (entries_in D m) R R' t sound.pages (λ h. cc) (λ c h. cc) (λ c h. cc) others);
       entries = E;
       spaces = ap (λ x. spaces_of x (frame_bytes bytes')) E ∙ same_bytes (entries_in D m) m (frame_bytes bytes') page_kept;
       table = (t, ap (λ x. table_in D x p s) is ∙ linked-own D m R T p d s t live none free small low high);
@@ -155,6 +150,75 @@ lazy_entry write = record { frame = 0; write = write; may = true; accessed = fal
 pub lazy_rules : (write : Bool) → IsKernelEntry (lazy_entry write)
 lazy_rules write = record { frame = λ h. cc; zero = λ h. refl; clean = λ h. refl; right = λ h. refl; touched = λ h. cc }
 
+-- memory and roles that are ready for a new entry at a slot that has none
+pub record IsReady (directories : List (Option ℕ)) (bytes : List ℕ) (roles : List Role) (d page : ℕ) (slot : Slot) (e : PageEntry) (one : List ℕ) (roles' : List Role) : Type 0 where
+  pub size : length one ≡ length bytes
+  pub length : length roles' ≡ length roles
+  pub small : e.frame < 2 ^ 20
+  pub tables : Tables (directory_of directories) (frame_bytes one) (slice_get roles')
+  pub pages : Pages (map.insert (entries_in (directory_of directories) (frame_bytes bytes)) slot e) (slice_get roles')
+  pub entries : entries_in (directory_of directories) (frame_bytes one) ≡ entries_in (directory_of directories) (frame_bytes bytes)
+  pub table : table_of (frame_bytes one) d (slot_number page) ≡ table_of (frame_bytes bytes) d (slot_number page)
+  pub rules : IsKernelEntry e
+  pub kept : (q : Slot) (x : PageEntry) → map.get (entries_in (directory_of directories) (frame_bytes bytes)) q ≡ Some x → frame_bytes one x.frame ≡ frame_bytes bytes x.frame
+  pub weight : frames_weight roles' + lazy_count (map.insert (entries_in (directory_of directories) (frame_bytes bytes)) slot e) ≡ frames_weight roles + lazy_count (entries_in (directory_of directories) (frame_bytes bytes)) + 1
+  pub used : (q r : ℕ) → InUseAt (directory_of directories) (frame_bytes bytes) q r → InUseAt (directory_of directories) (frame_bytes one) q r
+  pub linked : (q r : ℕ) → table_in (directory_of directories) (frame_bytes one) q r ≡ table_in (directory_of directories) (frame_bytes bytes) q r
+
+-- what the new entry leaves
+pub record EntryAdded (directories : List (Option ℕ)) (bytes : List ℕ) (roles : List Role) (p page : ℕ) (e : PageEntry) (one two : List ℕ) (roles' : List Role) : Type 0 where
+  pub slot : SlotAdded directories p page bytes roles two roles'
+  pub entries : entries_in (directory_of directories) (frame_bytes two) ≡ map.insert (entries_in (directory_of directories) (frame_bytes bytes)) (at_page p page) e
+  pub own : entry_in (directory_of directories) (frame_bytes two) (at_page p page) ≡ Some e
+  pub held : (f : ℕ) → HoldsPage (slice_get roles' f) → frame_bytes two f ≡ frame_bytes one f
+  pub kept : (q : Slot) (x : PageEntry) → map.get (entries_in (directory_of directories) (frame_bytes bytes)) q ≡ Some x → frame_bytes two x.frame ≡ frame_bytes bytes x.frame
+  pub linked : (q r : ℕ) → table_in (directory_of directories) (frame_bytes two) q r ≡ table_in (directory_of directories) (frame_bytes bytes) q r
+
+pub entry_added : (directories : List (Option ℕ)) (bytes one two : List ℕ) (roles roles' : List Role) (p d page t : ℕ) (e : PageEntry) → IsSound directories bytes roles → directory_of directories p ≡ Some d
+    → 0x40000 ≤ page → page < 0xf0000 → map.get (entries_in (directory_of directories) (frame_bytes bytes)) (at_page p page) ≡ None → table_of (frame_bytes bytes) d (slot_number page) ≡ Some t
+    → IsReady directories bytes roles d page (at_page p page) e one roles'
+    → frame_bytes two ≡ with_entry (frame_bytes one) (frame_number (dir_word (frame_bytes one) d (slot_number page))) page e → length two ≡ length one
+    → EntryAdded directories bytes roles p page e one two roles'
+unfolding spaces_in
+entry_added directories bytes one two roles roles' p d page t e sound live low high none there ready is_two long_two =
+    let few : p < 64 = live_small directories p d sound.pids live in
+    let D : Directories = directory_of directories in
+    let m : Frames = frame_bytes bytes in
+    let m1 : Frames = frame_bytes one in
+    let m2 : Frames = with_entry m1 t page e in
+    let slot : Slot = at_page p page in
+    let R' : Roles = slice_get roles' in
+    let T : Tables D m1 R' = ready.tables in
+    let E : Entries = entries_in D m in
+    let there1 : table_of m1 d (slot_number page) ≡ Some t = ready.table ∙ there in
+    let role_t : R' t ≡ Some (Table p (slot_number page)) = T.table p (slot_number page) t (ap (option_and_then (λ x. table_of m1 x (slot_number page))) live ∙ there1) in
+    let lt = entry_word-lt e ready.small in
+    let word = word_entry-entry_word e ready.small in
+    let present = entry_word-present e in
+    let is : frame_bytes two ≡ m2 = is_two ∙ ap (λ g. with_entry m1 g page e) (table_by_word (dir_word m1 d (slot_number page)) t there1) in
+    let E2 : entries_in D (frame_bytes two) ≡ map.insert E slot e = ap (entries_in D) is ∙ entries-insert D m1 R' T p d page t (entry_word e) live there1 lt e word few low high ∙ ap (λ x. map.insert x slot e) ready.entries in
+    let held : (f : ℕ) → HoldsPage (R' f) → frame_bytes two f ≡ m1 f = λ f holds. (λ i. is i f) ∙ with_frame-other m1 t f _ (no_table R' f t p (slot_number page) holds role_t) in
+    let own : map.get (map.insert E slot e) slot ≡ Some e = get-insert E slot e slot ∙ ap (λ b. cond b (Some e) (map.get E slot)) (same_itself slot_order slot) in
+    let linked : (q r : ℕ) → table_in D (frame_bytes two) q r ≡ table_in D m q r = λ q r.
+    ap (λ x. table_in D x q r) is ∙ tables_kept D m1 R' T p d page t (entry_word e) live there1 lt q r ∙ ready.linked q r in
+    record {
+      slot = record {
+        sound = sound_by directories bytes two roles roles' _ _ sound (long_two ∙ ready.size) ready.length is
+            (tables-entry D m1 R' T p d page t (entry_word e) live there1 lt (inr (entry_word-names e ready.small ready.rules))) E2 ready.pages;
+        cost = (λ i. total_cost directories (spaces_of (E2 i) (frame_bytes two))) ∙ total-entry directories E m (frame_bytes two) slot e (cell_of E m slot e) d few live none;
+        weight = ap (λ x. frames_weight roles' + lazy_count x) E2 ∙ ready.weight;
+        length = ready.length;
+        own = subst (λ x. InUseAt D x p (slot_number page)) (sym is) (use_own D m1 R' T p d page t (entry_word e) live there1 lt present);
+        others = λ q r n use_at. subst (λ x. InUseAt D x q r) (sym is) (use_kept D m1 R' T p d page t (entry_word e) live there1 lt present q r (ready.used q r use_at));
+        stay = places_new D m D (frame_bytes two) slot e none E2 (λ q r g found. linked q r ∙ found);
+      };
+      entries = E2;
+      own = ap (λ x. entry_in D x slot) is ∙ entry_own D m1 R' T p d page t (entry_word e) live there1 lt ∙ word;
+      held = held;
+      kept = λ q x found. held x.frame (kept_holder E R' slot e q x ready.pages none found) ∙ ready.kept q x found;
+      linked = linked;
+    }
+
 -- a lazy page was mapped
 pub page_added : (directories : List (Option ℕ)) (bytes two : List ℕ) (roles : List Role) (p d page t : ℕ) (write : Bool) → IsSound directories bytes roles → directory_of directories p ≡ Some d
     → 0x40000 ≤ page → page < 0xf0000 → map.get (spaces_in directories bytes) (at_page p page) ≡ None → table_of (frame_bytes bytes) d (slot_number page) ≡ Some t
@@ -162,47 +226,32 @@ pub page_added : (directories : List (Option ℕ)) (bytes two : List ℕ) (roles
     → PageAdded directories p page write bytes roles two roles
 unfolding spaces_in
 page_added directories bytes two roles p d page t write sound live low high unmapped there is_two long_two =
-    let few : p < 64 = live_small directories p d sound.pids live in
-    let D : Directories = directory_of directories in
     let m : Frames = frame_bytes bytes in
+    let E : Entries = entries_in (directory_of directories) m in
     let e : PageEntry = lazy_entry write in
-    let m2 : Frames = with_entry m t page e in
     let slot : Slot = at_page p page in
-    let R : Roles = slice_get roles in
-    let T : Tables D m R = sound.tables in
-    let small : 0 < 2 ^ 20 = omega arith in
-    let named : table_in D m p (slot_number page) ≡ Some t = ap (option_and_then (λ x. table_of m x (slot_number page))) live ∙ there in
-    let role_t : R t ≡ Some (Table p (slot_number page)) = T.table p (slot_number page) t named in
-    let is : frame_bytes two ≡ m2 = is_two ∙ ap (λ g. with_entry m g page e) (table_by_word (dir_word m d (slot_number page)) t there) in
-    let E : Entries = entries_in D m in
-    let E2 : entries_in D (frame_bytes two) ≡ map.insert E slot e = ap (entries_in D) is ∙ entries-insert D m R T p d page t (entry_word e) live there (entry_word-lt e small) e (word_entry-entry_word e small) few low high in
     let none : map.get E slot ≡ None = none_before E m slot (map.get E slot) (sym (get-spaces_of E m slot) ∙ unmapped) in
-    let page_kept : (q : Slot) (x : PageEntry) → map.get E q ≡ Some x → m2 x.frame ≡ m x.frame = λ q x found.
-    with_frame-other m t x.frame _ (no_table R x.frame t p (slot_number page) (sound.pages.pages q x found) role_t) in
-    let zero : m2 0 ≡ replicate 4096 0 = with_frame-other m t 0 _ (no_table R 0 t p (slot_number page) (inl T.zero_role) role_t) ∙ T.zero_bytes in
+    let more = lazy-more E slot e none refl in
+    let zero_role = sound.tables.zero_role in
+    let added = entry_added directories bytes bytes two roles roles p d page t e sound live low high none there (record {
+      size = refl;
+      length = refl;
+      small = omega arith;
+      tables = sound.tables;
+      pages = pages-lazy E (slice_get roles) slot e sound.pages none refl zero_role;
+      entries = refl;
+      table = refl;
+      rules = lazy_rules write;
+      kept = λ q x found. refl;
+      weight = omega (arith, more);
+      used = λ q r u. u;
+      linked = λ q r. refl;
+    }) is_two long_two in
     record {
-      slot = record {
-        sound = record {
-          size = long_two ∙ sound.size;
-          few = sound.few;
-          pids = sound.pids;
-          tables = subst (λ x. Tables D x R) (sym is) (tables-entry D m R T p d page t (entry_word e) live there (entry_word-lt e small) (inr (entry_word-names e small (lazy_rules write))));
-          pages = subst (λ x. Pages x R) (sym E2) (pages-lazy E R slot e sound.pages none refl T.zero_role);
-        };
-        cost = (λ i. total_cost directories (spaces_of (E2 i) (frame_bytes two))) ∙ total-entry directories E m (frame_bytes two) slot e (fresh slot write) d few live none;
-        weight = let l : lazy_count (entries_in D (frame_bytes two)) ≡ lazy_count E + 1 = ap lazy_count E2 ∙ lazy-more E slot e none refl in omega (arith, l);
-        length = refl;
-        own = subst (λ x. InUseAt D x p (slot_number page)) (sym is) (use_own D m R T p d page t (entry_word e) live there (entry_word-lt e small) (entry_word-present e));
-        others = λ q r n use_at. subst (λ x. InUseAt D x q r) (sym is) (use_kept D m R T p d page t (entry_word e) live there (entry_word-lt e small) (entry_word-present e) q r use_at);
-        stay = places_by none_goes D m D (frame_bytes two)
-            (stay_then none_goes E (map.insert E slot e) (entries_in D (frame_bytes two))
-            (stay_new none_goes E slot e none) (stay_same none_goes (map.insert E slot e)
-            (entries_in D (frame_bytes two)) E2))
-            (λ q r g found. ap (λ x. table_in D x q r) is
-            ∙ tables_kept D m R T p d page t (entry_word e) live there (entry_word-lt e small) q r ∙ found);
-      };
-      lazy = (e, ap (λ x. entry_in D x slot) is ∙ entry_own D m R T p d page t (entry_word e) live there (entry_word-lt e small) ∙ word_entry-entry_word e small, refl);
-      spaces = (λ i. spaces_of (E2 i) (is i)) ∙ lazy_refines E m2 slot write none zero ∙ ap (λ x. map.insert x slot (fresh slot write)) (same_bytes E m m2 page_kept);
+      slot = added.slot;
+      lazy = (e, added.own, refl);
+      spaces = ap (λ x. spaces_of x (frame_bytes two)) added.entries ∙ lazy_refines E (frame_bytes two) slot write none (added.held 0 (inl zero_role) ∙ sound.tables.zero_bytes)
+          ∙ ap (λ x. map.insert x slot (fresh slot write)) (same_bytes E m (frame_bytes two) added.kept);
     }
 
 -- a page map after a loose frame's bytes were changed

@@ -1,39 +1,30 @@
 -- The effect of a store, a load and a change of the right through a mapped slot.
-use Rattle.std.proofs.Common.{◌≡◌, ℕ, suc, ◌+◌, ◌*◌, ◌/◌, ◌%◌, ◌^◌, ◌<◌, ◌≤◌, Bool, true, false, cond, List, [], ◌∷◌, ◌++◌, length, take, drop, refl, ap, sym, ◌∙◌, subst, arith, inl, inr, Option, Some, None, append_assoc, length-append, length-drop, zero}
-use Rattle.std.specs.Prelude.{is_some, slice_get, slice_set, if◌then◌else◌}
-use Rattle.std.specs.List.{splice}
-use Rattle.std.specs.Option.{option_and_then}
+use Rattle.address_space.proofs.Prelude
+use Prelude.{◌≡◌, ℕ, suc, ◌+◌, ◌*◌, ◌/◌, ◌%◌, ◌^◌, ◌<◌, ◌≤◌, Bool, true, false, cond, List, [], ◌∷◌, ◌++◌, length, take}
+use Prelude.{drop, refl, ap, sym, ◌∙◌, subst, arith, inl, inr, Option, Some, None, length-append, length-drop, zero}
+use Prelude.{is_some, slice_get, slice_set, if◌then◌else◌, splice, option_and_then, slot_number, index_number}
+use Prelude.{byte_count, Size, is_present, frame_number, IsKernelTableWord, frame_bytes, word_in, with_word, with_frame}
+use Prelude.{Role, Table, Page, PageEntry, Frames, dir_word, table_of, word_entry, entry_from, entry_at, with_entry}
+use Prelude.{entry_word, IsKernelEntry, entry_word-names, entry_word-lt, entry_word-present, word_entry-entry_word}
+use Prelude.{same, Slot, Spaces, Cell, cell_or_fresh, write_at, bytes_of, stored}
+use Prelude.{protected, at_page, Entries, holders_of, cell_of, spaces_of, Directories, Roles, directory_of, table_in}
+use Prelude.{entry_in, entries_in, spaces_in, total_cost, Tables, Pages, HoldsPage, IsSound, InUseAt, Names, Inside}
+use Prelude.{InUse, ne_eqb}
+use Rattle.std.proofs.Common.{append_assoc}
 use Rattle.byteorder.specs.Endian.{little_bytes}
-use Rattle.page_words.specs.Addresses.{slot_number, index_number, byte_count}
-use Rattle.page_words.specs.declared.addresses.Size.{Size}
-use Rattle.page_words.specs.Words.{is_present, frame_number, IsKernelTableWord}
-use Rattle.phys_memory.specs.Bytes.{frame_bytes, word_in, with_word, with_frame}
 use Rattle.phys_memory.proofs.Frames.{with_frame-other, frames-with_word_at, frames-with_byte}
-use Rattle.alloc_table.specs.declared.Role.{Role}
-use Rattle.alloc_table.specs.declared.Role.TheVariants.{Table, Page}
-use Rattle.page_map.specs.declared.PageEntry.{PageEntry}
-use Rattle.page_map.specs.Entries.{Frames, dir_word, table_of, word_entry, entry_from, entry_at, with_entry, entry_word, IsKernelEntry}
-use Rattle.page_map.proofs.WordLaws.{entry_word-names, entry_word-lt, entry_word-present, word_entry-entry_word}
-use Rattle.page_words.specs.FiniteMap as map
-use Rattle.page_words.specs.FiniteMap.{change_each}
 use Rattle.std.proofs.lemmas.List.{set_split, length-take-le}
-use Rattle.address_space.specs.Spaces.{Slot, Spaces, Cell, cell_or_fresh, write_at, bytes_of, stored, accessed as accessed_in, protected, at_page}
-use Rattle.page_words.specs.FiniteMap.{collect, put_some}
-use Rattle.page_words.specs.FiniteMap.{same}
+use Rattle.address_space.specs.Spaces.{accessed as accessed_in}
 use Rattle.address_space.proofs.entries.UserSlots.{in_user_slots}
-use Rattle.address_space.specs.Cells.{Entries, holders_of, cell_of, spaces_of}
-use Rattle.address_space.specs.View.{Directories, Roles, directory_of, table_in, entry_in, entries_in, spaces_in, total_cost}
-use Rattle.address_space.specs.Sound.{Tables, Pages, HoldsPage, IsSound, InUseAt, Names, Inside, InUse}
 use Rattle.address_space.specs.Changes.{EntryPut, Touched, flagged}
 use Rattle.address_space.proofs.costs.CostSteps.{total-kept}
 use Rattle.address_space.proofs.entries.EntrySteps.{Loose, get-entries_in, entries-insert, tables-entry, tables_kept, use_kept}
 use Rattle.address_space.proofs.frames.FrameSteps.{loose-entry, loose-entries, loose-tables, tables-loose, use_loose}
 use Rattle.address_space.proofs.frames.PageSteps.{same_bytes, pages-same, no_table, lazy-same}
 use Rattle.address_space.proofs.entries.Refinement.{insert_there, store_refines, flags_refine, cell_at}
-use Rattle.address_space.proofs.steps.Steps.{inside, holds_inside, live_small, page_loose, table_by_word}
-use Rattle.std.proofs.lemmas.Bool.{ne_eqb}
-use Rattle.address_space.specs.Stays.{none_goes}
-use Rattle.address_space.proofs.entries.Staying.{stay_same, stay_then, stay_put, places_by}
+use Rattle.address_space.proofs.steps.Steps.{inside, holds_inside, live_small, page_loose, table_by_word, sound_by}
+use Rattle.address_space.proofs.entries.Staying.{places_put}
+use Rattle.page_words.specs.FiniteMap as map
 
 -- ---- Bytes
 
@@ -139,13 +130,7 @@ entry_set directories bytes two roles p d page e e' sound live low high is_entry
     let page_kept : (q : Slot) (x : PageEntry) → map.get (map.insert E slot e') q ≡ Some x → m2 x.frame ≡ m x.frame = λ q x was.
     with_frame-other m t x.frame _ (no_table R x.frame t p (slot_number page) (P2.pages q x was) role_t) in
     record {
-      sound = record {
-        size = long_two ∙ sound.size;
-        few = sound.few;
-        pids = sound.pids;
-        tables = subst (λ x. Tables D x R) (sym is) (tables-entry D m R T p d page t (entry_word e') live f.there (entry_word-lt e' small) (inr (entry_word-names e' small rules)));
-        pages = subst (λ x. Pages x R) (sym E2) P2;
-      };
+      sound = sound_by directories bytes two roles roles _ _ sound long_two refl is (tables-entry D m R T p d page t (entry_word e') live f.there (entry_word-lt e' small) (inr (entry_word-names e' small rules))) E2 P2;
       named = there;
       entries = E2;
       spaces = (λ i. spaces_of (E2 i) (is i)) ∙ same_bytes (map.insert E slot e') m m2 page_kept;
@@ -192,13 +177,7 @@ frame_written directories bytes one roles f new sound loose long_new is long_one
     let T : Tables D m R = sound.tables in
     let E1 : entries_in D (frame_bytes one) ≡ entries_in D m = ap (entries_in D) is ∙ loose-entries D m R T f new loose in
     record {
-      sound = record {
-        size = long_one ∙ sound.size;
-        few = sound.few;
-        pids = sound.pids;
-        tables = subst (λ x. Tables D x R) (sym is) (tables-loose D m R T f new loose long_new);
-        pages = subst (λ x. Pages x R) (sym E1) sound.pages;
-      };
+      sound = sound_by directories bytes one roles roles _ _ sound long_one refl is (tables-loose D m R T f new loose long_new) E1 sound.pages;
       entries = E1;
       entry = λ p d page live.
           ap (λ x. entry_at x d page) is
@@ -234,11 +213,7 @@ page_stored directories bytes one two roles p d page at written e sound live low
       cost = (λ i. total_cost directories (spaces_of (E2 i) (frame_bytes two))) ∙ total-kept directories E m (frame_bytes two) slot e e' there;
       in_use = λ before. h.in_use (w.in_use before);
       lazy = ap (λ x. holders_of x 0) E2 ∙ lazy-same E slot e e' there refl;
-      stay = places_by none_goes D m D (frame_bytes two)
-          (stay_then none_goes E (map.insert E slot e') (entries_in D (frame_bytes two))
-          (stay_put none_goes E slot e e' there refl) (stay_same none_goes (map.insert E slot e')
-          (entries_in D (frame_bytes two)) E2))
-          (λ q r t found. h.tables q r ∙ w.tables q r ∙ found);
+      stay = places_put D m D (frame_bytes two) slot e e' there refl E2 (λ q r t found. h.tables q r ∙ w.tables q r ∙ found);
     }
 
 -- flags of a slot's own cell set as in its entry
@@ -270,12 +245,7 @@ flags_set directories bytes two roles p d page e write accessed sound live low h
       cost = (λ i. total_cost directories (spaces_of (h.entries i) (frame_bytes two))) ∙ total-kept directories E m (frame_bytes two) slot e e' h.named;
       in_use = h.in_use;
       lazy = ap (λ x. holders_of x 0) h.entries ∙ lazy-same E slot e e' h.named refl;
-      stay = places_by none_goes (directory_of directories) m (directory_of directories) (frame_bytes two)
-          (stay_then none_goes E (map.insert E slot e') (entries_in (directory_of directories) (frame_bytes two))
-          (stay_put none_goes E slot e e' h.named refl)
-          (stay_same none_goes (map.insert E slot e') (entries_in (directory_of directories) (frame_bytes two))
-          h.entries))
-          (λ q r t found. h.tables q r ∙ found);
+      stay = places_put (directory_of directories) m (directory_of directories) (frame_bytes two) slot e e' h.named refl h.entries (λ q r t found. h.tables q r ∙ found);
     }
 
 -- an entry's marks alone were cleared
@@ -301,12 +271,7 @@ marks_cleared directories bytes two roles p d page e sound live low high is_entr
       cost = (λ i. total_cost directories (spaces_of (h.entries i) (frame_bytes two))) ∙ total-kept directories E m (frame_bytes two) slot e e' h.named;
       in_use = h.in_use;
       lazy = ap (λ x. holders_of x 0) h.entries ∙ lazy-same E slot e e' h.named refl;
-      stay = places_by none_goes (directory_of directories) m (directory_of directories) (frame_bytes two)
-          (stay_then none_goes E (map.insert E slot e') (entries_in (directory_of directories) (frame_bytes two))
-          (stay_put none_goes E slot e e' h.named refl)
-          (stay_same none_goes (map.insert E slot e') (entries_in (directory_of directories) (frame_bytes two))
-          h.entries))
-          (λ q r t found. h.tables q r ∙ found);
+      stay = places_put (directory_of directories) m (directory_of directories) (frame_bytes two) slot e e' h.named refl h.entries (λ q r t found. h.tables q r ∙ found);
     }
 
 pub length-bytes_of : (k v : ℕ) → length (bytes_of k v) ≡ k

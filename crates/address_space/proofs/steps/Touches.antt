@@ -1,13 +1,9 @@
 -- The type's invariant after an access, or after a change of rights.
-use Rattle.std.proofs.Common.{arith, ◌≡◌, ℕ, List, Option, ap, ◌∙◌}
+use Rattle.address_space.proofs.Prelude.{arith, ◌≡◌, ℕ, List, Option, ap, ◌∙◌, Role, Slot, Spaces, spaces_in, Touched}
+use Rattle.address_space.proofs.Prelude.{AreCountedSpaces}
+use Rattle.address_space.proofs.steps.CountSteps.{counted_keys}
 use Rattle.page_words.specs.FiniteMap as map
 use Rattle.page_words.specs.FiniteSet as set
-use Rattle.alloc_table.specs.declared.Role.{Role}
-use Rattle.address_space.specs.Spaces.{Slot, Spaces}
-use Rattle.address_space.specs.View.{spaces_in}
-use Rattle.address_space.specs.Changes.{Touched}
-use Rattle.address_space.specs.Counts.{AreCountedSpaces}
-use Rattle.address_space.proofs.steps.CountSteps.{counted_keys}
 
 -- where the same slots are mapped
 pub kept_touched : (directories : List (Option ℕ)) (bytes bytes' : List ℕ) (roles : List Role) (counts : List ℕ) (S' : Spaces) → AreCountedSpaces directories bytes roles counts → Touched directories S' bytes roles bytes'

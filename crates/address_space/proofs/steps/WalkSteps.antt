@@ -1,38 +1,24 @@
 -- What a walk that finds a frame, its mark, and a byte written where it leads come to.
-use Rattle.std.proofs.Common.{◌≡◌, ◌≢◌, ℕ, ◌+◌, ◌*◌, ◌%◌, ◌^◌, ◌<◌, ◌≤◌, Bool, true, false, not, List, [], ◌∷◌, length, refl, ap, sym, ◌∙◌, subst, arith, inl, inr, Option, Some, None}
-use Rattle.std.specs.Prelude.{◌&&◌, is_some, if◌then◌else◌, slice_get, slice_index, slice_set, IsOk, Result, Ok, Err, nat_le}
-use Rattle.std.specs.Option.{option_and_then}
-use Rattle.std.specs.Result.{is_ok}
-use Rattle.std.proofs.lemmas.Bool.Decides.{nat_tests}
-use Rattle.page_words.specs.Addresses.{IsUserPage, page_number, offset_number, slot_number, index_number}
-use Rattle.page_words.specs.Words.{frame_number, is_present, NamesPage, IsKernelTableWord}
+use Rattle.address_space.proofs.Prelude
+use Prelude.{◌≡◌, ◌≢◌, ℕ, ◌+◌, ◌*◌, ◌%◌, ◌^◌, ◌<◌, ◌≤◌, Bool, true, false, not, List, [], ◌∷◌, length, refl, ap, sym}
+use Prelude.{◌∙◌, subst, arith, inl, inr, Option, Some, None, ◌&&◌, is_some, if◌then◌else◌, slice_get, slice_index}
+use Prelude.{slice_set, IsOk, Result, Ok, Err, nat_le, option_and_then, is_ok, nat_tests, IsUserPage, page_number}
+use Prelude.{offset_number, slot_number, index_number, frame_number, is_present, NamesPage, IsKernelTableWord}
+use Prelude.{frame_bytes, word_at, word_place, with_word, word_in, with_word_in, with_frame, Role, Directory, Table}
+use Prelude.{Access, Read, Write, WalkEnd, Outside, PageEntry, Frames, dir_word, table_of, word_entry, entry_from}
+use Prelude.{entry_at, entry_word, with_entry, lets_writes, IsKernelEntry, walks_read_entries, user_cases, byte_place}
+use Prelude.{is_marked, and_parts, Slot, Spaces, Cell, cell_or_fresh, stored, write_at, byte_at, at_page, slot_at}
+use Prelude.{Directories, Roles, directory_of, table_in, spaces_in, Tables, IsSound, Inside, Touched, none_goes}
 use Rattle.page_words.proofs.Flags.{table_words_by_fields}
-use Rattle.phys_memory.specs.Bytes.{frame_bytes, word_at, word_place, with_word, word_in, with_word_in, with_frame}
 use Rattle.phys_memory.proofs.Words.{length-with_word}
 use Rattle.phys_memory.proofs.Frames.{by_frame, byte-frame, frames-with_word, frames-with_byte, word_in-frame}
-use Rattle.alloc_table.specs.declared.Role.{Role}
-use Rattle.alloc_table.specs.declared.Role.TheVariants.{Directory, Table}
-use Rattle.table_walk.specs.declared.Access.{Access}
-use Rattle.table_walk.specs.declared.Access.TheVariants.{Read, Write}
-use Rattle.table_walk.specs.declared.WalkEnd.{WalkEnd}
-use Rattle.table_walk.specs.declared.WalkEnd.TheVariants.{Outside}
 use Rattle.table_walk.specs.Walk.{walk_of, table_word, not_present, is_write, is_outside, not_allowed}
 use Rattle.table_walk.specs.Marks.{marked, accessed_word, touched_word}
 use Rattle.table_walk.proofs.Leads.{walks_find_what_leads}
-use Rattle.page_map.specs.declared.PageEntry.{PageEntry}
-use Rattle.page_map.specs.Entries.{Frames, dir_word, table_of, word_entry, entry_from, entry_at, entry_word, with_entry, lets_writes, IsKernelEntry}
 use Rattle.page_map.specs.Laws.{end_at_entry, touched_entry}
-use Rattle.page_map.proofs.LawProofs.{walks_read_entries}
-use Rattle.page_map.proofs.PageLemmas.{user_cases}
 use Rattle.page_map.proofs.MarkProofs.{touched_names, entry_from-touched}
 use Rattle.page_map.proofs.WordLaws.{entry_word-names, entry_from-entry_word, with_flag_lt}
-use Rattle.address_space.specs.ByWalk.{byte_place}
-use Rattle.address_space.specs.Kept.{is_marked}
-use Rattle.std.proofs.lemmas.Bool.{and_parts}
-use Rattle.address_space.specs.Spaces.{Slot, Spaces, Cell, cell_or_fresh, accessed as accessed_in, stored, write_at, byte_at, at_page, slot_at}
-use Rattle.address_space.specs.View.{Directories, Roles, directory_of, table_in, spaces_in}
-use Rattle.address_space.specs.Sound.{Tables, IsSound, Inside}
-use Rattle.address_space.specs.Changes.{Touched}
+use Rattle.address_space.specs.Spaces.{accessed as accessed_in}
 use Rattle.address_space.proofs.entries.EntrySteps.{entry_by_table}
 use Rattle.address_space.proofs.frames.PageSteps.{no_directory, no_table}
 use Rattle.address_space.proofs.steps.Steps.{inside, holds_inside, live_small, page_map_of, present_by_table, table_by_word}
@@ -40,7 +26,6 @@ use Rattle.address_space.proofs.steps.Stores.{found, get_user, entry_rules, page
 use Rattle.address_space.proofs.steps.Bytes.{write_at-nothing, stored-none, stored-flags}
 use Rattle.address_space.proofs.steps.Departures.{no_table_outside}
 use Rattle.address_space.proofs.steps.DirWords.{DirsAlike, flagged_alike, dirs_touched, one_dir_word, dirs-entry, dirs-table, dirs-tables}
-use Rattle.address_space.specs.Stays.{none_goes}
 use Rattle.address_space.proofs.entries.Staying.{places_then}
 
 -- ---- What a walk finds
@@ -334,17 +319,6 @@ store_marked directories bytes roles p d address at sound live f =
 
 -- ---- A byte written where the walk leads
 
--- the entry of a page that was stored to has both flags
-stored_entry : (directories : List (Option ℕ)) (S : Spaces) (bytes : List ℕ) (roles : List Role) (p d page at : ℕ) (e : PageEntry) → IsSound directories bytes roles → directory_of directories p ≡ Some d
-    → 0x40000 ≤ page → page < 0xf0000 → entry_at (frame_bytes bytes) d page ≡ Some e → spaces_in directories bytes ≡ stored S (at_page p page) at [] → e ≡ record e { accessed = true; dirty = true }
-stored_entry directories S bytes roles p d page at e sound live low high here is =
-    let slot : Slot = at_page p page in
-    let read = cell_read directories bytes p d page e live (live_small directories p d sound.pids live) low high here in
-    let flags = stored-flags S slot at [] in
-    let accessed : e.accessed ≡ true = sym (ap (λ (c : Cell). c.accessed) read) ∙ ap (λ S. (cell_or_fresh S slot).accessed) is ∙ flags.0 in
-    let dirty : e.dirty ≡ true = sym (ap (λ (c : Cell). c.dirty) read) ∙ ap (λ S. (cell_or_fresh S slot).dirty) is ∙ flags.1 in
-    λ i. record e { accessed = accessed i; dirty = dirty i }
-
 -- memory after a mark for a store, and after one byte is written then where the walk led
 pub record ByteParts (directories : List (Option ℕ)) (bytes : List ℕ) (roles : List Role) (p d address v : ℕ) (two : List ℕ) : Type 0 where
   pub touched : Touched directories (stored (spaces_in directories bytes) (slot_at p address) (offset_number address) (v % 256 ∷ [])) bytes roles two
@@ -354,45 +328,7 @@ same_ends : (xs ys : List ℕ) (at : ℕ) (kind : Access) (x : Option PageEntry)
 same_ends xs ys at kind None l = refl
 same_ends xs ys at kind (Some e) l = ap (λ n. if is_write kind && not (lets_writes e) then not_allowed at kind else if nat_le n (4096 * e.frame) then Err Outside else Ok e.frame) l
 
-pub byte_written : (directories : List (Option ℕ)) (bytes two : List ℕ) (roles : List Role) (p d address v : ℕ) → IsSound directories bytes roles → directory_of directories p ≡ Some d → address < 2 ^ 32
-    → IsOk (walk_of bytes d address Write) → ((other at : ℕ) (kind : Access) → walk_of (marked bytes d address Write) other at kind ≡ walk_of bytes other at kind)
-    → two ≡ slice_set (marked bytes d address Write) (byte_place bytes d address) (v % 256) → length two ≡ length (marked bytes d address Write) → ByteParts directories bytes roles p d address v two
-byte_written directories bytes two roles p d address v sound live small ok walks is long =
-    let m1 : List ℕ = marked bytes d address Write in
-    let page : ℕ = page_number address in
-    let at : ℕ = offset_number address in
-    let slot : Slot = slot_at p address in
-    let S : Spaces = spaces_in directories bytes in
-    let f = found_entry directories bytes roles p d sound live address Write small ok in
-    let first = store_marked directories bytes roles p d address at sound live f in
-    let g = found_entry directories m1 roles p d first.sound live address Write small (subst IsOk (sym (walks d address Write)) ok) in
-    let e : PageEntry = g.entry in
-    let same_frame : f.entry.frame ≡ e.frame = ok_same f.entry.frame e.frame (sym f.walk ∙ sym (walks d address Write) ∙ g.walk) in
-    let real = not_lazy e (g.right refl) in
-    let place = stored_place directories m1 roles p d page e first.sound live g.low g.high g.here real in
-    let within : at < 4096 = omega arith in
-    let long_page = place.long in
-    let frames : frame_bytes two ≡ with_frame (frame_bytes m1) e.frame (write_at (frame_bytes m1 e.frame) at (v % 256 ∷ [])) =
-    ap frame_bytes is
-    ∙ ap (λ n. frame_bytes (slice_set m1 (4096 * n + at) (v % 256))) (named_frame directories bytes roles p d sound live address Write f ∙ same_frame)
-    ∙ frames-with_byte m1 e.frame at (v % 256) within place.inside.fits
-    ∙ ap (with_frame (frame_bytes m1) e.frame) (byte_is_write (frame_bytes m1 e.frame) at v (omega (arith, long_page, within))) in
-    let long_new : length (write_at (frame_bytes m1 e.frame) at (v % 256 ∷ [])) ≡ 4096 = length-write_at (frame_bytes m1 e.frame) at (v % 256 ∷ []) (omega (arith, long_page, within)) ∙ place.long in
-    let flags = stored_entry directories S m1 roles p d page at e first.sound live g.low g.high g.here first.spaces in
-    let second = page_stored directories m1 two two roles p d page at (v % 256 ∷ []) e first.sound live g.low g.high g.here real long_new frames long (inl (sym flags, refl)) refl in
-    let both = touched_then directories _ _ bytes m1 two roles first second in
-    let written = frame_written directories m1 two roles e.frame (write_at (frame_bytes m1 e.frame) at (v % 256 ∷ [])) first.sound place.loose long_new frames long in
-    record {
-      touched = subst (λ T. Touched directories T bytes roles two) (ap (λ T. stored T slot at (v % 256 ∷ [])) first.spaces ∙ stored-none S slot at (v % 256 ∷ [])) both;
-      walks = λ a kind l.
-          walks_read_entries two d a kind (page_map_of directories two roles p d both.sound live) l
-          ∙ ap (end_at_entry two a kind) (written.entry p d (page_number a) live)
-          ∙ same_ends two m1 a kind (entry_at (frame_bytes m1) d (page_number a)) long
-          ∙ sym (walks_read_entries m1 d a kind (page_map_of directories m1 roles p d first.sound live) l)
-          ∙ walks d a kind;
-    }
-
--- the same without a mark, where both flags are set already
+-- a byte that is written where both flags are set already
 pub byte_put : (directories : List (Option ℕ)) (bytes two : List ℕ) (roles : List Role) (p d address v : ℕ)
     → IsSound directories bytes roles → directory_of directories p ≡ Some d → address < 2 ^ 32
     → IsOk (walk_of bytes d address Write) → is_marked (spaces_in directories bytes) (slot_at p address) ≡ true
@@ -428,4 +364,26 @@ byte_put directories bytes two roles p d address v sound live small ok flags is 
           ∙ ap (end_at_entry two a kind) (written.entry p d (page_number a) live)
           ∙ same_ends two bytes a kind (entry_at (frame_bytes bytes) d (page_number a)) long
           ∙ sym (walks_read_entries bytes d a kind (page_map_of directories bytes roles p d sound live) l);
+    }
+
+-- the same after a mark, which sets them
+pub byte_written : (directories : List (Option ℕ)) (bytes two : List ℕ) (roles : List Role) (p d address v : ℕ) → IsSound directories bytes roles → directory_of directories p ≡ Some d → address < 2 ^ 32
+    → IsOk (walk_of bytes d address Write) → ((other at : ℕ) (kind : Access) → walk_of (marked bytes d address Write) other at kind ≡ walk_of bytes other at kind)
+    → two ≡ slice_set (marked bytes d address Write) (byte_place bytes d address) (v % 256) → length two ≡ length (marked bytes d address Write) → ByteParts directories bytes roles p d address v two
+byte_written directories bytes two roles p d address v sound live small ok walks is long =
+    let m1 : List ℕ = marked bytes d address Write in
+    let at : ℕ = offset_number address in
+    let slot : Slot = slot_at p address in
+    let S : Spaces = spaces_in directories bytes in
+    let f = found_entry directories bytes roles p d sound live address Write small ok in
+    let first = store_marked directories bytes roles p d address at sound live f in
+    let flags : is_marked (spaces_in directories m1) slot ≡ true =
+    ap (λ T. is_marked T slot) first.spaces ∙ (let set = stored-flags S slot at [] in λ i. set.0 i && set.1 i) in
+    let same : byte_place bytes d address ≡ byte_place m1 d address =
+    ap (λ n. 4096 * n + at) (sym (walk_named bytes d address f.entry.frame Write f.walk) ∙ walk_named m1 d address f.entry.frame Write (walks d address Write ∙ f.walk)) in
+    let put = byte_put directories m1 two roles p d address v first.sound live small (subst IsOk (sym (walks d address Write)) ok) flags (is ∙ ap (λ n. slice_set m1 n (v % 256)) same) long in
+    record {
+      touched = subst (λ T. Touched directories T bytes roles two) (ap (λ T. stored T slot at (v % 256 ∷ [])) first.spaces ∙ stored-none S slot at (v % 256 ∷ []))
+          (touched_then directories _ _ bytes m1 two roles first put.touched);
+      walks = λ a kind l. put.walks a kind l ∙ walks d a kind;
     }

@@ -1,36 +1,27 @@
 -- Accesses that a processor makes by its walk, on what is kept.
-use Rattle.std.proofs.Common.{◌≡◌, ◌+◌, ◌*◌, ◌/◌, ◌%◌, ◌^◌, ◌<◌, ℕ, Bool, true, false, cond, if◌then◌else◌, List, [], ◌∷◌, length, refl, ap, sym, ◌∙◌, subst, arith, inl, inr, Option, Some, None}
-use Rattle.std.specs.Prelude.{◌&&◌, IsOk, Ok, nat_lt, slice_set}
-use Rattle.std.specs.Option.{option_map, unwrap_or}
-use Rattle.std.specs.Result.{is_ok}
-use Rattle.std.proofs.lemmas.Bool.{and_parts}
-use Rattle.std.proofs.lemmas.Bool.Decides.{nat_tests}
-use Rattle.page_words.specs.Addresses.{page_number, offset_number, start_number, second_page}
-use Rattle.page_words.specs.declared.addresses.Size.{Size}
-use Rattle.table_walk.specs.declared.Access.{Access}
-use Rattle.table_walk.specs.declared.Access.TheVariants.{Read, Write}
-use Rattle.table_walk.specs.Walk.{walk_of}
-use Rattle.table_walk.specs.Marks.{marked}
+use Rattle.address_space.proofs.Prelude
+use Prelude.{◌≡◌, ◌+◌, ◌*◌, ◌/◌, ◌%◌, ◌^◌, ◌<◌, ℕ, Bool, true, false, cond, if◌then◌else◌, List, [], ◌∷◌, length, refl}
+use Prelude.{ap, sym, ◌∙◌, subst, arith, inl, inr, Option, Some, None, ◌&&◌, IsOk, Ok, nat_lt, slice_set, option_map}
+use Prelude.{unwrap_or, is_ok, and_parts, nat_tests, page_number, offset_number, start_number, second_page, Size}
+use Prelude.{Access, Read, Write, walk_of, marked, finds_at, finds, byte_place, Image, image_from, directory_at, Slot}
+use Prelude.{slot_order, Cell, Spaces, fresh, with_bytes, set_bytes, write_at, bytes_of, accessed, stored}
+use Prelude.{cell_or_fresh, slot_at, get-insert, get-map_values, same_or_not, directory_of, Touched, AreCountedSpaces}
+use Prelude.{FramesStay, none_goes}
 use Rattle.address_space.specs.declared.Spaces.TheInside.{Inside as Inner}
-use Rattle.address_space.specs.ByWalk.{finds_at, finds, byte_place}
-use Rattle.address_space.specs.Image.{Image, image_from, directory_at}
-use Rattle.address_space.specs.Spaces.{Slot, slot_order, Cell, Spaces, fresh, with_bytes, set_bytes, write_at, bytes_of, accessed, stored, cell_or_fresh, slot_at}
 use Rattle.address_space.specs.Kept.{is_marked, kept_place, written_at}
-use Rattle.page_words.specs.FiniteMap as map
-use Rattle.page_words.specs.FiniteSet as set
-use Rattle.page_words.proofs.MapLemmas.{get-insert, get-map_values, same_or_not}
-use Rattle.address_space.specs.View.{directory_of}
-use Rattle.address_space.specs.Changes.{Touched}
 use Rattle.address_space.proofs.Insides.{AreCountedInside, spaces_at, image_at}
-use Rattle.address_space.specs.Counts.{AreCountedSpaces}
 use Rattle.address_space.proofs.costs.AccessCosts.{kept, key-stored}
 use Rattle.address_space.proofs.standing.Standing.{lazy_kept}
 use Rattle.address_space.proofs.steps.Touches.{kept_touched}
-use Rattle.address_space.proofs.steps.Finding.{found_at, found_mapped}
+use Rattle.address_space.proofs.steps.Finding.{found_at, found_mapped, FoundEach, found_each, found_fits, FoundPages, found_pages, number_is}
 use Rattle.address_space.proofs.steps.FoundPages.{Left}
 use Rattle.address_space.proofs.steps.WalkSteps.{found_entry, load_marked, ByteParts, byte_written, byte_put, walk_named}
-use Rattle.address_space.specs.Stays.{FramesStay, none_goes}
-use Rattle.address_space.proofs.standing.FramesStand.{frames_stay}
+use Rattle.address_space.proofs.standing.FramesStand.{frames_stay, stays_then}
+use Rattle.address_space.specs.ByWalk.{number_found}
+use Rattle.page_words.specs.Addresses.{byte_count, covered, touched, page_and}
+use Rattle.address_space.specs.Spaces.{all_accessed, at_page, number_of}
+use Rattle.page_words.specs.FiniteMap as map
+use Rattle.page_words.specs.FiniteSet as set
 
 -- the walk of the first page, and that of the second where there is one
 pub finds_first : (image : Image) (p address : ℕ) (size : Size) (access : Access) → finds image p address size access ≡ true → finds_at image p access address ≡ true
@@ -41,7 +32,7 @@ finds_second image p address size access page is h =
     sym (ap (λ (x : Option ℕ). unwrap_or (option_map (λ page. finds_at image p access (start_number page)) x) true) is) ∙ (and_parts (finds_at image p access address) _ h).1
 
 -- the words that lead to a page were marked
-pub marked_left : (inner : Inner) (p d address : ℕ) (two : List ℕ) → AreCountedInside inner → directory_of inner.directories p ≡ Some d → address < 2 ^ 32 → IsOk (walk_of inner.memory d address Read)
+marked_left : (inner : Inner) (p d address : ℕ) (two : List ℕ) → AreCountedInside inner → directory_of inner.directories p ≡ Some d → address < 2 ^ 32 → IsOk (walk_of inner.memory d address Read)
     → two ≡ marked inner.memory d address Read → Left inner (accessed (spaces_at inner) (slot_at p address)) two
 marked_left inner p d address two before live small ok is =
     let sound = before.spaces.sound in
@@ -55,6 +46,52 @@ marked_left inner p d address two before live small ok is =
       stay = frames_stay none_goes inner.directories inner.memory two inner.frames inner.frames sound touched.sound
           touched.stay;
     }
+
+-- ---- A load: what its walks find, and what its marks leave
+
+module _ (inner : Inner) (p d address : ℕ) (size : Size) (before : AreCountedInside inner) (live : directory_of inner.directories p ≡ Some d) (test : finds (image_at inner) p address size Read ≡ true) where
+  pub load_each : FoundEach inner.memory d address size Read
+  load_each = found_each inner.directories inner.memory inner.frames p d address size Read before.spaces.sound live test
+
+  pub load_fits : address + byte_count size < 2 ^ 32
+  load_fits = found_fits inner.memory d address size Read load_each
+
+  pub load_value : number_found inner.memory d address size ≡ number_of (spaces_at inner) p (covered address size)
+  load_value = number_is inner.directories inner.memory inner.frames p d address size before.spaces.sound live load_fits load_each.found
+
+  pub load_pages : FoundPages (spaces_at inner) (image_at inner) p address size Read
+  load_pages = found_pages inner.directories inner.memory inner.frames p d address size Read before.spaces.sound live test
+
+  pub load_first : (address < 2 ^ 32) × IsOk (walk_of inner.memory d address Read)
+  load_first = found_at (image_at inner) p d address Read live (finds_first (image_at inner) p address size Read test)
+
+  module _ (one : List ℕ) (is_one : one ≡ marked inner.memory d address Read) where
+    pub first_left : Left inner (accessed (spaces_at inner) (slot_at p address)) one
+    first_left = marked_left inner p d address one before live load_first.0 load_first.1 is_one
+
+    pub alone_left : second_page address size ≡ None → Left inner (all_accessed (spaces_at inner) p (touched address size)) one
+    alone_left none = subst (λ x. Left inner (all_accessed (spaces_at inner) p (page_and (page_number address) x)) one) (sym none) first_left
+
+    -- the second page
+    module _ (page at : ℕ) (is : second_page address size ≡ Some page) (at_is : at ≡ start_number page)
+        (walks : (other a : ℕ) (kind : Access) → walk_of one other a kind ≡ walk_of inner.memory other a kind) where
+      pub load_second : (at < 2 ^ 32) × IsOk (walk_of one d at Read)
+      load_second =
+          let f = found_at (image_at inner) p d (start_number page) Read live (finds_second (image_at inner) p address size Read page is test) in
+          subst (λ a. (a < 2 ^ 32) × IsOk (walk_of one d a Read)) (sym at_is) (f.0, ap is_ok (walks d (start_number page) Read) ∙ f.1)
+
+      pub both_left : (two : List ℕ) → two ≡ marked one d at Read → Left inner (all_accessed (spaces_at inner) p (touched address size)) two
+      both_left two is_two =
+          let middle : Inner = record { memory = one; frames = inner.frames; directories = inner.directories; counts = inner.counts } in
+          let left = marked_left middle p d at two first_left.kept live load_second.0 load_second.1 is_two in
+          let same : page_number at ≡ page = omega (arith, at_is) in
+          record {
+            spaces = left.spaces ∙ (λ i. accessed (first_left.spaces i) (at_page p (same i)))
+                ∙ sym (ap (λ x. all_accessed (spaces_at inner) p (page_and (page_number address) x)) is);
+            kept = left.kept;
+            lazy = λ q. left.lazy q ∙ first_left.lazy q;
+            stay = stays_then first_left.stay left.stay;
+          }
 
 -- ---- A byte stored
 

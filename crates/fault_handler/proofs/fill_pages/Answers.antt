@@ -1,11 +1,7 @@
-use Rattle.std.proofs.Common.{◌≡◌, sym, subst, ◌∙◌, false}
-use Rattle.std.specs.Prelude.{IfSome}
-use Rattle.page_words.specs.Addresses.{page_number}
-use Rattle.address_space.specs.Spaces.{at_page}
-use Rattle.address_space.specs.Image.{is_lazy_at}
-use Rattle.process_table.specs.Image.{memory_of}
-use Rattle.fault_handler.proofs.fill_pages.Goals as goal
+use Rattle.fault_handler.proofs.Prelude.{◌≡◌, sym, subst, ◌∙◌, false, IfSome, page_number, at_page, is_lazy_at}
+use Rattle.fault_handler.proofs.Prelude.{memory_of}
 use Rattle.fault_handler.proofs.Filled.{fills_one, fills_two}
+use Rattle.fault_handler.proofs.fill_pages.Goals as goal
 
 pub returns-in-Some-clause-real : goal.returns-in-Some-clause-real
 returns-in-Some-clause-real c = (

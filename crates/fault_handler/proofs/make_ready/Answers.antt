@@ -1,11 +1,7 @@
-use Rattle.std.proofs.Common.{◌≡◌, sym, subst, ◌∙◌, true}
-use Rattle.page_words.specs.Addresses.{EachTouched}
-use Rattle.address_space.specs.Spaces.{at_page}
-use Rattle.address_space.proofs.costs.MapFirst.{touched-there}
-use Rattle.process_table.specs.State.{State, is_mapped}
+use Rattle.fault_handler.proofs.Prelude.{◌≡◌, sym, subst, ◌∙◌, true, EachTouched, at_page, touched-there, State}
+use Rattle.fault_handler.proofs.Prelude.{is_mapped, stays_then, stays_most}
 use Rattle.fault_handler.proofs.Settled.{first_mapped, second_mapped, complete_real}
 use Rattle.fault_handler.proofs.make_ready.Goals as goal
-use Rattle.address_space.proofs.standing.FramesStand.{stays_then, stays_most}
 
 pub fill_pages-requires-clause-mapped : goal.fill_pages-requires-clause-mapped
 fill_pages-requires-clause-mapped c = subst (λ (t : State). EachTouched c.args.address c.args.size

@@ -1,16 +1,12 @@
+use Rattle.fault_handler.proofs.Prelude.{if◌then◌else◌, no_value, at_page, cost, need, page_is_user, State, is_mapped}
+use Rattle.fault_handler.proofs.Prelude.{maps_page}
 use Rattle.std.proofs.Common.{◌≡◌, ◌∙◌, ◌+◌, refl, ap, not, Some, None, is_ok}
-use Rattle.std.specs.Prelude.{if◌then◌else◌}
-use Rattle.page_words.proofs.OptionLemmas.{no_value}
-use Rattle.page_words.specs.FiniteMap as map
-use Rattle.address_space.specs.Spaces.{at_page, cost, need}
-use Rattle.process_table.proofs.Placed.{page_is_user}
 use Rattle.process_table.proofs.Refusals.{map-charge}
 use Rattle.process_table.proofs.SpaceLaws.{new_fits}
 use Rattle.process_table.specs.Calls.{map_refusal}
-use Rattle.process_table.specs.State.{State, is_mapped}
 use Rattle.process_table.specs.declared.causes.Cause.TheVariants.{BadPage, Mapped, Quota}
-use Rattle.fault_handler.specs.Plans.{maps_page}
 use Rattle.fault_handler.proofs.Settled.{live_with_room}
+use Rattle.page_words.specs.FiniteMap as map
 use Rattle.fault_handler.proofs.map_by_step.Goals as goal
 
 pub map_at-requires-clause-may : goal.map_at-requires-clause-may

@@ -1,13 +1,8 @@
-use Rattle.std.proofs.Common.{◌≡◌, arith, Bool, true, false, not, [], ◌∷◌, ap, sym, subst, ◌∙◌, Option, unwrap_or}
-use Rattle.std.specs.Option.{option_map}
-use Rattle.page_words.specs.Addresses.{page_number}
-use Rattle.page_words.proofs.Accesses.{crosses}
-use Rattle.address_space.specs.Spaces.{at_page, with_page}
-use Rattle.process_table.specs.State.{State, is_mapped, overdrawn}
-use Rattle.fault_handler.specs.Plans.{maps_page}
+use Rattle.fault_handler.proofs.Prelude.{◌≡◌, arith, Bool, true, false, not, [], ◌∷◌, ap, sym, subst, ◌∙◌, Option}
+use Rattle.fault_handler.proofs.Prelude.{unwrap_or, option_map, page_number, crosses, at_page, with_page, State}
+use Rattle.fault_handler.proofs.Prelude.{is_mapped, overdrawn, maps_page, stays_then}
 use Rattle.fault_handler.proofs.Settled.{first_room, second_room, mapped_beside}
 use Rattle.fault_handler.proofs.map_pages.Goals as goal
-use Rattle.address_space.proofs.standing.FramesStand.{stays_then}
 
 pub map_behind-requires-clause-room : goal.map_behind-requires-clause-room
 map_behind-requires-clause-room c =

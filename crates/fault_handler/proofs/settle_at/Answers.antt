@@ -1,14 +1,8 @@
-use Rattle.std.proofs.Common.{◌≡◌, ap, sym, subst, ◌∙◌, true}
-use Rattle.page_words.specs.Addresses.{EachTouched}
-use Rattle.address_space.specs.Spaces.{at_page, cell_or_fresh}
-use Rattle.address_space.proofs.costs.MapFirst.{touched-there}
-use Rattle.table_walk.specs.declared.Access.TheVariants.{Write}
-use Rattle.process_table.specs.Calls.{access_value, after_access}
-use Rattle.process_table.specs.State.{State, is_mapped}
-use Rattle.fault_handler.specs.Plans.{goes_on, step_at}
+use Rattle.fault_handler.proofs.Prelude.{◌≡◌, ap, sym, subst, ◌∙◌, true, EachTouched, at_page, cell_or_fresh}
+use Rattle.fault_handler.proofs.Prelude.{touched-there, Write, access_value, after_access, State, is_mapped, goes_on}
+use Rattle.fault_handler.proofs.Prelude.{step_at, stays_then, stays_most}
 use Rattle.fault_handler.proofs.Settled.{ready, mapped_right, mapped_value, mapped_after}
 use Rattle.fault_handler.proofs.settle_at.Goals as goal
-use Rattle.address_space.proofs.standing.FramesStand.{stays_then, stays_most}
 
 pub access_at-requires-clause-mapped : goal.access_at-requires-clause-mapped
 access_at-requires-clause-mapped c =

@@ -1,6 +1,4 @@
-use Rattle.std.proofs.Common.{◌≡◌, ℕ, ◌*◌, ◌<◌, ◌≤◌, false, is_some}
-use Rattle.phys_memory.specs.Bytes.{frame_bytes}
-use Rattle.page_map.specs.Entries.{entry_at}
+use Rattle.page_map.proofs.Prelude.{◌≡◌, ℕ, ◌*◌, ◌<◌, ◌≤◌, false, is_some, frame_bytes, entry_at}
 use Rattle.page_map.proofs.next_entry.Given as goal
 
 abbrev pub invariant-loop-slot : goal.invariant-loop-slot

@@ -1,5 +1,4 @@
-use Rattle.std.proofs.Common.{inl, inr, arith}
-use Rattle.phys_memory.specs.Bytes.{frame_bytes}
+use Rattle.page_map.proofs.Prelude.{inl, inr, arith, frame_bytes}
 use Rattle.page_map.proofs.PageLemmas.{found_page, none_from}
 use Rattle.page_map.proofs.next_page.Goals as goal
 

@@ -1,6 +1,4 @@
-use Rattle.std.proofs.Common.{◌≡◌, ℕ, ◌<◌, ◌≤◌, false}
-use Rattle.page_words.specs.Words.{is_present}
-use Rattle.phys_memory.specs.Bytes.{frame_bytes, word_in}
+use Rattle.page_map.proofs.Prelude.{◌≡◌, ℕ, ◌<◌, ◌≤◌, false, is_present, frame_bytes, word_in}
 use Rattle.page_map.proofs.next_present.Given as goal
 
 abbrev pub invariant-loop-index : goal.invariant-loop-index

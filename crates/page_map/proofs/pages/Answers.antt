@@ -1,6 +1,4 @@
-use Rattle.std.proofs.Common.{◌≡◌, is_some, sym, ◌∙◌, arith}
-use Rattle.phys_memory.specs.Bytes.{frame_bytes}
-use Rattle.page_map.specs.Entries.{entry_at}
+use Rattle.page_map.proofs.Prelude.{◌≡◌, is_some, sym, ◌∙◌, arith, frame_bytes, entry_at}
 use Rattle.page_map.proofs.PageLemmas.{count_range-zero, count_slot, count_end, len-entries_of}
 use Rattle.page_map.proofs.pages.Goals as goal
 

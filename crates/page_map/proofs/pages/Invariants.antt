@@ -1,7 +1,4 @@
-use Rattle.std.proofs.Common.{◌≡◌, ◌-◌, ◌*◌, ◌≤◌, is_some}
-use Rattle.phys_memory.specs.Bytes.{frame_bytes}
-use Rattle.page_map.specs.Entries.{entry_at}
-use Rattle.page_map.specs.Pages.{count_range}
+use Rattle.page_map.proofs.Prelude.{◌≡◌, ◌-◌, ◌*◌, ◌≤◌, is_some, frame_bytes, entry_at, count_range}
 use Rattle.page_map.proofs.pages.Given as goal
 
 abbrev pub invariant-loop-slot : goal.invariant-loop-slot

@@ -1,5 +1,4 @@
-use Rattle.std.proofs.Common.{sym, ◌∙◌}
-use Rattle.phys_memory.specs.Bytes.{frame_bytes}
+use Rattle.page_map.proofs.Prelude.{sym, ◌∙◌, frame_bytes}
 use Rattle.page_map.proofs.PageLemmas.{count-table, count-no_table}
 use Rattle.page_map.proofs.pages_of_slot.Goals as goal
 

@@ -1,5 +1,4 @@
-use Rattle.std.proofs.Common.{ap, ◌∙◌}
-use Rattle.phys_memory.specs.Bytes.{with_word, frame_bytes}
+use Rattle.page_map.proofs.Prelude.{ap, ◌∙◌, with_word, frame_bytes}
 use Rattle.page_map.proofs.Steps.{word_written}
 use Rattle.page_map.proofs.set_word.Goals as goal
 

@@ -1,7 +1,4 @@
-use Rattle.std.proofs.Common.{ℕ, ap, ◌∙◌}
-use Rattle.std.specs.Prelude.{replicate}
-use Rattle.phys_memory.specs.Bytes.{frame_bytes, with_frame, with_word_in}
-use Rattle.std.proofs.lemmas.List.{length-replicate}
+use Rattle.page_map.proofs.Prelude.{ℕ, ap, ◌∙◌, replicate, frame_bytes, with_frame, with_word_in, length-replicate}
 use Rattle.phys_memory.proofs.Frames.{frames-with_frame_bytes}
 use Rattle.page_map.proofs.Steps.{linked}
 use Rattle.page_map.proofs.store_table.Goals as goal

@@ -1,5 +1,4 @@
-use Rattle.std.proofs.Common.{ap, ◌∙◌}
-use Rattle.phys_memory.specs.Bytes.{word_at}
+use Rattle.page_map.proofs.Prelude.{ap, ◌∙◌, word_at}
 use Rattle.page_map.proofs.Steps.{word_read}
 use Rattle.page_map.proofs.word.Goals as goal
 

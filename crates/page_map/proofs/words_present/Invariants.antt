@@ -1,7 +1,4 @@
-use Rattle.std.proofs.Common.{◌≡◌, ◌≤◌}
-use Rattle.page_words.specs.Words.{is_present}
-use Rattle.phys_memory.specs.Bytes.{frame_bytes, word_in}
-use Rattle.page_map.specs.Pages.{count_range}
+use Rattle.page_map.proofs.Prelude.{◌≡◌, ◌≤◌, is_present, frame_bytes, word_in, count_range}
 use Rattle.page_map.proofs.words_present.Given as goal
 
 abbrev pub invariant-loop-index : goal.invariant-loop-index

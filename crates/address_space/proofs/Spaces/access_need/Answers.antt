@@ -1,9 +1,5 @@
-use Rattle.std.proofs.Common.{◌≡◌, ◌+◌, ap, sym, subst, ◌∙◌, arith, Some}
-use Rattle.std.specs.Prelude.{is_some, IfSome}
-use Rattle.page_words.specs.Addresses.{second_page, IsUserPage}
-use Rattle.page_words.proofs.Accesses.{crosses}
-use Rattle.address_space.specs.Places.{found_of, need_of}
-use Rattle.address_space.specs.Spaces.{page_need, with_page}
+use Rattle.address_space.proofs.Prelude.{◌≡◌, ◌+◌, ap, sym, subst, ◌∙◌, arith, Some, is_some, IfSome, second_page}
+use Rattle.address_space.proofs.Prelude.{IsUserPage, crosses, found_of, need_of, page_need, with_page}
 use Rattle.address_space.proofs.costs.AccessNeeds.{need-in_two, page_need_at, second_need_at}
 use Rattle.address_space.proofs.Spaces.access_need.Goals as goal
 

@@ -1,14 +1,16 @@
-use Rattle.std.proofs.Common.{ap, sym, ◌∙◌, arith}
-use Rattle.std.specs.Prelude.{is_some, slice_index}
-use Rattle.page_words.specs.Addresses.{page_number, offset_number}
-use Rattle.page_words.proofs.OptionLemmas.{no_value}
-use Rattle.address_space.specs.Spaces.{Cell, slot_at}
-use Rattle.address_space.proofs.steps.Looks.{zero_byte}
+use Rattle.address_space.proofs.Prelude.{ap, sym, ◌∙◌, arith, is_some, slice_index, page_number, offset_number}
+use Rattle.address_space.proofs.Prelude.{no_value, Cell, slot_at, found_of, ◌≡◌, ℕ, ◌<◌, Option, None, unwrap_or, true}
+use Rattle.address_space.proofs.Prelude.{Slot, Spaces, cell_or_fresh, fresh}
 use Rattle.address_space.proofs.steps.FoundPages.{found_mapped, found_lies, found_cell}
 use Rattle.address_space.proofs.steps.Placing.{place_found}
-use Rattle.address_space.specs.Places.{found_of}
 use Rattle.address_space.proofs.Insides.{spaces_at}
+use Rattle.std.proofs.lemmas.List.{get_or-replicate}
 use Rattle.address_space.proofs.Spaces.byte_at.Goals as goal
+use Rattle.page_words.specs.FiniteMap as map
+
+-- a byte of a page that isn't mapped
+zero_byte : (S : Spaces) (slot : Slot) (at : ℕ) → map.get S slot ≡ None → at < 4096 → slice_index (cell_or_fresh S slot).bytes at ≡ 0
+zero_byte S slot at none l = ap (λ (x : Option Cell). slice_index (unwrap_or x (fresh slot true)).bytes at) none ∙ get_or-replicate 4096 at 0 0 l
 
 pub byte_of-requires-clause-frame : goal.byte_of-requires-clause-frame
 byte_of-requires-clause-frame c = (found_lies c.self.inside c.args.pid (page_number c.args.address) c.in-Some.found c.self.invariant c.requires.user (sym (place_found c.self.inside c.args.pid (page_number c.args.address)) ∙ ap found_of (sym (rw (← c.self.view_is) at c.requires.place)) ∙ sym c.found.ensures ∙ c.in-Some.is)).frame

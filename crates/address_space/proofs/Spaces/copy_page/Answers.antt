@@ -1,4 +1,5 @@
 use Rattle.std.proofs.Common.{◌+◌, ◌*◌, ◌≤◌, sym, subst}
+use Rattle.address_space.proofs.Prelude.{SlotCopied}
 use Rattle.address_space.proofs.steps.Steps.{page_map_of}
 use Rattle.address_space.proofs.steps.Stores.{named_inside}
 use Rattle.address_space.proofs.steps.NewPages.{table_room, ready_inside, ready_count, ready_fits, ready_lies, ready_free, copy_added, copy_more, copy_alike, copy_whole, copy_linked, added_kept}
@@ -49,25 +50,24 @@ returns-clause-copied c =
     copy_whole c.self.inside.directories c.self.inside.memory c.self.inside.frames c.args.to c.args.target c.args.page c.give_table-table.result c.give_table-table.new.memory c.give_table-table.new.frames c.self.invariant.spaces c.requires.user (rw (← c.self.view_is) at c.requires.target)
     c.give_table-table.ensures from source c.args.entry c.copy_of-copy.result c.copy_of-copy.new.memory c.put_entry.new.memory c.copy_of-copy.new.frames live here (rw (← c.self.view_is) at c.requires.unmapped) c.copy_of-copy.ensures.copied (rw (← c.self.view_is) at c.requires.room) added)
 
-pub returns-clause-table : goal.returns-clause-table
-returns-clause-table c =
-    let added =
+-- what is left for the process that has the entry
+added : (c : goal.After-put_entry) → SlotCopied c.self.inside.directories (rw (← c.self.view_is) at c.requires.entry).process c.args.to c.args.page c.give_table-table.new.memory c.give_table-table.new.frames c.put_entry.new.memory c.copy_of-copy.new.frames
+added c =
     copy_added c.self.inside.directories c.self.inside.memory c.self.inside.frames c.args.to c.args.target c.args.page c.give_table-table.result c.give_table-table.new.memory c.give_table-table.new.frames c.self.invariant.spaces c.requires.user (rw (← c.self.view_is) at c.requires.target)
     c.give_table-table.ensures (rw (← c.self.view_is) at c.requires.entry).process (rw (← c.self.view_is) at c.requires.entry).directory c.args.entry c.copy_of-copy.result c.copy_of-copy.new.memory c.put_entry.new.memory c.copy_of-copy.new.frames (rw (← c.self.view_is) at c.requires.entry).live (rw (← c.self.view_is) at c.requires.entry).entry (rw (← c.self.view_is) at c.requires.unmapped) c.copy_of-copy.ensures.copied
-    c.put_entry.ensures.frames c.put_entry.ensures.length in
+    c.put_entry.ensures.frames c.put_entry.ensures.length
+
+pub returns-clause-table : goal.returns-clause-table
+returns-clause-table c =
     copy_linked c.self.inside.directories c.self.inside.memory c.self.inside.frames c.args.to c.args.target c.args.page c.give_table-table.result c.give_table-table.new.memory c.give_table-table.new.frames c.self.invariant.spaces c.requires.user (rw (← c.self.view_is) at c.requires.target)
-    c.give_table-table.ensures (rw (← c.self.view_is) at c.requires.entry).process (rw (← c.self.view_is) at c.requires.entry).directory c.args.entry c.copy_of-copy.result c.copy_of-copy.new.memory c.put_entry.new.memory c.copy_of-copy.new.frames (rw (← c.self.view_is) at c.requires.entry).live (rw (← c.self.view_is) at c.requires.entry).entry (rw (← c.self.view_is) at c.requires.unmapped) c.copy_of-copy.ensures.copied added
+    c.give_table-table.ensures (rw (← c.self.view_is) at c.requires.entry).process (rw (← c.self.view_is) at c.requires.entry).directory c.args.entry c.copy_of-copy.result c.copy_of-copy.new.memory c.put_entry.new.memory c.copy_of-copy.new.frames (rw (← c.self.view_is) at c.requires.entry).live (rw (← c.self.view_is) at c.requires.entry).entry (rw (← c.self.view_is) at c.requires.unmapped) c.copy_of-copy.ensures.copied (added c)
 
 pub invariant_of-self : goal.invariant_of-self
 invariant_of-self c =
-    let added =
-    copy_added c.self.inside.directories c.self.inside.memory c.self.inside.frames c.args.to c.args.target c.args.page c.give_table-table.result c.give_table-table.new.memory c.give_table-table.new.frames c.self.invariant.spaces c.requires.user (rw (← c.self.view_is) at c.requires.target)
-    c.give_table-table.ensures (rw (← c.self.view_is) at c.requires.entry).process (rw (← c.self.view_is) at c.requires.entry).directory c.args.entry c.copy_of-copy.result c.copy_of-copy.new.memory c.put_entry.new.memory c.copy_of-copy.new.frames (rw (← c.self.view_is) at c.requires.entry).live (rw (← c.self.view_is) at c.requires.entry).entry (rw (← c.self.view_is) at c.requires.unmapped) c.copy_of-copy.ensures.copied
-    c.put_entry.ensures.frames c.put_entry.ensures.length in
     added_kept c.self.inside.directories c.self.inside.memory c.self.inside.frames c.args.to c.args.target c.args.page c.give_table-table.result c.give_table-table.new.memory c.give_table-table.new.frames c.self.invariant.spaces c.requires.user (rw (← c.self.view_is) at c.requires.target)
-    c.give_table-table.ensures c.self.inside.counts.items c.self.invariant.counted c.put_entry.new.memory c.count_page.new.counts.items c.copy_of-copy.new.frames (rw (← c.self.view_is) at c.requires.room) added.slot
+    c.give_table-table.ensures c.self.inside.counts.items c.self.invariant.counted c.put_entry.new.memory c.count_page.new.counts.items c.copy_of-copy.new.frames (rw (← c.self.view_is) at c.requires.room) (added c).slot
     (copy_more c.self.inside.directories c.self.inside.memory c.self.inside.frames c.args.to c.args.target c.args.page c.give_table-table.result c.give_table-table.new.memory c.give_table-table.new.frames c.self.invariant.spaces c.requires.user (rw (← c.self.view_is) at c.requires.target)
-    c.give_table-table.ensures (rw (← c.self.view_is) at c.requires.entry).process (rw (← c.self.view_is) at c.requires.entry).directory c.args.entry c.copy_of-copy.result c.copy_of-copy.new.memory c.put_entry.new.memory c.copy_of-copy.new.frames (rw (← c.self.view_is) at c.requires.entry).live (rw (← c.self.view_is) at c.requires.entry).entry (rw (← c.self.view_is) at c.requires.unmapped) c.copy_of-copy.ensures.copied added)
+    c.give_table-table.ensures (rw (← c.self.view_is) at c.requires.entry).process (rw (← c.self.view_is) at c.requires.entry).directory c.args.entry c.copy_of-copy.result c.copy_of-copy.new.memory c.put_entry.new.memory c.copy_of-copy.new.frames (rw (← c.self.view_is) at c.requires.entry).live (rw (← c.self.view_is) at c.requires.entry).entry (rw (← c.self.view_is) at c.requires.unmapped) c.copy_of-copy.ensures.copied (added c))
     (copy_alike c.self.inside.directories c.self.inside.memory c.self.inside.frames c.args.to c.args.target c.args.page c.give_table-table.result c.give_table-table.new.memory c.give_table-table.new.frames c.self.invariant.spaces c.requires.user (rw (← c.self.view_is) at c.requires.target)
     c.give_table-table.ensures (rw (← c.self.view_is) at c.requires.entry).process (rw (← c.self.view_is) at c.requires.entry).directory c.args.entry c.copy_of-copy.result c.copy_of-copy.new.memory c.put_entry.new.memory c.copy_of-copy.new.frames (rw (← c.self.view_is) at c.requires.entry).live (rw (← c.self.view_is) at c.requires.entry).entry (rw (← c.self.view_is) at c.requires.unmapped) c.copy_of-copy.ensures.copied)
     c.count_page.ensures

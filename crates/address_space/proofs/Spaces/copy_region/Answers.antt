@@ -1,15 +1,10 @@
-use Rattle.std.proofs.Common.{◌≡◌, ◌+◌, ◌*◌, ◌<◌, ◌≤◌, ◌∙◌, ℕ, List, length, Option, Some, ap, sym, subst, refl, arith}
-use Rattle.page_words.specs.Addresses.{slot_number}
-use Rattle.page_words.specs.FiniteMap as map
-use Rattle.phys_memory.specs.Bytes.{frame_bytes}
-use Rattle.alloc_table.specs.declared.Role.{Role}
-use Rattle.page_map.specs.Entries.{table_of}
-use Rattle.address_space.specs.Spaces.{Spaces, at_page}
-use Rattle.address_space.specs.View.{View, directory_of, spaces_in}
-use Rattle.address_space.specs.Changes.{PageCopied, CopyIn, words_left}
+use Rattle.address_space.proofs.Prelude.{◌≡◌, ◌+◌, ◌*◌, ◌<◌, ◌≤◌, ◌∙◌, ℕ, List, length, Option, Some, ap, sym, subst}
+use Rattle.address_space.proofs.Prelude.{refl, arith, slot_number, frame_bytes, Role, table_of, Spaces, at_page, View}
+use Rattle.address_space.proofs.Prelude.{directory_of, spaces_in, PageCopied, CopyIn, words_left}
 use Rattle.address_space.proofs.costs.Costed.{Room}
 use Rattle.address_space.proofs.steps.Steps.{page_map_of}
 use Rattle.address_space.proofs.steps.RegionCopies.{region_there, region_words, no_table_there, copy_passed, copy_entry, copy_unmapped, copy_room, copy_stepped, words_kept}
+use Rattle.page_words.specs.FiniteMap as map
 use Rattle.address_space.proofs.Spaces.copy_region.Goals as goal
 
 pub count_at-left-requires : goal.count_at-left-requires

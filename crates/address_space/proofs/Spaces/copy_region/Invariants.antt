@@ -1,8 +1,4 @@
-use Rattle.std.specs.Prelude.{◌≡◌, ◌≤◌, ◌-◌, ℕ, List}
-use Rattle.phys_memory.specs.Bytes.{frame_bytes}
-use Rattle.alloc_table.specs.declared.Role.{Role}
-use Rattle.page_map.specs.Entries.{table_of}
-use Rattle.address_space.specs.Changes.{CopyIn, words_left}
+use Rattle.address_space.proofs.Prelude.{◌≡◌, ◌≤◌, ◌-◌, ℕ, List, frame_bytes, Role, table_of, CopyIn, words_left}
 use Rattle.address_space.proofs.Spaces.copy_region.Given as goal
 
 abbrev pub invariant-loop-listed : goal.invariant-loop-listed

@@ -1,10 +1,6 @@
-use Rattle.std.proofs.Common.{◌≡◌, ◌<◌, ◌≤◌, ◌∙◌, ℕ, List, Option, Some, None, ap, sym, subst, refl}
-use Rattle.phys_memory.specs.Bytes.{frame_bytes}
-use Rattle.page_map.specs.Entries.{table_of, is_lazy_entry, IsPageMap}
-use Rattle.address_space.specs.Spaces.{at_page}
-use Rattle.address_space.specs.Stays.{none_goes, FramesStay}
-use Rattle.address_space.specs.View.{View, directory_of, entry_in, spaces_in}
-use Rattle.address_space.specs.Sound.{IsSound}
+use Rattle.address_space.proofs.Prelude.{◌≡◌, ◌<◌, ◌≤◌, ◌∙◌, ℕ, List, Option, Some, None, ap, sym, subst, refl}
+use Rattle.address_space.proofs.Prelude.{frame_bytes, table_of, is_lazy_entry, IsPageMap, at_page, none_goes}
+use Rattle.address_space.proofs.Prelude.{FramesStay, View, directory_of, entry_in, spaces_in, IsSound, image_from}
 use Rattle.address_space.specs.Changes.{IsCopying, CopyIn}
 use Rattle.address_space.proofs.standing.FramesStand.{frames_stay}
 use Rattle.address_space.proofs.standing.Standing.{same_lazy}
@@ -12,7 +8,6 @@ use Rattle.address_space.proofs.steps.Steps.{page_map_of}
 use Rattle.address_space.proofs.steps.Copies.{copied_at_first}
 use Rattle.address_space.proofs.steps.RegionCopies.{region_begun, region_ended, regions_copied}
 use Rattle.address_space.proofs.Spaces.copy_space.Goals as goal
-use Rattle.address_space.specs.Image.{image_from}
 
 pub loop-region-init : goal.loop-region-init
 loop-region-init c =

@@ -1,5 +1,4 @@
-use Rattle.std.specs.Prelude.{◌≡◌, ◌*◌, ◌-◌}
-use Rattle.address_space.specs.Changes.{CopiedBelow}
+use Rattle.address_space.proofs.Prelude.{◌≡◌, ◌*◌, ◌-◌, CopiedBelow}
 use Rattle.address_space.proofs.Spaces.copy_space.Given as goal
 
 abbrev pub invariant-loop-region : goal.invariant-loop-region

@@ -1,71 +1,43 @@
-use Rattle.std.proofs.Common.{◌≡◌, ◌∙◌, sym, subst, refl, true, false}
-use Rattle.alloc_table.specs.declared.Role.TheVariants.{Directory}
-use Rattle.address_space.specs.Changes.{DirectoryDropped}
-use Rattle.phys_memory.specs.Bytes.{frame_bytes}
+use Rattle.address_space.proofs.Prelude.{◌≡◌, ◌∙◌, sym, subst, refl, true, false, Directory, DirectoryDropped}
+use Rattle.address_space.proofs.Prelude.{frame_bytes, directory_of, spaces_in, eq-eqb}
 use Rattle.address_space.specs.Stays.{none_goes, of_process}
-use Rattle.address_space.specs.View.{directory_of, spaces_in}
 use Rattle.address_space.proofs.entries.Staying.{places_more}
 use Rattle.address_space.proofs.standing.FramesStand.{frames_stay_by}
 use Rattle.address_space.proofs.steps.CountSteps.{counts_kept, alike_released}
 use Rattle.address_space.proofs.steps.Departures.{directory_removed}
-use borrow.Author.Tests.{eq-eqb}
+use Rattle.address_space.proofs.steps.LooseFrames.{loose_released}
 use Rattle.address_space.proofs.Spaces.drop_directory.Goals as goal
 
 pub release-requires : goal.release-requires
 release-requires c =
     record { role = Directory c.args.pid; is = c.self.invariant.spaces.sound.tables.directory c.args.pid c.args.directory (rw (← c.self.view_is) at c.requires.live); in_use = refl }
 
-pub returns-clause-spaces : goal.returns-clause-spaces
-returns-clause-spaces c =
-    rw (← c.self.view_is)
-    (let dropped =
+dropped : (c : goal.After-forget) → DirectoryDropped c.self.inside.directories c.args.pid c.self.inside.memory c.self.inside.frames c.forget.new.directories c.release.new.self
+dropped c =
     subst (λ l. DirectoryDropped c.self.inside.directories c.args.pid c.self.inside.memory c.self.inside.frames l c.release.new.self) (sym c.forget.ensures)
-    (directory_removed c.self.inside.directories c.self.inside.memory c.self.inside.frames c.release.new.self c.args.pid c.args.directory c.self.invariant.spaces (rw (← c.self.view_is) at c.requires.live) (rw (← c.self.view_is) at c.requires.empty) c.release.ensures.role) in
-    dropped.spaces)
+    (directory_removed c.self.inside.directories c.self.inside.memory c.self.inside.frames c.release.new.self c.args.pid c.args.directory c.self.invariant.spaces (rw (← c.self.view_is) at c.requires.live) (rw (← c.self.view_is) at c.requires.empty) c.release.ensures.role)
 
-pub returns-clause-none : goal.returns-clause-none
-returns-clause-none c =
-    (let dropped =
-    subst (λ l. DirectoryDropped c.self.inside.directories c.args.pid c.self.inside.memory c.self.inside.frames l c.release.new.self) (sym c.forget.ensures)
-    (directory_removed c.self.inside.directories c.self.inside.memory c.self.inside.frames c.release.new.self c.args.pid c.args.directory c.self.invariant.spaces (rw (← c.self.view_is) at c.requires.live) (rw (← c.self.view_is) at c.requires.empty) c.release.ensures.role) in
-    dropped.none)
-
-pub returns-clause-others : goal.returns-clause-others
-returns-clause-others c =
-    rw (← c.self.view_is)
-    (let dropped =
-    subst (λ l. DirectoryDropped c.self.inside.directories c.args.pid c.self.inside.memory c.self.inside.frames l c.release.new.self) (sym c.forget.ensures)
-    (directory_removed c.self.inside.directories c.self.inside.memory c.self.inside.frames c.release.new.self c.args.pid c.args.directory c.self.invariant.spaces (rw (← c.self.view_is) at c.requires.live) (rw (← c.self.view_is) at c.requires.empty) c.release.ensures.role) in
-    dropped.others)
-
-pub returns-clause-frames : goal.returns-clause-frames
-returns-clause-frames c =
-    rw (← c.self.view_is)
-    (let dropped =
-    subst (λ l. DirectoryDropped c.self.inside.directories c.args.pid c.self.inside.memory c.self.inside.frames l c.release.new.self) (sym c.forget.ensures)
-    (directory_removed c.self.inside.directories c.self.inside.memory c.self.inside.frames c.release.new.self c.args.pid c.args.directory c.self.invariant.spaces (rw (← c.self.view_is) at c.requires.live) (rw (← c.self.view_is) at c.requires.empty) c.release.ensures.role) in
-    dropped.length)
-
-pub returns-clause-stay : goal.returns-clause-stay
-returns-clause-stay c =
-    rw (← c.self.view_is)
-    (let dropped =
-    subst (λ l. DirectoryDropped c.self.inside.directories c.args.pid c.self.inside.memory c.self.inside.frames l c.release.new.self) (sym c.forget.ensures)
-    (directory_removed c.self.inside.directories c.self.inside.memory c.self.inside.frames c.release.new.self c.args.pid c.args.directory c.self.invariant.spaces (rw (← c.self.view_is) at c.requires.live) (rw (← c.self.view_is) at c.requires.empty) c.release.ensures.role) in
-    frames_stay_by (of_process c.args.pid) c.self.inside.directories c.forget.new.directories c.self.inside.memory c.self.inside.memory c.self.inside.frames c.release.new.self c.self.invariant.spaces.sound dropped.after.sound
-    (λ q d f stays live. dropped.others q.pid (λ e. let k : true ≡ false = sym (eq-eqb q.pid c.args.pid e) ∙ stays in cc) ∙ live)
-    (places_more (of_process c.args.pid) none_goes (directory_of c.self.inside.directories) (frame_bytes c.self.inside.memory)
-    (directory_of c.forget.new.directories) (frame_bytes c.self.inside.memory) (λ q f stays. refl) dropped.stay))
+pub returns : goal.returns
+returns c = record {
+  spaces = rw (← c.self.view_is) ((dropped c).spaces);
+  none = (dropped c).none;
+  others = rw (← c.self.view_is) ((dropped c).others);
+  frames = rw (← c.self.view_is) ((dropped c).length);
+  stay = rw (← c.self.view_is)
+      (frames_stay_by (of_process c.args.pid) c.self.inside.directories c.forget.new.directories c.self.inside.memory c.self.inside.memory c.self.inside.frames c.release.new.self c.self.invariant.spaces.sound (dropped c).after.sound
+      (λ q d f stays live. (dropped c).others q.pid (λ e. let k : true ≡ false = sym (eq-eqb q.pid c.args.pid e) ∙ stays in cc) ∙ live)
+      (places_more (of_process c.args.pid) none_goes (directory_of c.self.inside.directories) (frame_bytes c.self.inside.memory)
+      (directory_of c.forget.new.directories) (frame_bytes c.self.inside.memory) (λ q f stays. refl) (dropped c).stay));
+  loose = rw (← c.self.view_is)
+      (loose_released c.self.inside.directories c.forget.new.directories c.self.inside.memory c.self.inside.frames c.release.new.self c.args.directory c.release.ensures.role);
+}
 
 pub invariant_of-self : goal.invariant_of-self
 invariant_of-self c =
-    let dropped =
-    subst (λ l. DirectoryDropped c.self.inside.directories c.args.pid c.self.inside.memory c.self.inside.frames l c.release.new.self) (sym c.forget.ensures)
-    (directory_removed c.self.inside.directories c.self.inside.memory c.self.inside.frames c.release.new.self c.args.pid c.args.directory c.self.invariant.spaces (rw (← c.self.view_is) at c.requires.live) (rw (← c.self.view_is) at c.requires.empty) c.release.ensures.role) in
     let S = spaces_in c.self.inside.directories c.self.inside.memory in
     record {
-      spaces = dropped.after;
-      counted = counts_kept S (spaces_in c.forget.new.directories c.self.inside.memory) c.self.inside.frames c.release.new.self dropped.spaces
+      spaces = (dropped c).after;
+      counted = counts_kept S (spaces_in c.forget.new.directories c.self.inside.memory) c.self.inside.frames c.release.new.self (dropped c).spaces
           (alike_released S c.self.inside.frames c.release.new.self c.args.directory (Directory c.args.pid) c.release.ensures.role
           (c.self.invariant.spaces.sound.tables.directory c.args.pid c.args.directory (rw (← c.self.view_is) at c.requires.live)) refl)
           c.self.inside.counts.items c.self.invariant.counted;

@@ -1,8 +1,5 @@
-use Rattle.std.proofs.Common.{◌≡◌, ◌+◌, ◌*◌, ◌∙◌, ℕ, List, Option, Some, ap, sym, subst, arith}
-use Rattle.phys_memory.specs.Bytes.{frame_bytes}
-use Rattle.page_map.specs.Entries.{table_of}
-use Rattle.address_space.specs.View.{View, directory_of}
-use Rattle.address_space.specs.Changes.{DroppedBelow}
+use Rattle.address_space.proofs.Prelude.{◌≡◌, ◌+◌, ◌*◌, ◌∙◌, ℕ, List, Option, Some, ap, sym, subst, arith, frame_bytes}
+use Rattle.address_space.proofs.Prelude.{table_of, View, directory_of, DroppedBelow}
 use Rattle.address_space.proofs.steps.Steps.{page_map_of}
 use Rattle.address_space.proofs.steps.Departures.{dropped_at_first, dropped_at_last}
 use Rattle.address_space.proofs.steps.RegionDrops.{regions_passed}
@@ -54,3 +51,6 @@ returns-clause-empty c =
 
 pub returns-clause-stay : goal.returns-clause-stay
 returns-clause-stay c = c.loop-region.invariant.stay
+
+pub returns-clause-loose : goal.returns-clause-loose
+returns-clause-loose c = c.loop-region.invariant.loose

@@ -1,5 +1,4 @@
-use Rattle.std.specs.Prelude.{◌-◌, ◌*◌}
-use Rattle.address_space.specs.Changes.{DroppedBelow}
+use Rattle.address_space.proofs.Prelude.{◌-◌, ◌*◌, DroppedBelow}
 use Rattle.address_space.proofs.Spaces.drop_pages.Given as goal
 
 abbrev pub invariant-loop-region : goal.invariant-loop-region

@@ -1,8 +1,6 @@
-use Rattle.std.proofs.Common.{◌≡◌, ◌+◌, ◌*◌, ◌<◌, ◌≤◌, ◌∙◌, ℕ, List, length, Option, Some, ap, sym, subst, refl, inl, arith}
-use Rattle.phys_memory.specs.Bytes.{frame_bytes, word_in}
-use Rattle.page_map.specs.Entries.{word_entry}
-use Rattle.address_space.specs.View.{View, directory_of}
-use Rattle.address_space.specs.Changes.{DroppedBelow, words_left}
+use Rattle.address_space.proofs.Prelude.{◌≡◌, ◌+◌, ◌*◌, ◌<◌, ◌≤◌, ◌∙◌, ℕ, List, length, Option, Some, ap, sym, subst}
+use Rattle.address_space.proofs.Prelude.{refl, inl, arith, frame_bytes, word_in, word_entry, View, directory_of}
+use Rattle.address_space.proofs.Prelude.{DroppedBelow, words_left}
 use Rattle.address_space.proofs.steps.Departures.{dropped_next}
 use Rattle.address_space.proofs.steps.RegionCopies.{region_there, region_words}
 use Rattle.address_space.proofs.steps.RegionDrops.{RegionLeft, left_linked, left_next, listed_found, region_passed}
@@ -68,7 +66,7 @@ loop-listed-preserved c =
           let next : 1024 * c.args.slot + c.in-Some.listed.index + 1 ≡ 1024 * c.args.slot + (c.in-Some.listed.index + 1) = omega arith in
           subst (λ n. DroppedBelow v c.args.pid n c.unmap_found.new.self) next
           (dropped_next v c.loop-listed.self c.unmap_found.new.self c.args.pid (1024 * c.args.slot + c.in-Some.listed.index) (subst (λ (w : View). DroppedBelow v c.args.pid (1024 * c.args.slot + c.in-Some.listed.index) w) c.self-in-loop-listed.view_is passed)
-          (omega (arith, c.requires.high, up.1)) c.unmap_found.ensures.spaces c.unmap_found.ensures.stay c.unmap_found.ensures.directories c.unmap_found.ensures.frames);
+          (omega (arith, c.requires.high, up.1)) c.unmap_found.ensures.spaces c.unmap_found.ensures.stay c.unmap_found.ensures.loose c.unmap_found.ensures.directories c.unmap_found.ensures.frames);
       same = c.unmap_found.ensures.directories ∙ c.loop-listed.invariant.same;
       left = left_next c.loop-listed.invariant.left up.1 some c.unmap_found.ensures.words;
       inside = subst (λ n. 4096 * c.args.table + 4096 ≤ n) (sym c.unmap_found.ensures.long) c.loop-listed.invariant.inside;

@@ -1,6 +1,4 @@
-use Rattle.std.specs.Prelude.{◌≡◌, ◌≤◌, ◌+◌, ◌-◌, ◌*◌, length}
-use Rattle.address_space.specs.View.{View}
-use Rattle.address_space.specs.Changes.{DroppedBelow}
+use Rattle.address_space.proofs.Prelude.{◌≡◌, ◌≤◌, ◌+◌, ◌-◌, ◌*◌, length, View, DroppedBelow}
 use Rattle.address_space.proofs.steps.RegionDrops.{RegionLeft}
 use Rattle.address_space.proofs.Spaces.drop_region.Given as goal
 

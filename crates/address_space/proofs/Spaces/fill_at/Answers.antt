@@ -1,6 +1,4 @@
-use Rattle.std.proofs.Common.{ap, sym, ◌∙◌}
-use Rattle.std.specs.Prelude.{is_some}
-use Rattle.address_space.specs.Finds.{lazy_found}
+use Rattle.address_space.proofs.Prelude.{ap, sym, ◌∙◌, is_some, lazy_found}
 use Rattle.address_space.specs.Places.{found_of, lazy_place}
 use Rattle.address_space.proofs.steps.Placing.{place_found, place_mapped}
 use Rattle.address_space.proofs.steps.FoundPages.{found_lies, room_found, found_filled, filled_kept, filled_real, filled_others, filled_stay, filled_found}

@@ -1,10 +1,5 @@
-use Rattle.std.proofs.Common.{◌≡◌, ◌<◌, ◌∙◌, ap, refl, sym, subst, None, Some, arith}
-use Rattle.std.specs.Prelude.{slice_set}
-use Rattle.alloc_table.specs.declared.Role.TheVariants.{Free, Directory}
-use Rattle.address_space.specs.Changes.{SpaceAdded}
-use Rattle.page_map.specs.Entries.{is_lazy_entry}
-use Rattle.address_space.specs.Stays.{none_goes}
-use Rattle.address_space.specs.View.{directory_of, spaces_in}
+use Rattle.address_space.proofs.Prelude.{◌≡◌, ◌<◌, ◌∙◌, ap, refl, sym, subst, None, Some, arith, slice_set, Free}
+use Rattle.address_space.proofs.Prelude.{Directory, SpaceAdded, is_lazy_entry, none_goes, directory_of, spaces_in}
 use Rattle.address_space.proofs.standing.FramesStand.{frames_stay_by}
 use Rattle.address_space.proofs.standing.Standing.{same_lazy}
 use Rattle.address_space.proofs.steps.CountSteps.{counts_kept, alike_taken}
@@ -21,98 +16,38 @@ zero_frame-requires c =
     let f = (inside c.self.inside.directories c.self.inside.memory c.self.inside.frames c.take-directory.result Free c.self.invariant.spaces.sound c.take-directory.ensures.was_free).fits in
     omega (arith, f)
 
-pub returns-clause-spaces : goal.returns-clause-spaces
-returns-clause-spaces c =
-    rw (← c.self.view_is)
-    (let at = inside c.self.inside.directories c.self.inside.memory c.self.inside.frames c.take-directory.result Free c.self.invariant.spaces.sound c.take-directory.ensures.was_free in
-    let added =
+-- what is left, with the blank directory
+added : (c : goal.After-index-self-number) → SpaceAdded c.self.inside.directories c.args.pid c.self.inside.memory c.self.inside.frames (slice_set c.self.inside.directories c.number.result (Some c.take-directory.result)) c.zero_frame.new.self c.take-directory.new.frames
+added c =
+    let at = inside c.self.inside.directories c.self.inside.memory c.self.inside.frames c.take-directory.result Free c.self.invariant.spaces.sound c.take-directory.ensures.was_free in
     subst (λ k. SpaceAdded c.self.inside.directories c.args.pid c.self.inside.memory c.self.inside.frames (slice_set c.self.inside.directories k (Some c.take-directory.result)) c.zero_frame.new.self c.take-directory.new.frames) (sym c.number.ensures.value)
     (space_added c.self.inside.directories c.self.inside.memory c.zero_frame.new.self c.self.inside.frames c.take-directory.new.frames c.args.pid c.take-directory.result
     c.self.invariant.spaces (subst (λ k. k < 64) c.number.ensures.value c.number.ensures.bound) (rw (← c.self.view_is) at c.requires.none) (rw (← c.self.view_is) at c.requires.room) c.take-directory.ensures
-    (zeroed c.self.inside.memory c.zero_frame.new.self c.take-directory.result at c.zero_frame.ensures.bytes) c.zero_frame.ensures.length) in
-    added.spaces)
-
-pub returns-clause-costs : goal.returns-clause-costs
-returns-clause-costs c =
-    rw (← c.self.view_is)
-    (let at = inside c.self.inside.directories c.self.inside.memory c.self.inside.frames c.take-directory.result Free c.self.invariant.spaces.sound c.take-directory.ensures.was_free in
-    let added =
-    subst (λ k. SpaceAdded c.self.inside.directories c.args.pid c.self.inside.memory c.self.inside.frames (slice_set c.self.inside.directories k (Some c.take-directory.result)) c.zero_frame.new.self c.take-directory.new.frames) (sym c.number.ensures.value)
-    (space_added c.self.inside.directories c.self.inside.memory c.zero_frame.new.self c.self.inside.frames c.take-directory.new.frames c.args.pid c.take-directory.result
-    c.self.invariant.spaces (subst (λ k. k < 64) c.number.ensures.value c.number.ensures.bound) (rw (← c.self.view_is) at c.requires.none) (rw (← c.self.view_is) at c.requires.room) c.take-directory.ensures
-    (zeroed c.self.inside.memory c.zero_frame.new.self c.take-directory.result at c.zero_frame.ensures.bytes) c.zero_frame.ensures.length) in
-    added.cost)
-
-pub returns-clause-live : goal.returns-clause-live
-returns-clause-live c =
-    (let at = inside c.self.inside.directories c.self.inside.memory c.self.inside.frames c.take-directory.result Free c.self.invariant.spaces.sound c.take-directory.ensures.was_free in
-    let added =
-    subst (λ k. SpaceAdded c.self.inside.directories c.args.pid c.self.inside.memory c.self.inside.frames (slice_set c.self.inside.directories k (Some c.take-directory.result)) c.zero_frame.new.self c.take-directory.new.frames) (sym c.number.ensures.value)
-    (space_added c.self.inside.directories c.self.inside.memory c.zero_frame.new.self c.self.inside.frames c.take-directory.new.frames c.args.pid c.take-directory.result
-    c.self.invariant.spaces (subst (λ k. k < 64) c.number.ensures.value c.number.ensures.bound) (rw (← c.self.view_is) at c.requires.none) (rw (← c.self.view_is) at c.requires.room) c.take-directory.ensures
-    (zeroed c.self.inside.memory c.zero_frame.new.self c.take-directory.result at c.zero_frame.ensures.bytes) c.zero_frame.ensures.length) in
-    added.live)
-
-pub returns-clause-others : goal.returns-clause-others
-returns-clause-others c =
-    rw (← c.self.view_is)
-    (let at = inside c.self.inside.directories c.self.inside.memory c.self.inside.frames c.take-directory.result Free c.self.invariant.spaces.sound c.take-directory.ensures.was_free in
-    let added =
-    subst (λ k. SpaceAdded c.self.inside.directories c.args.pid c.self.inside.memory c.self.inside.frames (slice_set c.self.inside.directories k (Some c.take-directory.result)) c.zero_frame.new.self c.take-directory.new.frames) (sym c.number.ensures.value)
-    (space_added c.self.inside.directories c.self.inside.memory c.zero_frame.new.self c.self.inside.frames c.take-directory.new.frames c.args.pid c.take-directory.result
-    c.self.invariant.spaces (subst (λ k. k < 64) c.number.ensures.value c.number.ensures.bound) (rw (← c.self.view_is) at c.requires.none) (rw (← c.self.view_is) at c.requires.room) c.take-directory.ensures
-    (zeroed c.self.inside.memory c.zero_frame.new.self c.take-directory.result at c.zero_frame.ensures.bytes) c.zero_frame.ensures.length) in
-    added.others)
-
-pub returns-clause-frames : goal.returns-clause-frames
-returns-clause-frames c =
-    rw (← c.self.view_is)
-    (let at = inside c.self.inside.directories c.self.inside.memory c.self.inside.frames c.take-directory.result Free c.self.invariant.spaces.sound c.take-directory.ensures.was_free in
-    let added =
-    subst (λ k. SpaceAdded c.self.inside.directories c.args.pid c.self.inside.memory c.self.inside.frames (slice_set c.self.inside.directories k (Some c.take-directory.result)) c.zero_frame.new.self c.take-directory.new.frames) (sym c.number.ensures.value)
-    (space_added c.self.inside.directories c.self.inside.memory c.zero_frame.new.self c.self.inside.frames c.take-directory.new.frames c.args.pid c.take-directory.result
-    c.self.invariant.spaces (subst (λ k. k < 64) c.number.ensures.value c.number.ensures.bound) (rw (← c.self.view_is) at c.requires.none) (rw (← c.self.view_is) at c.requires.room) c.take-directory.ensures
-    (zeroed c.self.inside.memory c.zero_frame.new.self c.take-directory.result at c.zero_frame.ensures.bytes) c.zero_frame.ensures.length) in
-    added.length)
+    (zeroed c.self.inside.memory c.zero_frame.new.self c.take-directory.result at c.zero_frame.ensures.bytes) c.zero_frame.ensures.length)
 
 pub invariant_of-self : goal.invariant_of-self
 invariant_of-self c =
-    let at = inside c.self.inside.directories c.self.inside.memory c.self.inside.frames c.take-directory.result Free c.self.invariant.spaces.sound c.take-directory.ensures.was_free in
-    let added =
-    subst (λ k. SpaceAdded c.self.inside.directories c.args.pid c.self.inside.memory c.self.inside.frames (slice_set c.self.inside.directories k (Some c.take-directory.result)) c.zero_frame.new.self c.take-directory.new.frames) (sym c.number.ensures.value)
-    (space_added c.self.inside.directories c.self.inside.memory c.zero_frame.new.self c.self.inside.frames c.take-directory.new.frames c.args.pid c.take-directory.result
-    c.self.invariant.spaces (subst (λ k. k < 64) c.number.ensures.value c.number.ensures.bound) (rw (← c.self.view_is) at c.requires.none) (rw (← c.self.view_is) at c.requires.room) c.take-directory.ensures
-    (zeroed c.self.inside.memory c.zero_frame.new.self c.take-directory.result at c.zero_frame.ensures.bytes) c.zero_frame.ensures.length) in
     let after = slice_set c.self.inside.directories c.number.result (Some c.take-directory.result) in
     let S = spaces_in c.self.inside.directories c.self.inside.memory in
     record {
-      spaces = added.after;
+      spaces = (added c).after;
       counted = counts_kept S (spaces_in after c.zero_frame.new.self) c.self.inside.frames c.take-directory.new.frames
-          added.spaces (alike_taken S c.self.inside.frames c.take-directory.new.frames c.take-directory.result (Directory c.args.pid) c.take-directory.ensures refl)
+          (added c).spaces (alike_taken S c.self.inside.frames c.take-directory.new.frames c.take-directory.result (Directory c.args.pid) c.take-directory.ensures refl)
           c.self.inside.counts.items c.self.invariant.counted;
     }
 
-pub returns-clause-lazy : goal.returns-clause-lazy
-returns-clause-lazy c =
-    rw (← c.self.view_is)
-    (let at = inside c.self.inside.directories c.self.inside.memory c.self.inside.frames c.take-directory.result Free c.self.invariant.spaces.sound c.take-directory.ensures.was_free in
-    let added =
-    subst (λ k. SpaceAdded c.self.inside.directories c.args.pid c.self.inside.memory c.self.inside.frames (slice_set c.self.inside.directories k (Some c.take-directory.result)) c.zero_frame.new.self c.take-directory.new.frames) (sym c.number.ensures.value)
-    (space_added c.self.inside.directories c.self.inside.memory c.zero_frame.new.self c.self.inside.frames c.take-directory.new.frames c.args.pid c.take-directory.result
-    c.self.invariant.spaces (subst (λ k. k < 64) c.number.ensures.value c.number.ensures.bound) (rw (← c.self.view_is) at c.requires.none) (rw (← c.self.view_is) at c.requires.room) c.take-directory.ensures
-    (zeroed c.self.inside.memory c.zero_frame.new.self c.take-directory.result at c.zero_frame.ensures.bytes) c.zero_frame.ensures.length) in
-    λ slot. same_lazy (slice_set c.self.inside.directories c.number.result (Some c.take-directory.result)) c.zero_frame.new.self c.take-directory.new.frames added.after.sound slot
-    ∙ ap is_lazy_entry (added.entries slot)
-    ∙ sym (same_lazy c.self.inside.directories c.self.inside.memory c.self.inside.frames c.self.invariant.spaces.sound slot))
-
-pub returns-clause-stay : goal.returns-clause-stay
-returns-clause-stay c =
-    rw (← c.self.view_is)
-    (let at = inside c.self.inside.directories c.self.inside.memory c.self.inside.frames c.take-directory.result Free c.self.invariant.spaces.sound c.take-directory.ensures.was_free in
-    let added =
-    subst (λ k. SpaceAdded c.self.inside.directories c.args.pid c.self.inside.memory c.self.inside.frames (slice_set c.self.inside.directories k (Some c.take-directory.result)) c.zero_frame.new.self c.take-directory.new.frames) (sym c.number.ensures.value)
-    (space_added c.self.inside.directories c.self.inside.memory c.zero_frame.new.self c.self.inside.frames c.take-directory.new.frames c.args.pid c.take-directory.result
-    c.self.invariant.spaces (subst (λ k. k < 64) c.number.ensures.value c.number.ensures.bound) (rw (← c.self.view_is) at c.requires.none) (rw (← c.self.view_is) at c.requires.room) c.take-directory.ensures
-    (zeroed c.self.inside.memory c.zero_frame.new.self c.take-directory.result at c.zero_frame.ensures.bytes) c.zero_frame.ensures.length) in
-    frames_stay_by none_goes c.self.inside.directories (slice_set c.self.inside.directories c.number.result (Some c.take-directory.result)) c.self.inside.memory c.zero_frame.new.self c.self.inside.frames c.take-directory.new.frames c.self.invariant.spaces.sound added.after.sound
-    (λ q d f stays live. added.others q.pid (λ e. let k : None ≡ Some d = sym (ap (directory_of c.self.inside.directories) e ∙ (rw (← c.self.view_is) at c.requires.none)) ∙ live in cc) ∙ live) added.stay)
+pub returns : goal.returns
+returns c = record {
+  spaces = rw (← c.self.view_is) ((added c).spaces);
+  costs = rw (← c.self.view_is) ((added c).cost);
+  live = (added c).live;
+  others = rw (← c.self.view_is) ((added c).others);
+  frames = rw (← c.self.view_is) ((added c).length);
+  lazy = rw (← c.self.view_is)
+      (λ slot. same_lazy (slice_set c.self.inside.directories c.number.result (Some c.take-directory.result)) c.zero_frame.new.self c.take-directory.new.frames (added c).after.sound slot
+      ∙ ap is_lazy_entry ((added c).entries slot)
+      ∙ sym (same_lazy c.self.inside.directories c.self.inside.memory c.self.inside.frames c.self.invariant.spaces.sound slot));
+  stay = rw (← c.self.view_is)
+      (frames_stay_by none_goes c.self.inside.directories (slice_set c.self.inside.directories c.number.result (Some c.take-directory.result)) c.self.inside.memory c.zero_frame.new.self c.self.inside.frames c.take-directory.new.frames c.self.invariant.spaces.sound (added c).after.sound
+      (λ q d f stays live. (added c).others q.pid (λ e. let k : None ≡ Some d = sym (ap (directory_of c.self.inside.directories) e ∙ (rw (← c.self.view_is) at c.requires.none)) ∙ live in cc) ∙ live) (added c).stay);
+}

@@ -1,20 +1,14 @@
-use Rattle.std.proofs.Common.{◌<◌, ◌^◌, ap, sym, ◌∙◌, subst}
-use Rattle.phys_memory.specs.Bytes.{frame_bytes}
-use Rattle.page_map.specs.declared.PageEntry.{PageEntry}
-use Rattle.page_map.specs.Entries.{with_entry}
-use Rattle.address_space.specs.Spaces.{Spaces, joined, at_page}
+use Rattle.address_space.proofs.Prelude.{◌<◌, ◌^◌, ap, sym, ◌∙◌, subst, frame_bytes, PageEntry, with_entry, Spaces}
+use Rattle.address_space.proofs.Prelude.{TableGiven, SlotJoined, slot_number}
+use Rattle.address_space.proofs.Prelude.{joined, at_page, table_of_place, found_of, is_some, none_goes, directory_of}
 use Rattle.address_space.proofs.steps.Steps.{page_map_of}
 use Rattle.address_space.proofs.steps.CountSteps.{alike_held}
 use Rattle.address_space.proofs.steps.FoundPages.{found_real, found_named, found_least, found_mapped}
 use Rattle.address_space.proofs.steps.NewPages.{table_room, ready_given, ready_inside, ready_count, ready_fits, ready_below, ready_small, holder_added, holder_more, added_kept}
-use Rattle.address_space.specs.Places.{table_of_place, found_of}
 use Rattle.address_space.proofs.steps.Placing.{place_table, place_found}
-use Rattle.std.specs.Prelude.{is_some}
-use Rattle.address_space.proofs.Spaces.join_at.Goals as goal
-use Rattle.address_space.specs.Stays.{none_goes}
 use Rattle.address_space.proofs.standing.FramesStand.{frames_stay}
-use Rattle.address_space.specs.View.{directory_of}
 use Rattle.address_space.proofs.entries.Staying.{places_ready}
+use Rattle.address_space.proofs.Spaces.join_at.Goals as goal
 
 pub unwrap-found-requires : goal.unwrap-found-requires
 unwrap-found-requires c =
@@ -61,48 +55,36 @@ put_entry-requires-clause-frame c =
     (ready_small c.self.inside.directories c.self.inside.memory c.self.inside.frames c.args.pid c.home-directory.result c.args.page c.give_table-table.result c.give_table-table.new.memory c.give_table-table.new.frames c.self.invariant.spaces c.requires.user c.home-directory.ensures
     c.give_table-table.ensures giver c.unwrap-found.result.entry.frame named up)
 
+-- what is left once the page's table is there, and once its entry is
+given : (c : goal.After-put_entry) → TableGiven c.self.inside.directories c.args.pid (slot_number c.args.page) c.self.inside.memory c.self.inside.frames c.give_table-table.new.memory c.give_table-table.new.frames
+given c = ready_given c.self.inside.directories c.self.inside.memory c.self.inside.frames c.args.pid c.home-directory.result c.args.page c.give_table-table.result c.give_table-table.new.memory c.give_table-table.new.frames c.self.invariant.spaces c.requires.user c.home-directory.ensures c.give_table-table.ensures
+
+added : (c : goal.After-put_entry) → SlotJoined c.self.inside.directories c.args.giver c.args.giver_page c.args.pid c.args.page c.args.right c.give_table-table.new.memory c.give_table-table.new.frames c.put_entry.new.memory c.hold.new.self
+added c =
+    holder_added c.self.inside.directories c.self.inside.memory c.self.inside.frames c.args.pid c.home-directory.result c.args.page c.give_table-table.result c.give_table-table.new.memory c.give_table-table.new.frames c.self.invariant.spaces c.requires.user c.home-directory.ensures
+    c.give_table-table.ensures c.args.giver c.args.giver_page c.unwrap-found.result.entry.frame c.hold.ensures.count c.args.right c.put_entry.new.memory c.hold.new.self (rw (← c.self.view_is) at c.requires.unmapped)
+    (found_named c.self.inside c.args.giver c.args.giver_page c.unwrap-found.result c.self.invariant c.requires.from (sym (place_found c.self.inside c.args.giver c.args.giver_page) ∙ ap found_of (sym (rw (← c.self.view_is) at c.requires.place)) ∙ sym c.found.ensures ∙ c.unwrap-found.ensures)) c.hold.ensures.page c.hold.ensures.now
+    (c.put_entry.ensures.frames ∙ ap (with_entry (frame_bytes c.give_table-table.new.memory) c.give_table-table.result c.args.page) c.joined_entry.ensures) c.put_entry.ensures.length
+
 pub returns-clause-spaces : goal.returns-clause-spaces
 returns-clause-spaces c =
     rw (← c.self.view_is)
-    (let named = found_named c.self.inside c.args.giver c.args.giver_page c.unwrap-found.result c.self.invariant c.requires.from (sym (place_found c.self.inside c.args.giver c.args.giver_page) ∙ ap found_of (sym (rw (← c.self.view_is) at c.requires.place)) ∙ sym c.found.ensures ∙ c.unwrap-found.ensures) in
-    let up = found_least c.self.inside c.args.giver c.args.giver_page c.unwrap-found.result c.self.invariant c.requires.from (sym (place_found c.self.inside c.args.giver c.args.giver_page) ∙ ap found_of (sym (rw (← c.self.view_is) at c.requires.place)) ∙ sym c.found.ensures ∙ c.unwrap-found.ensures) (sym (found_real c.self.inside c.args.giver c.args.giver_page c.unwrap-found.result c.self.invariant c.requires.from (sym (place_found c.self.inside c.args.giver c.args.giver_page) ∙ ap found_of (sym (rw (← c.self.view_is) at c.requires.place)) ∙ sym c.found.ensures ∙ c.unwrap-found.ensures)) ∙ (rw (← c.self.view_is) at c.requires.real)) in
-    let giver = at_page c.args.giver c.args.giver_page in
-    let written = c.put_entry.ensures.frames ∙ ap (with_entry (frame_bytes c.give_table-table.new.memory) c.give_table-table.result c.args.page) c.joined_entry.ensures in
-    let added =
-    holder_added c.self.inside.directories c.self.inside.memory c.self.inside.frames c.args.pid c.home-directory.result c.args.page c.give_table-table.result c.give_table-table.new.memory c.give_table-table.new.frames c.self.invariant.spaces c.requires.user c.home-directory.ensures
-    c.give_table-table.ensures c.args.giver c.args.giver_page c.unwrap-found.result.entry.frame c.hold.ensures.count c.args.right c.put_entry.new.memory c.hold.new.self (rw (← c.self.view_is) at c.requires.unmapped) named c.hold.ensures.page c.hold.ensures.now written c.put_entry.ensures.length in
-    let given = ready_given c.self.inside.directories c.self.inside.memory c.self.inside.frames c.args.pid c.home-directory.result c.args.page c.give_table-table.result c.give_table-table.new.memory c.give_table-table.new.frames c.self.invariant.spaces c.requires.user c.home-directory.ensures c.give_table-table.ensures in
-    added.spaces ∙ ap (λ (s : Spaces). joined s giver (at_page c.args.pid c.args.page) c.args.right) given.spaces)
+    ((added c).spaces ∙ ap (λ (s : Spaces). joined s (at_page c.args.giver c.args.giver_page) (at_page c.args.pid c.args.page) c.args.right) (given c).spaces)
 
 pub invariant_of-self : goal.invariant_of-self
 invariant_of-self c =
-    let named = found_named c.self.inside c.args.giver c.args.giver_page c.unwrap-found.result c.self.invariant c.requires.from (sym (place_found c.self.inside c.args.giver c.args.giver_page) ∙ ap found_of (sym (rw (← c.self.view_is) at c.requires.place)) ∙ sym c.found.ensures ∙ c.unwrap-found.ensures) in
-    let up = found_least c.self.inside c.args.giver c.args.giver_page c.unwrap-found.result c.self.invariant c.requires.from (sym (place_found c.self.inside c.args.giver c.args.giver_page) ∙ ap found_of (sym (rw (← c.self.view_is) at c.requires.place)) ∙ sym c.found.ensures ∙ c.unwrap-found.ensures) (sym (found_real c.self.inside c.args.giver c.args.giver_page c.unwrap-found.result c.self.invariant c.requires.from (sym (place_found c.self.inside c.args.giver c.args.giver_page) ∙ ap found_of (sym (rw (← c.self.view_is) at c.requires.place)) ∙ sym c.found.ensures ∙ c.unwrap-found.ensures)) ∙ (rw (← c.self.view_is) at c.requires.real)) in
-    let giver = at_page c.args.giver c.args.giver_page in
-    let written = c.put_entry.ensures.frames ∙ ap (with_entry (frame_bytes c.give_table-table.new.memory) c.give_table-table.result c.args.page) c.joined_entry.ensures in
-    let added =
-    holder_added c.self.inside.directories c.self.inside.memory c.self.inside.frames c.args.pid c.home-directory.result c.args.page c.give_table-table.result c.give_table-table.new.memory c.give_table-table.new.frames c.self.invariant.spaces c.requires.user c.home-directory.ensures
-    c.give_table-table.ensures c.args.giver c.args.giver_page c.unwrap-found.result.entry.frame c.hold.ensures.count c.args.right c.put_entry.new.memory c.hold.new.self (rw (← c.self.view_is) at c.requires.unmapped) named c.hold.ensures.page c.hold.ensures.now written c.put_entry.ensures.length in
     added_kept c.self.inside.directories c.self.inside.memory c.self.inside.frames c.args.pid c.home-directory.result c.args.page c.give_table-table.result c.give_table-table.new.memory c.give_table-table.new.frames c.self.invariant.spaces c.requires.user c.home-directory.ensures
-    c.give_table-table.ensures c.self.inside.counts.items c.self.invariant.counted c.put_entry.new.memory c.count_page.new.counts.items c.hold.new.self (rw (← c.self.view_is) at c.requires.room) added.slot
-    (holder_more c.self.inside.directories c.self.inside.memory c.self.inside.frames c.args.pid c.home-directory.result c.args.page c.give_table-table.result c.give_table-table.new.memory c.give_table-table.new.frames c.self.invariant.spaces c.requires.user c.home-directory.ensures c.give_table-table.ensures c.args.giver c.args.giver_page c.args.right c.put_entry.new.memory c.hold.new.self (rw (← c.self.view_is) at c.requires.unmapped) added)
+    c.give_table-table.ensures c.self.inside.counts.items c.self.invariant.counted c.put_entry.new.memory c.count_page.new.counts.items c.hold.new.self (rw (← c.self.view_is) at c.requires.room) (added c).slot
+    (holder_more c.self.inside.directories c.self.inside.memory c.self.inside.frames c.args.pid c.home-directory.result c.args.page c.give_table-table.result c.give_table-table.new.memory c.give_table-table.new.frames c.self.invariant.spaces c.requires.user c.home-directory.ensures c.give_table-table.ensures c.args.giver c.args.giver_page c.args.right c.put_entry.new.memory c.hold.new.self (rw (← c.self.view_is) at c.requires.unmapped) (added c))
     (alike_held c.give_table-table.new.frames c.hold.new.self c.unwrap-found.result.entry.frame c.hold.ensures) c.count_page.ensures
 
 pub returns-clause-stay : goal.returns-clause-stay
 returns-clause-stay c =
     rw (← c.self.view_is)
-    (let named = found_named c.self.inside c.args.giver c.args.giver_page c.unwrap-found.result c.self.invariant c.requires.from (sym (place_found c.self.inside c.args.giver c.args.giver_page) ∙ ap found_of (sym (rw (← c.self.view_is) at c.requires.place)) ∙ sym c.found.ensures ∙ c.unwrap-found.ensures) in
-    let up = found_least c.self.inside c.args.giver c.args.giver_page c.unwrap-found.result c.self.invariant c.requires.from (sym (place_found c.self.inside c.args.giver c.args.giver_page) ∙ ap found_of (sym (rw (← c.self.view_is) at c.requires.place)) ∙ sym c.found.ensures ∙ c.unwrap-found.ensures) (sym (found_real c.self.inside c.args.giver c.args.giver_page c.unwrap-found.result c.self.invariant c.requires.from (sym (place_found c.self.inside c.args.giver c.args.giver_page) ∙ ap found_of (sym (rw (← c.self.view_is) at c.requires.place)) ∙ sym c.found.ensures ∙ c.unwrap-found.ensures)) ∙ (rw (← c.self.view_is) at c.requires.real)) in
-    let giver = at_page c.args.giver c.args.giver_page in
-    let written = c.put_entry.ensures.frames ∙ ap (with_entry (frame_bytes c.give_table-table.new.memory) c.give_table-table.result c.args.page) c.joined_entry.ensures in
-    let added =
-    holder_added c.self.inside.directories c.self.inside.memory c.self.inside.frames c.args.pid c.home-directory.result c.args.page c.give_table-table.result c.give_table-table.new.memory c.give_table-table.new.frames c.self.invariant.spaces c.requires.user c.home-directory.ensures
-    c.give_table-table.ensures c.args.giver c.args.giver_page c.unwrap-found.result.entry.frame c.hold.ensures.count c.args.right c.put_entry.new.memory c.hold.new.self (rw (← c.self.view_is) at c.requires.unmapped) named c.hold.ensures.page c.hold.ensures.now written c.put_entry.ensures.length in
-    let given = ready_given c.self.inside.directories c.self.inside.memory c.self.inside.frames c.args.pid c.home-directory.result c.args.page c.give_table-table.result c.give_table-table.new.memory c.give_table-table.new.frames c.self.invariant.spaces c.requires.user c.home-directory.ensures c.give_table-table.ensures in
-    frames_stay none_goes c.self.inside.directories c.self.inside.memory c.put_entry.new.memory c.self.inside.frames c.hold.new.self c.self.invariant.spaces.sound added.slot.sound
+    (frames_stay none_goes c.self.inside.directories c.self.inside.memory c.put_entry.new.memory c.self.inside.frames c.hold.new.self c.self.invariant.spaces.sound (added c).slot.sound
     (places_ready none_goes (directory_of c.self.inside.directories) (frame_bytes c.self.inside.memory)
-    (frame_bytes c.give_table-table.new.memory) (frame_bytes c.put_entry.new.memory) given.entries given.tables
-    added.slot.stay))
+    (frame_bytes c.give_table-table.new.memory) (frame_bytes c.put_entry.new.memory) (given c).entries (given c).tables
+    (added c).slot.stay))
 
 pub give_table-table-requires-clause-linked : goal.give_table-table-requires-clause-linked
 give_table-table-requires-clause-linked c = c.table.ensures ∙ ap table_of_place (rw (← c.self.view_is) at c.requires.own) ∙ place_table c.self.inside.directories c.self.inside.memory c.args.pid c.home-directory.result c.args.page c.home-directory.ensures

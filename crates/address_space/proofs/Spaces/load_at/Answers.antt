@@ -1,8 +1,5 @@
-use Rattle.std.proofs.Common.{ap, sym, ◌∙◌}
-use Rattle.std.specs.Prelude.{is_some}
-use Rattle.page_words.specs.Addresses.{page_number, offset_number, byte_count}
-use Rattle.address_space.specs.Spaces.{Cell, value_of, bytes_at}
-use Rattle.address_space.specs.Places.{found_of}
+use Rattle.address_space.proofs.Prelude.{ap, sym, ◌∙◌, is_some, page_number, offset_number, byte_count, Cell, value_of}
+use Rattle.address_space.proofs.Prelude.{bytes_at, found_of}
 use Rattle.address_space.proofs.Insides.{spaces_at}
 use Rattle.address_space.proofs.steps.Bytes.{number_in_page}
 use Rattle.address_space.proofs.steps.FoundPages.{found_mapped, found_lies, found_cell, found_loaded}

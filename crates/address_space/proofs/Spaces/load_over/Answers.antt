@@ -1,11 +1,7 @@
-use Rattle.std.proofs.Common.{◌≡◌, ap, sym, subst, ◌∙◌, arith, true}
-use Rattle.std.specs.Prelude.{is_some, IfSome}
-use Rattle.page_words.specs.Addresses.{page_number}
-use Rattle.page_words.specs.FiniteMap as map
-use Rattle.page_words.proofs.Accesses.{crosses}
-use Rattle.address_space.specs.Places.{place_in}
-use Rattle.address_space.specs.Spaces.{Spaces, at_page, slot_at}
+use Rattle.address_space.proofs.Prelude.{◌≡◌, ap, sym, subst, ◌∙◌, arith, true, is_some, IfSome, page_number, crosses}
+use Rattle.address_space.proofs.Prelude.{place_in, Spaces, at_page, slot_at}
 use Rattle.address_space.proofs.costs.AccessCosts.{kept}
+use Rattle.page_words.specs.FiniteMap as map
 use Rattle.address_space.proofs.Spaces.load_over.Goals as goal
 
 pub number_over-value-requires-clause-second : goal.number_over-value-requires-clause-second

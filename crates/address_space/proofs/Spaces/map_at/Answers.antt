@@ -1,20 +1,15 @@
-use Rattle.std.proofs.Common.{◌^◌, ◌<◌, ap, sym, subst, arith, ◌∙◌, refl}
-use Rattle.phys_memory.specs.Bytes.{frame_bytes}
-use Rattle.page_words.specs.FiniteMap as map
-use Rattle.page_map.specs.declared.PageEntry.{PageEntry}
-use Rattle.page_map.specs.Entries.{with_entry, is_lazy_entry}
-use Rattle.address_space.specs.Spaces.{Spaces, fresh, at_page}
+use Rattle.address_space.proofs.Prelude.{◌^◌, ◌<◌, ap, sym, subst, arith, ◌∙◌, refl, frame_bytes, PageEntry, with_entry}
+use Rattle.address_space.proofs.Prelude.{TableGiven, PageAdded, slot_number}
+use Rattle.address_space.proofs.Prelude.{is_lazy_entry, Spaces, fresh, at_page, table_of_place, none_goes, directory_of}
 use Rattle.address_space.proofs.standing.Standing.{same_lazy}
 use Rattle.address_space.proofs.steps.Steps.{page_map_of}
 use Rattle.address_space.proofs.steps.NewPages.{table_room, ready_given, ready_table, ready_inside, ready_count, ready_fits, zero_added, zero_more, added_kept}
 use Rattle.address_space.proofs.steps.FoundPages.{found_written}
-use Rattle.address_space.specs.Places.{table_of_place}
 use Rattle.address_space.proofs.steps.Placing.{place_table, place_mapped}
-use Rattle.address_space.proofs.Spaces.map_at.Goals as goal
-use Rattle.address_space.specs.Stays.{none_goes}
 use Rattle.address_space.proofs.standing.FramesStand.{frames_stay}
-use Rattle.address_space.specs.View.{directory_of}
 use Rattle.address_space.proofs.entries.Staying.{places_ready}
+use Rattle.page_words.specs.FiniteMap as map
+use Rattle.address_space.proofs.Spaces.map_at.Goals as goal
 
 pub give_table-table-requires-clause-map : goal.give_table-table-requires-clause-map
 give_table-table-requires-clause-map c =
@@ -39,56 +34,47 @@ put_entry-requires-clause-inside c =
     ready_inside c.self.inside.directories c.self.inside.memory c.self.inside.frames c.args.pid c.home-directory.result c.args.page c.give_table-table.result c.give_table-table.new.memory c.give_table-table.new.frames c.self.invariant.spaces c.requires.user c.home-directory.ensures
     c.give_table-table.ensures
 
+-- what is left once the page's table is there, and once its entry is
+given : (c : goal.After-put_entry) → TableGiven c.self.inside.directories c.args.pid (slot_number c.args.page) c.self.inside.memory c.self.inside.frames c.give_table-table.new.memory c.give_table-table.new.frames
+given c = ready_given c.self.inside.directories c.self.inside.memory c.self.inside.frames c.args.pid c.home-directory.result c.args.page c.give_table-table.result c.give_table-table.new.memory c.give_table-table.new.frames c.self.invariant.spaces c.requires.user c.home-directory.ensures c.give_table-table.ensures
+
+added : (c : goal.After-put_entry) → PageAdded c.self.inside.directories c.args.pid c.args.page c.args.write c.give_table-table.new.memory c.give_table-table.new.frames c.put_entry.new.memory c.give_table-table.new.frames
+added c =
+    zero_added c.self.inside.directories c.self.inside.memory c.self.inside.frames c.args.pid c.home-directory.result c.args.page c.give_table-table.result c.give_table-table.new.memory c.give_table-table.new.frames c.self.invariant.spaces c.requires.user c.home-directory.ensures
+    c.give_table-table.ensures c.args.write c.put_entry.new.memory (rw (← c.self.view_is) at c.requires.unmapped)
+    (c.put_entry.ensures.frames ∙ ap (with_entry (frame_bytes c.give_table-table.new.memory) c.give_table-table.result c.args.page) c.fresh_entry-entry.ensures) c.put_entry.ensures.length
+
 pub returns-clause-spaces : goal.returns-clause-spaces
 returns-clause-spaces c =
     rw (← c.self.view_is)
-    (let written = c.put_entry.ensures.frames ∙ ap (with_entry (frame_bytes c.give_table-table.new.memory) c.give_table-table.result c.args.page) c.fresh_entry-entry.ensures in
-    let added =
-    zero_added c.self.inside.directories c.self.inside.memory c.self.inside.frames c.args.pid c.home-directory.result c.args.page c.give_table-table.result c.give_table-table.new.memory c.give_table-table.new.frames c.self.invariant.spaces c.requires.user c.home-directory.ensures
-    c.give_table-table.ensures c.args.write c.put_entry.new.memory (rw (← c.self.view_is) at c.requires.unmapped) written c.put_entry.ensures.length in
-    let given = ready_given c.self.inside.directories c.self.inside.memory c.self.inside.frames c.args.pid c.home-directory.result c.args.page c.give_table-table.result c.give_table-table.new.memory c.give_table-table.new.frames c.self.invariant.spaces c.requires.user c.home-directory.ensures c.give_table-table.ensures in
-    added.spaces ∙ ap (λ (s : Spaces). map.insert s (at_page c.args.pid c.args.page) (fresh (at_page c.args.pid c.args.page) c.args.write)) given.spaces)
+    ((added c).spaces ∙ ap (λ (s : Spaces). map.insert s (at_page c.args.pid c.args.page) (fresh (at_page c.args.pid c.args.page) c.args.write)) (given c).spaces)
 
 pub returns-clause-lazy : goal.returns-clause-lazy
 returns-clause-lazy c =
-    (let written = c.put_entry.ensures.frames ∙ ap (with_entry (frame_bytes c.give_table-table.new.memory) c.give_table-table.result c.args.page) c.fresh_entry-entry.ensures in
-    let added =
-    zero_added c.self.inside.directories c.self.inside.memory c.self.inside.frames c.args.pid c.home-directory.result c.args.page c.give_table-table.result c.give_table-table.new.memory c.give_table-table.new.frames c.self.invariant.spaces c.requires.user c.home-directory.ensures
-    c.give_table-table.ensures c.args.write c.put_entry.new.memory (rw (← c.self.view_is) at c.requires.unmapped) written c.put_entry.ensures.length in
-    same_lazy c.self.inside.directories c.put_entry.new.memory c.give_table-table.new.frames added.slot.sound (at_page c.args.pid c.args.page) ∙ ap is_lazy_entry added.lazy.1 ∙ added.lazy.2)
+    (same_lazy c.self.inside.directories c.put_entry.new.memory c.give_table-table.new.frames (added c).slot.sound (at_page c.args.pid c.args.page) ∙ ap is_lazy_entry (added c).lazy.1 ∙ (added c).lazy.2)
 
 pub invariant_of-self : goal.invariant_of-self
 invariant_of-self c =
-    let written = c.put_entry.ensures.frames ∙ ap (with_entry (frame_bytes c.give_table-table.new.memory) c.give_table-table.result c.args.page) c.fresh_entry-entry.ensures in
-    let added =
-    zero_added c.self.inside.directories c.self.inside.memory c.self.inside.frames c.args.pid c.home-directory.result c.args.page c.give_table-table.result c.give_table-table.new.memory c.give_table-table.new.frames c.self.invariant.spaces c.requires.user c.home-directory.ensures
-    c.give_table-table.ensures c.args.write c.put_entry.new.memory (rw (← c.self.view_is) at c.requires.unmapped) written c.put_entry.ensures.length in
     added_kept c.self.inside.directories c.self.inside.memory c.self.inside.frames c.args.pid c.home-directory.result c.args.page c.give_table-table.result c.give_table-table.new.memory c.give_table-table.new.frames c.self.invariant.spaces c.requires.user c.home-directory.ensures
-    c.give_table-table.ensures c.self.inside.counts.items c.self.invariant.counted c.put_entry.new.memory c.count_page.new.counts.items c.give_table-table.new.frames (rw (← c.self.view_is) at c.requires.room) added.slot
-    (zero_more c.self.inside.directories c.self.inside.memory c.self.inside.frames c.args.pid c.home-directory.result c.args.page c.give_table-table.result c.give_table-table.new.memory c.give_table-table.new.frames c.self.invariant.spaces c.requires.user c.home-directory.ensures c.give_table-table.ensures c.args.write c.put_entry.new.memory (rw (← c.self.view_is) at c.requires.unmapped) added)
+    c.give_table-table.ensures c.self.inside.counts.items c.self.invariant.counted c.put_entry.new.memory c.count_page.new.counts.items c.give_table-table.new.frames (rw (← c.self.view_is) at c.requires.room) (added c).slot
+    (zero_more c.self.inside.directories c.self.inside.memory c.self.inside.frames c.args.pid c.home-directory.result c.args.page c.give_table-table.result c.give_table-table.new.memory c.give_table-table.new.frames c.self.invariant.spaces c.requires.user c.home-directory.ensures c.give_table-table.ensures c.args.write c.put_entry.new.memory (rw (← c.self.view_is) at c.requires.unmapped) (added c))
     (λ _ _. refl) c.count_page.ensures
 
 pub returns-clause-place : goal.returns-clause-place
 returns-clause-place c =
-    let given = ready_given c.self.inside.directories c.self.inside.memory c.self.inside.frames c.args.pid c.home-directory.result c.args.page c.give_table-table.result c.give_table-table.new.memory c.give_table-table.new.frames c.self.invariant.spaces c.requires.user c.home-directory.ensures c.give_table-table.ensures in
     let there = ready_table c.self.inside.directories c.self.inside.memory c.self.inside.frames c.args.pid c.home-directory.result c.args.page c.give_table-table.result c.give_table-table.new.memory c.give_table-table.new.frames c.self.invariant.spaces c.requires.user c.home-directory.ensures c.give_table-table.ensures in
     let found =
-    found_written c.self.inside.directories c.give_table-table.new.memory c.put_entry.new.memory c.give_table-table.new.frames c.args.pid c.home-directory.result c.args.page c.give_table-table.result c.fresh_entry-entry.result given.sound c.home-directory.ensures there
+    found_written c.self.inside.directories c.give_table-table.new.memory c.put_entry.new.memory c.give_table-table.new.frames c.args.pid c.home-directory.result c.args.page c.give_table-table.result c.fresh_entry-entry.result (given c).sound c.home-directory.ensures there
     (subst (λ (e : PageEntry). e.frame < 2 ^ 20) (sym c.fresh_entry-entry.ensures) (omega arith)) c.put_entry.ensures.frames in
     sym (place_mapped c.self.inside.directories c.put_entry.new.memory c.args.pid c.args.page (record { page = c.args.page; table = c.give_table-table.result; entry = c.fresh_entry-entry.result }) found)
 
 pub returns-clause-stay : goal.returns-clause-stay
 returns-clause-stay c =
     rw (← c.self.view_is)
-    (let written = c.put_entry.ensures.frames ∙ ap (with_entry (frame_bytes c.give_table-table.new.memory) c.give_table-table.result c.args.page) c.fresh_entry-entry.ensures in
-    let added =
-    zero_added c.self.inside.directories c.self.inside.memory c.self.inside.frames c.args.pid c.home-directory.result c.args.page c.give_table-table.result c.give_table-table.new.memory c.give_table-table.new.frames c.self.invariant.spaces c.requires.user c.home-directory.ensures
-    c.give_table-table.ensures c.args.write c.put_entry.new.memory (rw (← c.self.view_is) at c.requires.unmapped) written c.put_entry.ensures.length in
-    let given = ready_given c.self.inside.directories c.self.inside.memory c.self.inside.frames c.args.pid c.home-directory.result c.args.page c.give_table-table.result c.give_table-table.new.memory c.give_table-table.new.frames c.self.invariant.spaces c.requires.user c.home-directory.ensures c.give_table-table.ensures in
-    frames_stay none_goes c.self.inside.directories c.self.inside.memory c.put_entry.new.memory c.self.inside.frames c.give_table-table.new.frames c.self.invariant.spaces.sound added.slot.sound
+    (frames_stay none_goes c.self.inside.directories c.self.inside.memory c.put_entry.new.memory c.self.inside.frames c.give_table-table.new.frames c.self.invariant.spaces.sound (added c).slot.sound
     (places_ready none_goes (directory_of c.self.inside.directories) (frame_bytes c.self.inside.memory)
-    (frame_bytes c.give_table-table.new.memory) (frame_bytes c.put_entry.new.memory) given.entries given.tables
-    added.slot.stay))
+    (frame_bytes c.give_table-table.new.memory) (frame_bytes c.put_entry.new.memory) (given c).entries (given c).tables
+    (added c).slot.stay))
 
 pub give_table-table-requires-clause-linked : goal.give_table-table-requires-clause-linked
 give_table-table-requires-clause-linked c = c.table.ensures ∙ ap table_of_place (rw (← c.self.view_is) at c.requires.place) ∙ place_table c.self.inside.directories c.self.inside.memory c.args.pid c.home-directory.result c.args.page c.home-directory.ensures

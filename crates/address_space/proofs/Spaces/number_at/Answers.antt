@@ -1,9 +1,5 @@
-use Rattle.std.proofs.Common.{◌≡◌, ap, sym, ◌∙◌, None}
-use Rattle.std.specs.Prelude.{is_some}
-use Rattle.page_words.specs.Addresses.{page_number, offset_number, byte_count, second_page}
-use Rattle.page_words.proofs.OptionLemmas.{no_value}
-use Rattle.address_space.specs.Spaces.{Cell, value_of, bytes_at}
-use Rattle.address_space.specs.Places.{found_of}
+use Rattle.address_space.proofs.Prelude.{◌≡◌, ap, sym, ◌∙◌, None, is_some, page_number, offset_number, byte_count}
+use Rattle.address_space.proofs.Prelude.{second_page, no_value, Cell, value_of, bytes_at, found_of}
 use Rattle.address_space.proofs.Insides.{spaces_at}
 use Rattle.address_space.proofs.steps.Bytes.{number_in_page}
 use Rattle.address_space.proofs.steps.FoundPages.{found_lies, found_cell}

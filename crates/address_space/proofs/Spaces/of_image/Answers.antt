@@ -1,10 +1,5 @@
-use Rattle.std.proofs.Common.{◌≡◌, ℕ, length, List, map, sym, ◌∙◌, subst}
-use Rattle.std.specs.List.{range_with_len}
-use Rattle.address_space.specs.Restored.{counted_at}
-use Rattle.alloc_table.specs.declared.Role.{Role}
-use Rattle.address_space.specs.Image.{StandsFor, image_from}
-use Rattle.address_space.specs.Counts.{AreCountedSpaces}
-use Rattle.address_space.specs.View.{spaces_in}
+use Rattle.address_space.proofs.Prelude.{◌≡◌, ℕ, length, List, map, sym, ◌∙◌, subst, range_with_len, counted_at, Role}
+use Rattle.address_space.proofs.Prelude.{StandsFor, image_from, AreCountedSpaces, spaces_in}
 use Rattle.address_space.proofs.standing.Restored.{kept, stands, words_counted}
 use Rattle.address_space.proofs.Spaces.of_image.Goals as goal
 

@@ -1,7 +1,4 @@
-use Rattle.std.proofs.Common.{◌∙◌, ap, sym, arith}
-use Rattle.page_words.specs.Addresses.{second_page}
-use Rattle.page_words.proofs.Accesses.{crosses, stays}
-use Rattle.address_space.specs.Places.{place_in}
+use Rattle.address_space.proofs.Prelude.{◌∙◌, ap, sym, arith, second_page, crosses, stays, place_in}
 use Rattle.address_space.proofs.steps.Neighbours.{no_second, second_is}
 use Rattle.address_space.proofs.Spaces.peek_at.Goals as goal
 

@@ -1,6 +1,4 @@
-use Rattle.std.proofs.Common.{ap, ◌∙◌}
-use Rattle.phys_memory.specs.Bytes.{frame_bytes}
-use Rattle.address_space.specs.Places.{place_by}
+use Rattle.address_space.proofs.Prelude.{ap, ◌∙◌, frame_bytes, place_by}
 use Rattle.address_space.proofs.Spaces.place.Goals as goal
 
 pub place_behind-requires : goal.place_behind-requires

@@ -1,18 +1,30 @@
-use Rattle.std.proofs.Common.{◌+◌, ap, sym, ◌∙◌}
-use Rattle.std.specs.Prelude.{is_some}
-use Rattle.page_words.specs.FiniteMap as map
-use Rattle.page_words.proofs.OptionLemmas.{some_value}
-use Rattle.phys_memory.specs.Bytes.{frame_bytes}
-use Rattle.address_space.specs.Spaces.{cost, without, is_slot, at_page}
+use Rattle.address_space.proofs.Prelude.{◌+◌, ap, sym, ◌∙◌, is_some, some_value, frame_bytes, cost, without, is_slot}
+use Rattle.address_space.proofs.Prelude.{at_page, found_of, ◌≡◌, ◌≢◌, ℕ, ◌*◌, true, arith, slot_number, IsUserPage}
+use Rattle.address_space.proofs.Prelude.{no_value, Frames, entry_at, count_range, IsAlone, IsShared}
 use Rattle.address_space.proofs.Insides.{spaces_at}
 use Rattle.address_space.proofs.steps.Steps.{live_small}
 use Rattle.address_space.proofs.steps.FoundPages.{found_known, found_mapped}
 use Rattle.address_space.proofs.steps.GonePages.{home_count, home_counts}
 use Rattle.address_space.proofs.costs.Relief.{cost_left, relief_alone, relief_shared}
-use Rattle.address_space.proofs.costs.Beside.{alone_by_count, shared_by_count}
-use Rattle.address_space.specs.Places.{found_of}
 use Rattle.address_space.proofs.steps.Placing.{place_found}
+use Rattle.page_map.proofs.Counting.{one_alone, another_one}
+use Rattle.page_words.specs.FiniteMap as map
 use Rattle.address_space.proofs.Spaces.relief_at.Goals as goal
+
+module _ (m : Frames) (d page n : ℕ) (user : IsUserPage page) (here : is_some (entry_at m d page) ≡ true) (count : n ≡ count_range (λ other. is_some (entry_at m d other)) (1024 * slot_number page) 1024) where
+  pub alone_by_count : n ≡ 1 → IsAlone m d page
+  alone_by_count one i l apart =
+      no_value (entry_at m d (slot_number page * 1024 + i))
+      (one_alone (λ other. is_some (entry_at m d other)) (1024 * slot_number page) 1024 page (slot_number page * 1024 + i) (sym count ∙ one) (omega arith) (omega arith) here (omega arith) (omega arith) apart)
+
+  pub shared_by_count : n ≢ 1 → IsShared m d page
+  shared_by_count more =
+      let r = another_one (λ other. is_some (entry_at m d other)) (1024 * slot_number page) 1024 page (λ one. more (count ∙ one)) (omega arith) (omega arith) here in
+      let low = r.1 in
+      let high = r.2 in
+      let first = user.0 in
+      let last = user.1 in
+      record { other = r.0; low = omega arith; high = omega arith; region = omega arith; apart = r.3; mapped = r.4 }
 
 pub unwrap-found-requires : goal.unwrap-found-requires
 unwrap-found-requires c =

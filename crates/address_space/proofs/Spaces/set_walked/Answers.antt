@@ -1,13 +1,10 @@
-use Rattle.std.proofs.Common.{◌≡◌, ap, sym, ◌∙◌, refl, Some}
-use Rattle.alloc_table.specs.declared.Role.TheVariants.{Directory}
-use Rattle.address_space.specs.ByWalk.{with_walked}
+use Rattle.address_space.proofs.Prelude.{◌≡◌, ap, sym, ◌∙◌, refl, Some, Directory, with_walked, none_goes}
 use Rattle.address_space.proofs.Insides.{spaces_at}
 use Rattle.address_space.proofs.steps.Steps.{inside}
 use Rattle.address_space.proofs.steps.Touches.{kept_touched}
 use Rattle.address_space.proofs.steps.DirWords.{dir_word_walked}
-use Rattle.address_space.proofs.Spaces.set_walked.Goals as goal
-use Rattle.address_space.specs.Stays.{none_goes}
 use Rattle.address_space.proofs.standing.FramesStand.{frames_stay}
+use Rattle.address_space.proofs.Spaces.set_walked.Goals as goal
 
 pub set_word_walked-requires-clause-inside : goal.set_word_walked-requires-clause-inside
 set_word_walked-requires-clause-inside c =

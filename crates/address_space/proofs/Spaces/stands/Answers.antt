@@ -1,61 +1,39 @@
-use Rattle.std.proofs.Common.{◌≡◌, ℕ, ◌+◌, ◌≤◌, subst, arith, refl, true}
-use Rattle.std.specs.Prelude.{length, is_some}
+use Rattle.address_space.proofs.Prelude.{◌≡◌, ℕ, ◌+◌, ◌≤◌, subst, arith, refl, true, length, is_some, View, total_cost}
+use Rattle.address_space.proofs.Prelude.{directory_of, entries_in, spaces_in, lazy_count, holders_of, frame_bytes, cost}
+use Rattle.address_space.proofs.Prelude.{WalksAgree, PlacesTell, WaysAgree}
 use Rattle.alloc_table.proofs.RoleLemmas.{in-use-and-reserved}
 use Rattle.address_space.specs.Image.{StandsFor, LeavesRoom, image_of}
-use Rattle.address_space.specs.View.{View, total_cost, directory_of, entries_in, spaces_in}
-use Rattle.address_space.specs.Cells.{lazy_count, holders_of}
-use Rattle.phys_memory.specs.Bytes.{frame_bytes}
-use Rattle.address_space.specs.Spaces.{cost}
 use Rattle.address_space.proofs.steps.Openings.{cost_within}
-use Rattle.address_space.specs.Walks.{WalksAgree}
-use Rattle.address_space.proofs.standing.WalkEnds.{walks_agree}
+use Rattle.address_space.proofs.standing.WaysStand.{walks_agree}
 use Rattle.address_space.proofs.standing.Standing.{image_stands, lazy_slots}
-use Rattle.address_space.specs.Places.{PlacesTell}
 use Rattle.address_space.proofs.steps.Placing.{places_tell}
-use Rattle.address_space.proofs.Spaces.stands.Goals as goal
-use Rattle.address_space.specs.Stays.{WaysAgree}
 use Rattle.address_space.proofs.standing.WaysStand.{ways_agree}
+use Rattle.address_space.proofs.Spaces.stands.Goals as goal
 
-pub returns-clause-image : goal.returns-clause-image
-returns-clause-image c =
-    subst (λ (v : View). StandsFor (image_of v) v.spaces) c.self.view_is
-    (image_stands c.self.inside.directories c.self.inside.memory c.self.inside.frames c.self.invariant.spaces)
-
-pub returns-clause-costs : goal.returns-clause-costs
-returns-clause-costs c = subst (λ (v : View). 1 + total_cost v.directories v.spaces ≤ length v.roles) c.self.view_is c.self.invariant.spaces.within
-
-pub returns-clause-each : goal.returns-clause-each
-returns-clause-each c =
-    subst (λ (v : View). (p : ℕ) → is_some (directory_of v.directories p) ≡ true → 1 + cost v.spaces p ≤ length v.roles) c.self.view_is
-    (λ p live. let a = cost_within c.self.inside.directories (spaces_in c.self.inside.directories c.self.inside.memory) p c.self.invariant.spaces.sound.pids live in let b = c.self.invariant.spaces.within in omega (arith, a, b))
-
-pub returns-clause-few : goal.returns-clause-few
-returns-clause-few c = subst (λ (v : View). length v.roles ≤ 1048576) c.self.view_is c.self.invariant.spaces.sound.few
-
-pub returns-clause-walks : goal.returns-clause-walks
-returns-clause-walks c =
-    subst (λ (v : View). WalksAgree (image_of v) v.spaces) c.self.view_is
-    (walks_agree c.self.inside.directories c.self.inside.memory c.self.inside.frames c.self.invariant.spaces)
-
-pub returns-clause-used : goal.returns-clause-used
-returns-clause-used c =
-    let kept = c.self.invariant.spaces in
-    let E = entries_in (directory_of c.self.inside.directories) (frame_bytes c.self.inside.memory) in
-    let n = in-use-and-reserved c.self.inside.frames kept.sound.tables.zero_role (λ f count is. (kept.sound.pages.counts f count is).0) in
-    let w = kept.weighs in
-    subst (λ (v : View). LeavesRoom (image_of v) (total_cost v.directories v.spaces)) c.self.view_is
-    (record {
-      lazy = lazy_count E;
-      counted = record { members = holders_of E 0; are = lazy_slots c.self.inside.directories c.self.inside.memory c.self.inside.frames kept.sound; count = refl };
-      fit = omega (arith, n, w);
-    })
-
-pub returns-clause-ways : goal.returns-clause-ways
-returns-clause-ways c =
-    subst (λ (v : View). WaysAgree (image_of v)) c.self.view_is
-    (ways_agree c.self.inside.directories c.self.inside.memory c.self.inside.frames c.self.invariant.spaces.sound)
-
-pub returns-clause-places : goal.returns-clause-places
-returns-clause-places c =
-    subst (λ (v : View). PlacesTell (image_of v) v.spaces) c.self.view_is
-    (places_tell c.self.inside c.self.invariant)
+pub returns : goal.returns
+returns c = record {
+  image = subst (λ (v : View). StandsFor (image_of v) v.spaces) c.self.view_is
+      (image_stands c.self.inside.directories c.self.inside.memory c.self.inside.frames c.self.invariant.spaces);
+  costs = subst (λ (v : View). 1 + total_cost v.directories v.spaces ≤ length v.roles) c.self.view_is c.self.invariant.spaces.within;
+  each =
+      subst (λ (v : View). (p : ℕ) → is_some (directory_of v.directories p) ≡ true → 1 + cost v.spaces p ≤ length v.roles) c.self.view_is
+      (λ p live. let a = cost_within c.self.inside.directories (spaces_in c.self.inside.directories c.self.inside.memory) p c.self.invariant.spaces.sound.pids live in let b = c.self.invariant.spaces.within in omega (arith, a, b));
+  few = subst (λ (v : View). length v.roles ≤ 1048576) c.self.view_is c.self.invariant.spaces.sound.few;
+  walks = subst (λ (v : View). WalksAgree (image_of v) v.spaces) c.self.view_is
+      (walks_agree c.self.inside.directories c.self.inside.memory c.self.inside.frames c.self.invariant.spaces);
+  used =
+      let kept = c.self.invariant.spaces in
+      let E = entries_in (directory_of c.self.inside.directories) (frame_bytes c.self.inside.memory) in
+      let n = in-use-and-reserved c.self.inside.frames kept.sound.tables.zero_role (λ f count is. (kept.sound.pages.counts f count is).0) in
+      let w = kept.weighs in
+      subst (λ (v : View). LeavesRoom (image_of v) (total_cost v.directories v.spaces)) c.self.view_is
+      (record {
+        lazy = lazy_count E;
+        counted = record { members = holders_of E 0; are = lazy_slots c.self.inside.directories c.self.inside.memory c.self.inside.frames kept.sound; count = refl };
+        fit = omega (arith, n, w);
+      });
+  ways = subst (λ (v : View). WaysAgree (image_of v)) c.self.view_is
+      (ways_agree c.self.inside.directories c.self.inside.memory c.self.inside.frames c.self.invariant.spaces.sound);
+  places = subst (λ (v : View). PlacesTell (image_of v) v.spaces) c.self.view_is
+      (places_tell c.self.inside c.self.invariant);
+}

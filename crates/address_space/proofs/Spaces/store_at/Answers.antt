@@ -1,10 +1,6 @@
-use Rattle.std.proofs.Common.{◌+◌, ◌≤◌, ap, sym, subst, ◌∙◌}
-use Rattle.std.specs.Prelude.{is_some}
-use Rattle.page_words.specs.Addresses.{page_number, offset_number, byte_count}
-use Rattle.address_space.specs.Spaces.{bytes_of}
+use Rattle.address_space.proofs.Prelude.{◌+◌, ◌≤◌, ap, sym, subst, ◌∙◌, is_some, page_number, offset_number, byte_count}
+use Rattle.address_space.proofs.Prelude.{bytes_of, stays, found_of}
 use Rattle.address_space.proofs.steps.Bytes.{length-bytes}
-use Rattle.page_words.proofs.Accesses.{stays}
-use Rattle.address_space.specs.Places.{found_of}
 use Rattle.address_space.proofs.steps.FoundPages.{found_mapped, found_lies, found_real, found_stored}
 use Rattle.address_space.proofs.steps.Neighbours.{stored_beside, part_long}
 use Rattle.address_space.proofs.steps.Placing.{place_found}

@@ -1,13 +1,8 @@
-use Rattle.std.proofs.Common.{◌≡◌, ◌∙◌, ap, sym, subst, Some}
-use Rattle.std.specs.Prelude.{◌%◌, [], ◌∷◌}
-use Rattle.page_words.specs.Addresses.{offset_number}
-use Rattle.table_walk.specs.declared.Access.TheVariants.{Write}
-use Rattle.table_walk.specs.Walk.{walk_of}
-use Rattle.address_space.specs.Kept.{is_marked}
-use Rattle.address_space.specs.Spaces.{slot_at}
+use Rattle.address_space.proofs.Prelude.{◌≡◌, ◌∙◌, ap, sym, subst, Some, ◌%◌, [], ◌∷◌, offset_number, Write, walk_of}
+use Rattle.address_space.proofs.Prelude.{is_marked, slot_at}
 use Rattle.address_space.proofs.Insides.{spaces_at, image_at}
 use Rattle.address_space.proofs.steps.Finding.{finds_live_at, found_at}
-use Rattle.address_space.proofs.steps.WalkedPages.{byte_kept, marked_stored}
+use Rattle.address_space.proofs.steps.WalkedPages.{byte_kept, marked_stored, BytePut}
 use Rattle.address_space.proofs.Spaces.store_byte_kept.Goals as goal
 
 pub home-directory-requires : goal.home-directory-requires
@@ -18,17 +13,16 @@ pub write_byte_found-requires : goal.write_byte_found-requires
 write_byte_found-requires c =
     record { found = (found_at (image_at c.self.inside) c.args.pid c.home-directory.result c.args.address Write c.home-directory.ensures (rw (← c.self.view_is) at c.requires.finds)).1 }
 
+put : (c : goal.After-struct_known-1) → BytePut c.self.inside c.args.pid c.home-directory.result c.args.address c.args.value c.write_byte_found.new.memory
+put c =
+    byte_kept c.self.inside c.args.pid c.home-directory.result c.args.address c.args.value c.write_byte_found.new.memory c.self.invariant c.home-directory.ensures (rw (← c.self.view_is) at c.requires.finds)
+    (rw (← c.self.view_is) at c.requires.marked) c.write_byte_found.ensures.bytes c.write_byte_found.ensures.length
+
 pub returns-clause-spaces : goal.returns-clause-spaces
-returns-clause-spaces c =
-    rw (← c.self.view_is)
-    ((byte_kept c.self.inside c.args.pid c.home-directory.result c.args.address c.args.value c.write_byte_found.new.memory c.self.invariant c.home-directory.ensures (rw (← c.self.view_is) at c.requires.finds)
-    (rw (← c.self.view_is) at c.requires.marked) c.write_byte_found.ensures.bytes c.write_byte_found.ensures.length).left.spaces)
+returns-clause-spaces c = rw (← c.self.view_is) ((put c).left.spaces)
 
 pub returns-clause-stay : goal.returns-clause-stay
-returns-clause-stay c =
-    rw (← c.self.view_is)
-    ((byte_kept c.self.inside c.args.pid c.home-directory.result c.args.address c.args.value c.write_byte_found.new.memory c.self.invariant c.home-directory.ensures (rw (← c.self.view_is) at c.requires.finds)
-    (rw (← c.self.view_is) at c.requires.marked) c.write_byte_found.ensures.bytes c.write_byte_found.ensures.length).left.stay)
+returns-clause-stay c = rw (← c.self.view_is) ((put c).left.stay)
 
 pub returns-clause-walks : goal.returns-clause-walks
 returns-clause-walks c =
@@ -37,25 +31,18 @@ returns-clause-walks c =
     let e : Some c.home-directory.result ≡ Some directory = sym c.home-directory.ensures ∙ live in
     let same : c.home-directory.result ≡ directory = cc in
     subst (λ d. walk_of c.write_byte_found.new.memory d at kind ≡ walk_of c.self.inside.memory d at kind) same
-    ((byte_kept c.self.inside c.args.pid c.home-directory.result c.args.address c.args.value c.write_byte_found.new.memory c.self.invariant c.home-directory.ensures (rw (← c.self.view_is) at c.requires.finds)
-    (rw (← c.self.view_is) at c.requires.marked) c.write_byte_found.ensures.bytes c.write_byte_found.ensures.length).walks at kind small))
+    ((put c).walks at kind small))
 
 pub returns-clause-finds : goal.returns-clause-finds
-returns-clause-finds c =
-    rw (← c.self.view_is)
-    ((byte_kept c.self.inside c.args.pid c.home-directory.result c.args.address c.args.value c.write_byte_found.new.memory c.self.invariant c.home-directory.ensures (rw (← c.self.view_is) at c.requires.finds)
-    (rw (← c.self.view_is) at c.requires.marked) c.write_byte_found.ensures.bytes c.write_byte_found.ensures.length).left.finds)
+returns-clause-finds c = rw (← c.self.view_is) ((put c).left.finds)
 
 pub returns-clause-marked : goal.returns-clause-marked
 returns-clause-marked c =
     rw (← c.self.view_is)
     (λ slot h.
-    let spaces = (byte_kept c.self.inside c.args.pid c.home-directory.result c.args.address c.args.value c.write_byte_found.new.memory c.self.invariant c.home-directory.ensures (rw (← c.self.view_is) at c.requires.finds)
-    (rw (← c.self.view_is) at c.requires.marked) c.write_byte_found.ensures.bytes c.write_byte_found.ensures.length).left.spaces in
+    let spaces = (put c).left.spaces in
     ap (λ S. is_marked S slot) spaces
     ∙ marked_stored (spaces_at c.self.inside) (slot_at c.args.pid c.args.address) (offset_number c.args.address) (c.args.value % 256 ∷ []) slot h)
 
 pub invariant_of-self : goal.invariant_of-self
-invariant_of-self c =
-    (byte_kept c.self.inside c.args.pid c.home-directory.result c.args.address c.args.value c.write_byte_found.new.memory c.self.invariant c.home-directory.ensures (rw (← c.self.view_is) at c.requires.finds)
-    (rw (← c.self.view_is) at c.requires.marked) c.write_byte_found.ensures.bytes c.write_byte_found.ensures.length).left.kept
+invariant_of-self c = (put c).left.kept

@@ -1,7 +1,4 @@
-use Rattle.std.proofs.Common.{◌≡◌, true}
-use Rattle.table_walk.specs.declared.Access.TheVariants.{Write}
-use Rattle.address_space.specs.Kept.{is_marked}
-use Rattle.address_space.specs.Spaces.{at_page}
+use Rattle.address_space.proofs.Prelude.{◌≡◌, true, Write, is_marked, at_page}
 use Rattle.address_space.proofs.steps.Bytes.{each_byte}
 use Rattle.address_space.proofs.steps.Finding.{finds_each, finds_takes}
 use Rattle.address_space.proofs.Spaces.store_kept.Goals as goal

@@ -1,11 +1,7 @@
-use Rattle.std.proofs.Common.{◌≡◌, ◌≤◌, ◌+◌, ◌-◌, ◌∙◌, ℕ, List, length, take, ap, sym, arith}
-use Rattle.std.specs.List.{slice_range}
-use Rattle.std.proofs.lemmas.List.{length-take-le}
-use Rattle.page_words.specs.Addresses.{page_number, offset_number}
-use Rattle.page_words.proofs.Accesses.{crosses, some_bytes}
-use Rattle.address_space.specs.Spaces.{Spaces, slot_at, stored, all_stored}
+use Rattle.address_space.proofs.Prelude.{◌≡◌, ◌≤◌, ◌+◌, ◌-◌, ◌∙◌, ℕ, List, length, take, ap, sym, arith, slice_range}
+use Rattle.address_space.proofs.Prelude.{length-take-le, page_number, offset_number, crosses, some_bytes, Spaces}
+use Rattle.address_space.proofs.Prelude.{slot_at, stored, all_stored, place_in}
 use Rattle.address_space.proofs.steps.Bytes.{stored_two, two_parts, first_bytes, length-part}
-use Rattle.address_space.specs.Places.{place_in}
 use Rattle.address_space.proofs.standing.FramesStand.{stays_then}
 use Rattle.address_space.proofs.Spaces.store_over.Goals as goal
 

@@ -1,14 +1,11 @@
-use Rattle.std.proofs.Common.{ap, sym, ◌∙◌}
-use Rattle.std.specs.Prelude.{is_some}
-use Rattle.page_words.specs.Addresses.{page_number, offset_number}
-use Rattle.page_words.specs.FiniteMap as map
-use Rattle.address_space.specs.Spaces.{Spaces, slot_at, cell_or_fresh}
+use Rattle.address_space.proofs.Prelude.{ap, sym, ◌∙◌, is_some, page_number, offset_number, Spaces, slot_at}
+use Rattle.address_space.proofs.Prelude.{cell_or_fresh, found_of}
 use Rattle.address_space.proofs.Insides.{spaces_at}
 use Rattle.address_space.proofs.costs.AccessCosts.{kept, key-stored}
-use Rattle.address_space.specs.Places.{found_of}
 use Rattle.address_space.proofs.steps.FoundPages.{found_mapped, found_lies, found_real, found_part}
 use Rattle.address_space.proofs.steps.Neighbours.{stored_beside, part_long}
 use Rattle.address_space.proofs.steps.Placing.{place_found}
+use Rattle.page_words.specs.FiniteMap as map
 use Rattle.address_space.proofs.Spaces.store_part_at.Goals as goal
 
 pub unwrap-found-requires : goal.unwrap-found-requires

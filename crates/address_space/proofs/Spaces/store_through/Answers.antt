@@ -1,8 +1,4 @@
-use Rattle.std.proofs.Common.{◌≡◌, ◌+◌, ap, ◌∙◌, arith}
-use Rattle.page_words.specs.Addresses.{byte_count}
-use Rattle.table_walk.specs.declared.Access.TheVariants.{Write}
-use Rattle.address_space.specs.ByWalk.{finds_at}
-use Rattle.address_space.specs.Image.{image_of}
+use Rattle.address_space.proofs.Prelude.{◌≡◌, ◌+◌, ap, ◌∙◌, arith, byte_count, Write, finds_at, image_of}
 use Rattle.address_space.proofs.steps.Bytes.{stored_four}
 use Rattle.address_space.proofs.standing.FramesStand.{stays_then}
 use Rattle.address_space.proofs.Spaces.store_through.Goals as goal

@@ -1,17 +1,10 @@
-use Rattle.std.proofs.Common.{◌≡◌, ◌+◌, ◌<◌, ◌^◌, ℕ, List, Option, ap, sym, ◌∙◌, subst, arith}
-use Rattle.std.specs.Prelude.{Ok}
-use Rattle.address_space.specs.View.{directory_of}
-use Rattle.page_words.specs.Addresses.{byte_count, page_number}
-use Rattle.table_walk.specs.declared.Access.TheVariants.{Write}
-use Rattle.table_walk.specs.Walk.{walk_of}
-use Rattle.address_space.specs.ByWalk.{finds_at}
-use Rattle.address_space.specs.Image.{image_of}
-use Rattle.address_space.specs.Kept.{is_marked}
-use Rattle.address_space.specs.Spaces.{slot_at}
+use Rattle.address_space.proofs.Prelude.{◌≡◌, ◌+◌, ◌<◌, ◌^◌, ℕ, List, Option, ap, sym, ◌∙◌, subst, arith, Ok}
+use Rattle.address_space.proofs.Prelude.{directory_of, byte_count, page_number, Write, walk_of, finds_at, image_of}
+use Rattle.address_space.proofs.Prelude.{is_marked, slot_at}
 use Rattle.address_space.proofs.steps.Bytes.{stored_four}
 use Rattle.address_space.proofs.steps.WalkedPages.{put_led, two_led, four_led}
-use Rattle.address_space.proofs.Spaces.store_through_kept.Goals as goal
 use Rattle.address_space.proofs.standing.FramesStand.{stays_then}
+use Rattle.address_space.proofs.Spaces.store_through_kept.Goals as goal
 
 pub returns-in-Four-clause-spaces : goal.returns-in-Four-clause-spaces
 returns-in-Four-clause-spaces c =

@@ -1,8 +1,5 @@
-use Rattle.std.proofs.Common.{◌≡◌, ℕ, ◌+◌, ◌*◌, ◌≤◌, ap, sym, ◌∙◌, refl, arith, length, Option, Some, None, IfSome}
-use Rattle.std.specs.Option.{option_and_then}
-use Rattle.page_words.specs.Addresses.{slot_number}
-use Rattle.phys_memory.specs.Bytes.{frame_bytes}
-use Rattle.page_map.specs.Entries.{table_of}
+use Rattle.address_space.proofs.Prelude.{◌≡◌, ℕ, ◌+◌, ◌*◌, ◌≤◌, ap, sym, ◌∙◌, refl, arith, length, Option, Some, None}
+use Rattle.address_space.proofs.Prelude.{IfSome, option_and_then, slot_number, frame_bytes, table_of}
 use Rattle.address_space.proofs.steps.Steps.{page_map_of}
 use Rattle.address_space.proofs.Spaces.table.Goals as goal
 

@@ -1,10 +1,8 @@
-use Rattle.std.proofs.Common.{not, ap, sym, ◌∙◌, ◌&&◌}
+use Rattle.address_space.proofs.Prelude.{not, ap, sym, ◌∙◌, ◌&&◌, page_number, image_of, is_lazy_at, slot_at}
+use Rattle.address_space.proofs.Prelude.{cell_or_fresh}
 use Rattle.std.proofs.lemmas.Bool.{and_parts, not-true}
-use Rattle.page_words.specs.Addresses.{page_number}
-use Rattle.page_words.specs.FiniteMap as map
-use Rattle.address_space.specs.Image.{image_of, is_lazy_at}
 use Rattle.address_space.specs.Places.{takes_place}
-use Rattle.address_space.specs.Spaces.{slot_at, cell_or_fresh}
+use Rattle.page_words.specs.FiniteMap as map
 use Rattle.address_space.proofs.Spaces.try_write_part.Goals as goal
 
 pub returns-then-not-takes_stores-clause-done : goal.returns-then-not-takes_stores-clause-done

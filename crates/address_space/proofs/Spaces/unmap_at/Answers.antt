@@ -1,6 +1,4 @@
-use Rattle.std.proofs.Common.{ap, sym, ◌∙◌}
-use Rattle.std.specs.Prelude.{is_some}
-use Rattle.address_space.specs.Places.{found_of}
+use Rattle.address_space.proofs.Prelude.{ap, sym, ◌∙◌, is_some, found_of}
 use Rattle.address_space.proofs.steps.FoundPages.{found_known, found_mapped}
 use Rattle.address_space.proofs.steps.Placing.{place_found}
 use Rattle.address_space.proofs.Spaces.unmap_at.Goals as goal

@@ -1,12 +1,10 @@
-use Rattle.std.proofs.Common.{ap, arith}
-use Rattle.std.specs.Prelude.{is_some}
+use Rattle.address_space.proofs.Prelude.{ap, arith, is_some, frame_bytes, of_page, SlotRemoved}
 use Rattle.address_space.proofs.steps.Steps.{page_map_of}
 use Rattle.address_space.proofs.steps.GonePages.{home_table, home_entry, home_count, home_positive, home_counts, home_in_use, gone_table, gone_page, gone_kept}
-use Rattle.phys_memory.specs.Bytes.{frame_bytes}
 use Rattle.address_space.proofs.steps.RegionDrops.{entry_gone}
-use Rattle.address_space.proofs.Spaces.unmap_found.Goals as goal
-use Rattle.address_space.specs.Stays.{of_page}
 use Rattle.address_space.proofs.standing.FramesStand.{frames_stay}
+use Rattle.address_space.proofs.steps.LooseFrames.{loose_gone}
+use Rattle.address_space.proofs.Spaces.unmap_found.Goals as goal
 
 pub uncount_page-mapped-requires-clause-inside : goal.uncount_page-mapped-requires-clause-inside
 uncount_page-mapped-requires-clause-inside c =
@@ -41,11 +39,13 @@ free_table-requires c =
     gone_table c.self.inside c.args.pid c.args.directory c.args.page c.args.found.now c.self.invariant c.requires.user (rw (← c.self.view_is) at c.requires.found) (rw (← c.self.view_is) at c.requires.home)
     c.clear_found_entry-freed.new.memory c.leave.new.frames c.clear_found_entry-freed.result c.clear_found_entry-freed.ensures.cleared c.leave.ensures
 
+gone : (c : goal.After-free_table) → SlotRemoved c.self.inside.directories c.args.pid c.args.page c.self.inside.memory c.self.inside.frames c.clear_found_entry-freed.new.memory c.free_table.new.frames
+gone c =
+    gone_page c.self.inside c.args.pid c.args.directory c.args.page c.args.found.now c.self.invariant c.requires.user (rw (← c.self.view_is) at c.requires.found) (rw (← c.self.view_is) at c.requires.home)
+    c.clear_found_entry-freed.new.memory c.leave.new.frames c.clear_found_entry-freed.result c.clear_found_entry-freed.ensures.cleared c.leave.ensures c.free_table.new.frames c.clear_found_entry-freed.ensures.length c.free_table.ensures
+
 pub returns-clause-spaces : goal.returns-clause-spaces
-returns-clause-spaces c =
-    rw (← c.self.view_is)
-    ((gone_page c.self.inside c.args.pid c.args.directory c.args.page c.args.found.now c.self.invariant c.requires.user (rw (← c.self.view_is) at c.requires.found) (rw (← c.self.view_is) at c.requires.home)
-    c.clear_found_entry-freed.new.memory c.leave.new.frames c.clear_found_entry-freed.result c.clear_found_entry-freed.ensures.cleared c.leave.ensures c.free_table.new.frames c.clear_found_entry-freed.ensures.length c.free_table.ensures).spaces)
+returns-clause-spaces c = rw (← c.self.view_is) ((gone c).spaces)
 
 pub invariant_of-self : goal.invariant_of-self
 invariant_of-self c =
@@ -54,17 +54,12 @@ invariant_of-self c =
     c.uncount_page-mapped.result c.uncount_page-mapped.new.counts.items c.uncount_page-mapped.ensures.mapped c.uncount_page-mapped.ensures.left c.clear_found_entry-freed.ensures.last
 
 pub returns-clause-frames : goal.returns-clause-frames
-returns-clause-frames c =
-    rw (← c.self.view_is)
-    ((gone_page c.self.inside c.args.pid c.args.directory c.args.page c.args.found.now c.self.invariant c.requires.user (rw (← c.self.view_is) at c.requires.found) (rw (← c.self.view_is) at c.requires.home)
-    c.clear_found_entry-freed.new.memory c.leave.new.frames c.clear_found_entry-freed.result c.clear_found_entry-freed.ensures.cleared c.leave.ensures c.free_table.new.frames c.clear_found_entry-freed.ensures.length c.free_table.ensures).length)
+returns-clause-frames c = rw (← c.self.view_is) ((gone c).length)
 
 pub returns-clause-stay : goal.returns-clause-stay
 returns-clause-stay c =
     rw (← c.self.view_is)
-    (let gone = gone_page c.self.inside c.args.pid c.args.directory c.args.page c.args.found.now c.self.invariant c.requires.user (rw (← c.self.view_is) at c.requires.found) (rw (← c.self.view_is) at c.requires.home)
-    c.clear_found_entry-freed.new.memory c.leave.new.frames c.clear_found_entry-freed.result c.clear_found_entry-freed.ensures.cleared c.leave.ensures c.free_table.new.frames c.clear_found_entry-freed.ensures.length c.free_table.ensures in
-    frames_stay (of_page c.args.pid c.args.page) c.self.inside.directories c.self.inside.memory c.clear_found_entry-freed.new.memory c.self.inside.frames c.free_table.new.frames c.self.invariant.spaces.sound gone.after.sound gone.stay)
+    (frames_stay (of_page c.args.pid c.args.page) c.self.inside.directories c.self.inside.memory c.clear_found_entry-freed.new.memory c.self.inside.frames c.free_table.new.frames c.self.invariant.spaces.sound (gone c).after.sound (gone c).stay)
 
 pub returns-clause-words : goal.returns-clause-words
 returns-clause-words c =
@@ -77,3 +72,11 @@ returns-clause-words c =
 
 pub returns-clause-long : goal.returns-clause-long
 returns-clause-long c = rw (← c.self.view_is) c.clear_found_entry-freed.ensures.length
+
+pub returns-clause-loose : goal.returns-clause-loose
+returns-clause-loose c =
+    rw (← c.self.view_is)
+    (loose_gone c.self.inside.directories c.self.inside.memory c.clear_found_entry-freed.new.memory c.self.inside.frames c.leave.new.frames c.free_table.new.frames c.args.pid c.args.directory c.args.page
+    c.args.found.now.table c.args.found.now.entry c.clear_found_entry-freed.result c.self.invariant.spaces.sound (rw (← c.self.view_is) at c.requires.home)
+    (home_table c.self.inside c.args.pid c.args.directory c.args.page c.args.found.now c.self.invariant c.requires.user (rw (← c.self.view_is) at c.requires.found) (rw (← c.self.view_is) at c.requires.home))
+    c.clear_found_entry-freed.ensures.cleared c.leave.ensures c.free_table.ensures)

@@ -1,7 +1,4 @@
-use Rattle.std.proofs.Common.{ap, sym, ◌∙◌, is_some}
-use Rattle.std.specs.Option.{option_map}
-use Rattle.page_words.specs.Addresses.{second_page}
-use Rattle.address_space.specs.Places.{place_in}
+use Rattle.address_space.proofs.Prelude.{ap, sym, ◌∙◌, is_some, option_map, second_page, place_in}
 use Rattle.address_space.proofs.steps.Neighbours.{second_there}
 use Rattle.address_space.proofs.steps.Bytes.{stored_in_page}
 use Rattle.address_space.proofs.Spaces.write_at.Goals as goal

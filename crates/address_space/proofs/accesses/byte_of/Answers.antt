@@ -1,5 +1,4 @@
-use Rattle.std.proofs.Common.{ap, ◌∙◌}
-use Rattle.std.specs.Prelude.{slice_index}
+use Rattle.address_space.proofs.Prelude.{ap, ◌∙◌, slice_index}
 use Rattle.address_space.proofs.entries.Readings.{byte_in_frame}
 use Rattle.address_space.proofs.accesses.byte_of.Goals as goal
 

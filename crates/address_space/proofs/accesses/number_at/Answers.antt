@@ -1,10 +1,7 @@
-use Rattle.std.proofs.Common.{◌≡◌, ◌+◌, ◌*◌, ◌≤◌, ◌<◌, [], ◌∷◌, ap, ◌∙◌, arith}
-use Rattle.std.specs.Prelude.{slice_index}
-use Rattle.phys_memory.specs.Bytes.{word_at, frame_bytes}
+use Rattle.address_space.proofs.Prelude.{◌≡◌, ◌+◌, ◌*◌, ◌≤◌, ◌<◌, [], ◌∷◌, ap, ◌∙◌, arith, slice_index, word_at}
+use Rattle.address_space.proofs.Prelude.{frame_bytes, some_bytes, value_of}
 use Rattle.address_space.proofs.entries.Readings.{word_read_in, byte_read_in, byte_in_frame}
 use Rattle.address_space.proofs.steps.Bytes.{value_by_places}
-use Rattle.page_words.proofs.Accesses.{some_bytes}
-use Rattle.address_space.specs.Spaces.{value_of}
 use Rattle.address_space.proofs.accesses.number_at.Goals as goal
 
 pub place_of-place-requires-clause-inside : goal.place_of-place-requires-clause-inside

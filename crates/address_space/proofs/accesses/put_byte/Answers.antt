@@ -1,7 +1,4 @@
-use Rattle.std.proofs.Common.{◌%◌, ap, ◌∙◌, arith}
-use Rattle.std.specs.Prelude.{slice_set}
-use Rattle.phys_memory.specs.Bytes.{with_frame, frame_bytes}
-use Rattle.phys_memory.proofs.Frames.{length-frame}
+use Rattle.address_space.proofs.Prelude.{◌%◌, ap, ◌∙◌, arith, slice_set, with_frame, frame_bytes, length-frame}
 use Rattle.address_space.proofs.steps.Stores.{byte_placed, byte_is_write}
 use Rattle.address_space.proofs.accesses.put_byte.Goals as goal
 

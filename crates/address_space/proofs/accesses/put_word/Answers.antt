@@ -1,5 +1,4 @@
-use Rattle.std.proofs.Common.{ap, ◌∙◌}
-use Rattle.phys_memory.specs.Bytes.{with_word, with_frame, frame_bytes}
+use Rattle.address_space.proofs.Prelude.{ap, ◌∙◌, with_word, with_frame, frame_bytes}
 use Rattle.address_space.proofs.steps.Stores.{word_placed, word_is_write}
 use Rattle.address_space.proofs.accesses.put_word.Goals as goal
 

@@ -1,6 +1,4 @@
-use Rattle.std.proofs.Common.{◌≡◌, ap, ◌∙◌, arith}
-use Rattle.address_space.specs.Spaces.{pages_of, regions_of}
-use Rattle.address_space.specs.View.{spaces_in}
+use Rattle.address_space.proofs.Prelude.{◌≡◌, ap, ◌∙◌, arith, pages_of, regions_of, spaces_in}
 use Rattle.address_space.proofs.costs.ChargeLemmas.{regions_below, regions_at_first, regions_next, regions_at_last}
 use Rattle.address_space.proofs.charges.tables.Goals as goal
 

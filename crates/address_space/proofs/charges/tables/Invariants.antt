@@ -1,8 +1,5 @@
-use Rattle.std.proofs.Common.{◌≡◌, ◌+◌, ◌≤◌, ℕ, List, Option, Some}
-use Rattle.alloc_table.specs.declared.Role.{Role}
-use Rattle.address_space.specs.Spaces.{pages_of, regions_of}
-use Rattle.address_space.specs.Sound.{IsSpaces}
-use Rattle.address_space.specs.View.{directory_of, spaces_in}
+use Rattle.address_space.proofs.Prelude.{◌≡◌, ◌+◌, ◌≤◌, ℕ, List, Option, Some, Role, pages_of, regions_of, IsSpaces}
+use Rattle.address_space.proofs.Prelude.{directory_of, spaces_in}
 use Rattle.address_space.proofs.costs.ChargeLemmas.{regions_below}
 use Rattle.address_space.proofs.charges.tables.Given as goal
 

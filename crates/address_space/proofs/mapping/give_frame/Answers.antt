@@ -1,9 +1,5 @@
-use Rattle.std.proofs.Common.{arith, ap, sym, ◌∙◌, subst, ◌<◌, ◌^◌}
-use Rattle.std.proofs.lemmas.Option.{slice_get_within}
-use Rattle.alloc_table.specs.declared.Role.TheVariants.{Free}
-use Rattle.page_map.specs.declared.PageEntry.{PageEntry}
-use Rattle.page_map.specs.Entries.{with_entry}
-use Rattle.phys_memory.specs.Bytes.{frame_bytes}
+use Rattle.address_space.proofs.Prelude.{arith, ap, sym, ◌∙◌, subst, ◌<◌, ◌^◌, slice_get_within, Free, PageEntry}
+use Rattle.address_space.proofs.Prelude.{with_entry, frame_bytes}
 use Rattle.address_space.proofs.mapping.give_frame.Goals as goal
 
 pub put_entry-requires-clause-frame : goal.put_entry-requires-clause-frame

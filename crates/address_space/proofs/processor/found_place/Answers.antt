@@ -1,5 +1,4 @@
-use Rattle.std.proofs.Common.{◌+◌, ◌*◌, ap, sym, ◌∙◌, arith}
-use Rattle.page_words.specs.Addresses.{offset_number}
+use Rattle.address_space.proofs.Prelude.{◌+◌, ◌*◌, ap, sym, ◌∙◌, arith, offset_number}
 use Rattle.address_space.proofs.steps.WalkSteps.{walk_inside, walk_named}
 use Rattle.address_space.proofs.processor.found_place.Goals as goal
 

@@ -1,7 +1,4 @@
-use Rattle.std.proofs.Common.{◌≡◌, ap, ◌∙◌, arith}
-use Rattle.page_words.specs.Addresses.{slot_number}
-use Rattle.phys_memory.specs.Bytes.{word_at, word_place, with_word}
-use Rattle.address_space.specs.ByWalk.{walked_word}
+use Rattle.address_space.proofs.Prelude.{◌≡◌, ap, ◌∙◌, arith, slot_number, word_at, word_place, with_word, walked_word}
 use Rattle.address_space.proofs.processor.set_word_walked.Goals as goal
 
 pub returns-clause-bytes : goal.returns-clause-bytes

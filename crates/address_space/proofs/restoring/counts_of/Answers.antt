@@ -1,8 +1,6 @@
-use Rattle.std.proofs.Common.{◌++◌, ◌∷◌, [], sym, ap, ◌∙◌, arith}
-use Rattle.std.specs.Prelude.{Some}
+use Rattle.address_space.proofs.Prelude.{◌++◌, ◌∷◌, [], sym, ap, ◌∙◌, arith, Some, counted_at, words_where}
 use Rattle.std.proofs.lemmas.Option.{slice_get-get_or}
 use Rattle.std.proofs.lemmas.List.FromFn.{map-range_with_len_more}
-use Rattle.address_space.specs.Restored.{counted_at, words_where}
 use Rattle.address_space.proofs.restoring.counts_of.Goals as goal
 
 pub loop-place-preserved : goal.loop-place-preserved

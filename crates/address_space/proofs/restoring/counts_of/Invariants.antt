@@ -1,6 +1,4 @@
-use Rattle.std.proofs.Common.{◌≡◌, map}
-use Rattle.std.specs.List.{range_with_len}
-use Rattle.address_space.specs.Restored.{counted_at}
+use Rattle.address_space.proofs.Prelude.{◌≡◌, map, range_with_len, counted_at}
 use Rattle.address_space.proofs.restoring.counts_of.Given as goal
 
 abbrev pub invariant-loop-place : goal.invariant-loop-place

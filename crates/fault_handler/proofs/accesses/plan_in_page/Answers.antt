@@ -1,8 +1,4 @@
-use Rattle.std.proofs.Common.{ap, sym, ◌∙◌}
-use Rattle.std.specs.Option.{option_map}
-use Rattle.page_words.specs.Addresses.{start_number}
-use Rattle.fault_handler.specs.Looks.{look_of, planned_by_looks}
-use Rattle.fault_handler.specs.declared.plans.Planned.{Planned}
+use Rattle.fault_handler.proofs.Prelude.{ap, sym, ◌∙◌, option_map, start_number, look_of, planned_by_looks, Planned}
 use Rattle.fault_handler.proofs.Looked.{looked}
 use Rattle.fault_handler.proofs.Settled.{inside_by_page}
 use Rattle.fault_handler.proofs.accesses.plan_in_page.Goals as goal

@@ -1,14 +1,7 @@
-use Rattle.std.proofs.Common.{◌≡◌, [], ◌∷◌, ap, sym, subst, ◌∙◌, not, true, false, ◌&&◌}
-use Rattle.page_words.specs.Addresses.{page_number}
-use Rattle.address_space.specs.Spaces.{at_page}
-use Rattle.address_space.specs.Image.{is_lazy_at, takes_stores}
-use Rattle.address_space.proofs.costs.MapFirst.{touched-there}
-use Rattle.address_space.proofs.standing.FramesStand.{stays_then, stays_most}
-use Rattle.table_walk.specs.declared.Access.TheVariants.{Read, Write}
-use Rattle.process_table.specs.Calls.{access_value, after_access}
-use Rattle.process_table.specs.Image.{memory_of}
-use Rattle.process_table.specs.State.{State, is_mapped, overdrawn}
-use Rattle.fault_handler.specs.Plans.{goes_on, step_at}
+use Rattle.fault_handler.proofs.Prelude.{◌≡◌, [], ◌∷◌, ap, sym, subst, ◌∙◌, not, true, false, ◌&&◌, page_number}
+use Rattle.fault_handler.proofs.Prelude.{at_page, is_lazy_at, takes_stores, touched-there, stays_then, stays_most, Read}
+use Rattle.fault_handler.proofs.Prelude.{Write, access_value, after_access, memory_of, State, is_mapped, overdrawn}
+use Rattle.fault_handler.proofs.Prelude.{goes_on, step_at}
 use Rattle.fault_handler.proofs.Filled.{fills_one}
 use Rattle.fault_handler.proofs.Settled.{ready, first_room, mapped_alone, mapped_right, mapped_value, mapped_after}
 use Rattle.fault_handler.proofs.accesses.settle_in_page.Goals as goal

@@ -1,7 +1,4 @@
-use Rattle.std.proofs.Common.{◌≡◌, ◌∙◌, true, refl, sym, subst}
-use Rattle.address_space.specs.Spaces.{at_page}
-use Rattle.table_walk.specs.declared.Access.TheVariants.{Read}
-use Rattle.process_table.specs.State.{is_mapped}
+use Rattle.fault_handler.proofs.Prelude.{◌≡◌, ◌∙◌, true, refl, sym, subst, at_page, Read, is_mapped}
 use Rattle.fault_handler.proofs.Walked.{completes_at_once}
 use Rattle.fault_handler.proofs.accesses.try_load.Goals as goal
 

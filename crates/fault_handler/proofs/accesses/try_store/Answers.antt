@@ -1,10 +1,5 @@
-use Rattle.std.proofs.Common.{◌≡◌, ◌∙◌, true, refl, sym, subst}
-use Rattle.address_space.specs.Image.{takes_stores}
-use Rattle.address_space.specs.Spaces.{at_page}
-use Rattle.table_walk.specs.declared.Access.TheVariants.{Write}
-use Rattle.process_table.specs.Image.{memory_of}
-use Rattle.process_table.specs.State.{is_mapped}
-use Rattle.std.proofs.lemmas.Bool.{and_parts}
+use Rattle.fault_handler.proofs.Prelude.{◌≡◌, ◌∙◌, true, refl, sym, subst, takes_stores, at_page, Write, memory_of}
+use Rattle.fault_handler.proofs.Prelude.{is_mapped, and_parts}
 use Rattle.fault_handler.proofs.Walked.{completes_at_once}
 use Rattle.fault_handler.proofs.accesses.try_store.Goals as goal
 

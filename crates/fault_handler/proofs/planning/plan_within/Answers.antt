@@ -1,5 +1,4 @@
-use Rattle.std.proofs.Common.{◌∙◌}
-use Rattle.fault_handler.specs.Looks.{planned_by_looks}
+use Rattle.fault_handler.proofs.Prelude.{◌∙◌, planned_by_looks}
 use Rattle.fault_handler.proofs.Looked.{looked}
 use Rattle.fault_handler.proofs.planning.plan_within.Goals as goal
 

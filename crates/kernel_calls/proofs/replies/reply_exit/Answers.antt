@@ -19,5 +19,6 @@ returns c =
       reply = c.done_told.ensures ∙ told;
       state = state_is done_told (λ a. refl) (λ k. refl) v w e (call.Exit) c.requires r told made.kept made.state;
       stay = stay_is done_told (λ a. refl) (λ k. refl) v w e (call.Exit) c.requires r told made.kept (of_process e.pid) (λ slot f. refl) made.stay;
+      loose = made.loose;
       kept = λ stops. kept_is done_told (λ a. refl) (λ k. refl) v w e (call.Exit) c.requires r told made.kept (sym (ap completes c.done_told.ensures) ∙ stops);
     }

@@ -1,6 +1,4 @@
-use Rattle.std.proofs.Common.{◌≡◌, ℕ, ◌<◌, ◌≤◌, None}
-use Rattle.phys_memory.specs.Bytes.{frame_bytes, word_in}
-use Rattle.page_map.specs.Entries.{word_entry}
+use Rattle.page_map.proofs.Prelude.{◌≡◌, ℕ, ◌<◌, ◌≤◌, None, frame_bytes, word_in, word_entry}
 use Rattle.page_map.proofs.regions.next_listed.Given as goal
 
 abbrev pub invariant-loop-place : goal.invariant-loop-place

@@ -1,6 +1,4 @@
-use Rattle.std.proofs.Common.{◌≡◌, ℕ, ◌*◌, ◌<◌, ◌≤◌, None}
-use Rattle.phys_memory.specs.Bytes.{frame_bytes}
-use Rattle.page_map.specs.Entries.{table_of}
+use Rattle.page_map.proofs.Prelude.{◌≡◌, ℕ, ◌*◌, ◌<◌, ◌≤◌, None, frame_bytes, table_of}
 use Rattle.page_map.proofs.regions.next_region.Given as goal
 
 abbrev pub invariant-loop-pair : goal.invariant-loop-pair

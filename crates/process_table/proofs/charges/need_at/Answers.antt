@@ -1,5 +1,4 @@
-use Rattle.std.proofs.Common.{ap, ◌∙◌}
-use Rattle.address_space.specs.Places.{need_of}
+use Rattle.process_table.proofs.Prelude.{ap, ◌∙◌, need_of}
 use Rattle.process_table.proofs.charges.need_at.Goals as goal
 
 pub returns-clause-value : goal.returns-clause-value

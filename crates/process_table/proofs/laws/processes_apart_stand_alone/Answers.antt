@@ -2,51 +2,45 @@ use Rattle.process_table.proofs.Apart.{mapped_alike, cost_alike, given_alike, no
 use Rattle.process_table.proofs.ApartOthers.{load_leaves, store_leaves, map_leaves, unmap_leaves, protect_leaves, offer_leaves, withdraw_leaves, accept_leaves, spawn_leaves, fork_leaves, exit_leaves, spawn_alike, fork_alike}
 use Rattle.process_table.proofs.laws.processes_apart_stand_alone.Goals as goal
 
-pub returns-clause-refusals : goal.returns-clause-refusals
-returns-clause-refusals c = (
-  λ page s t p q a. map_refusal_alike s t p q a page,
-  λ page s t p q a. unmap_refusal_alike s t p q a page,
-  λ page write s t p q a. protect_refusal_alike s t p q a page write,
-  λ page target s t p q a. withdraw_refusal_alike s t p q a page target,
-  λ s t p q a. exit_refusal_alike s t p q a,
-  λ page s t p q a. mapped_alike s t p q a page,
-  λ page s t p q a. no_room_alike s t p q a page,
-  λ addr size s t p q a. lacks_room_alike s t p q a addr size,
-)
-
-pub returns-clause-values : goal.returns-clause-values
-returns-clause-values c = (
-  λ page s t p q a. cell_alike s t p q a page,
-  λ page s t p q a. group_alike s t p q a page,
-  λ addr size s t p q a. loaded_alike s t p q a addr size,
-  λ s t p q a. cost_alike s t p q a,
-  λ s t p q a. given_alike s t p q a,
-)
-
-pub returns-clause-calls : goal.returns-clause-calls
-returns-clause-calls c = (
-  λ addr size s t p q a. load_alike s t p q addr size a,
-  λ addr size value s t p q a. store_alike s t p q addr size value a,
-  λ page write s t p q a. map_alike s t p q a page write,
-  λ page s t p q a. unmap_alike s t p q page a,
-  λ page write s t p q a. protect_alike s t p q a page write,
-  λ page target s t p q a. withdraw_alike s t p q page target a,
-)
-
-pub returns-clause-others : goal.returns-clause-others
-returns-clause-others c = (
-  λ addr size s p q w a d live allowed. load_leaves s p q w a d addr size,
-  λ addr size value s p q w a d live allowed. store_leaves s p q w a d addr size value,
-  λ page write s p q w a d live allowed. map_leaves s p q w a d page write,
-  λ page s p q w a d live allowed. unmap_leaves s p q w a d page,
-  λ page write s p q w a d live allowed. protect_leaves s p q w a d page write,
-  λ page target write s p q w a d live allowed. offer_leaves s p q w a d page target write,
-  λ page target s p q w a d live allowed. withdraw_leaves s p q w a d page target,
-  λ giver giver_page page s p q w a d live allowed. accept_leaves s p q giver giver_page page w a d allowed,
-  λ quota s p q w a d live allowed. spawn_leaves s p q quota a d allowed,
-  λ quota s p q w a d live allowed. fork_leaves s p q quota a d allowed,
-  λ s p q w a d live allowed. exit_leaves s p q a d live,
-)
-
-pub returns-clause-children : goal.returns-clause-children
-returns-clause-children c = (spawn_alike, fork_alike)
+pub returns : goal.returns
+returns c = record {
+  refusals = (
+    λ page s t p q a. map_refusal_alike s t p q a page,
+    λ page s t p q a. unmap_refusal_alike s t p q a page,
+    λ page write s t p q a. protect_refusal_alike s t p q a page write,
+    λ page target s t p q a. withdraw_refusal_alike s t p q a page target,
+    λ s t p q a. exit_refusal_alike s t p q a,
+    λ page s t p q a. mapped_alike s t p q a page,
+    λ page s t p q a. no_room_alike s t p q a page,
+    λ addr size s t p q a. lacks_room_alike s t p q a addr size,
+  );
+  values = (
+    λ page s t p q a. cell_alike s t p q a page,
+    λ page s t p q a. group_alike s t p q a page,
+    λ addr size s t p q a. loaded_alike s t p q a addr size,
+    λ s t p q a. cost_alike s t p q a,
+    λ s t p q a. given_alike s t p q a,
+  );
+  calls = (
+    λ addr size s t p q a. load_alike s t p q addr size a,
+    λ addr size value s t p q a. store_alike s t p q addr size value a,
+    λ page write s t p q a. map_alike s t p q a page write,
+    λ page s t p q a. unmap_alike s t p q page a,
+    λ page write s t p q a. protect_alike s t p q a page write,
+    λ page target s t p q a. withdraw_alike s t p q page target a,
+  );
+  others = (
+    λ addr size s p q w a d live allowed. load_leaves s p q w a d addr size,
+    λ addr size value s p q w a d live allowed. store_leaves s p q w a d addr size value,
+    λ page write s p q w a d live allowed. map_leaves s p q w a d page write,
+    λ page s p q w a d live allowed. unmap_leaves s p q w a d page,
+    λ page write s p q w a d live allowed. protect_leaves s p q w a d page write,
+    λ page target write s p q w a d live allowed. offer_leaves s p q w a d page target write,
+    λ page target s p q w a d live allowed. withdraw_leaves s p q w a d page target,
+    λ giver giver_page page s p q w a d live allowed. accept_leaves s p q giver giver_page page w a d allowed,
+    λ quota s p q w a d live allowed. spawn_leaves s p q quota a d allowed,
+    λ quota s p q w a d live allowed. fork_leaves s p q quota a d allowed,
+    λ s p q w a d live allowed. exit_leaves s p q a d live,
+  );
+  children = (spawn_alike, fork_alike);
+}

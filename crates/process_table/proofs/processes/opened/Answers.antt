@@ -1,9 +1,6 @@
-use Rattle.std.proofs.Common.{◌≡◌, ℕ, ◌+◌, ◌-◌, ◌≤◌, ap, sym, ◌∙◌, length, arith}
-use Rattle.std.specs.Prelude.{is_some}
-use Rattle.address_space.specs.View.{directory_of}
+use Rattle.process_table.proofs.Prelude.{◌≡◌, ℕ, ◌+◌, ◌-◌, ◌≤◌, ap, sym, ◌∙◌, length, arith, is_some, directory_of}
+use Rattle.process_table.proofs.Prelude.{Containers, open_with}
 use Rattle.address_space.proofs.steps.Openings.{no_directory}
-use Rattle.quota_tree.specs.Containers.{Containers}
-use Rattle.process_table.specs.State.{open_with}
 use Rattle.process_table.proofs.BookLaws.{well_formed-open}
 use Rattle.process_table.proofs.Keeping.{whole}
 use Rattle.process_table.proofs.Spawns.{charged-root}

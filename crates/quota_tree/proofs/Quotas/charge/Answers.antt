@@ -1,10 +1,8 @@
-use Rattle.std.proofs.Common.{◌+◌, Some, refl, sym, ap, ◌∙◌, arith}
-use Rattle.std.specs.Prelude.{slice_set}
-use Rattle.page_words.specs.FiniteMap as map
-use Rattle.quota_tree.specs.Containers.{room_of, used_of, with_used, charged_with}
-use Rattle.quota_tree.specs.Invariant.{seen_as}
+use Rattle.quota_tree.proofs.Prelude.{◌+◌, Some, refl, sym, ap, ◌∙◌, arith, slice_set, room_of, used_of, with_used}
+use Rattle.quota_tree.proofs.Prelude.{charged_with, seen_as}
 use Rattle.quota_tree.proofs.Views.{is_some-live, room_of-container, used_of-container, within_places}
 use Rattle.quota_tree.proofs.Writes.{quotas-charged, seen_as-charged}
+use Rattle.page_words.specs.FiniteMap as map
 use Rattle.quota_tree.proofs.Quotas.charge.Goals as goal
 
 pub live-container-requires : goal.live-container-requires

@@ -1,9 +1,7 @@
-use Rattle.std.proofs.Common.{ap, ◌∙◌}
-use Rattle.page_words.specs.FiniteMap as map
-use Rattle.quota_tree.specs.Book.{number_of_children}
-use Rattle.quota_tree.specs.Containers.{after_close}
+use Rattle.quota_tree.proofs.Prelude.{ap, ◌∙◌, number_of_children, after_close}
 use Rattle.quota_tree.proofs.Closes.{giver_gave, giver_has_children, quotas-close, seen_as-close}
 use Rattle.quota_tree.proofs.Views.{is_some-live, within_places}
+use Rattle.page_words.specs.FiniteMap as map
 use Rattle.quota_tree.proofs.Quotas.close.Goals as goal
 
 pub live-closed-requires : goal.live-closed-requires

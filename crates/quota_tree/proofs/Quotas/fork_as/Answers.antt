@@ -1,9 +1,7 @@
-use Rattle.std.proofs.Common.{ap, sym, ◌∙◌, arith}
-use Rattle.page_words.specs.FiniteMap as map
-use Rattle.quota_tree.specs.Containers.{split_answer, after_split, with_used, used_of}
-use Rattle.quota_tree.specs.Invariant.{seen_as}
+use Rattle.quota_tree.proofs.Prelude.{ap, sym, ◌∙◌, arith, split_answer, after_split, with_used, used_of, seen_as}
 use Rattle.quota_tree.proofs.Splits.{place_there, giver_room, giver_children, quotas-child, seen_as-child}
 use Rattle.quota_tree.proofs.Views.{is_some-live, used_of-container}
+use Rattle.page_words.specs.FiniteMap as map
 use Rattle.quota_tree.proofs.Quotas.fork_as.Goals as goal
 
 pub live-giver-requires : goal.live-giver-requires

@@ -1,9 +1,6 @@
-use Rattle.std.proofs.Common.{◌≡◌, is_some, sym, ap, ◌∙◌}
-use Rattle.page_words.specs.FiniteMap as map
-use Rattle.quota_tree.specs.declared.Container.{Container}
-use Rattle.quota_tree.specs.Book.{number_of_children}
-use Rattle.quota_tree.specs.Containers.{container_of, used_of}
+use Rattle.quota_tree.proofs.Prelude.{◌≡◌, is_some, sym, ap, ◌∙◌, Container, number_of_children, container_of, used_of}
 use Rattle.quota_tree.proofs.Views.{container_of-kept, live-is_some, used_of-container, IfSome-each}
+use Rattle.page_words.specs.FiniteMap as map
 use Rattle.quota_tree.proofs.Quotas.get.Goals as goal
 
 pub returns-clause-container : goal.returns-clause-container

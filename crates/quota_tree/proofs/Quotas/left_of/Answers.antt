@@ -1,5 +1,4 @@
-use Rattle.std.proofs.Common.{sym, ap, ◌∙◌}
-use Rattle.quota_tree.specs.Containers.{container_of, room_of}
+use Rattle.quota_tree.proofs.Prelude.{sym, ap, ◌∙◌, container_of, room_of}
 use Rattle.quota_tree.proofs.Views.{container_of-kept, room_of-container}
 use Rattle.quota_tree.proofs.Quotas.left_of.Goals as goal
 

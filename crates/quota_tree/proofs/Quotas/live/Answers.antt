@@ -1,7 +1,6 @@
-use Rattle.std.proofs.Common.{sym, ap, ◌∙◌}
-use Rattle.page_words.specs.FiniteMap as map
-use Rattle.quota_tree.specs.Containers.{container_of}
+use Rattle.quota_tree.proofs.Prelude.{sym, ap, ◌∙◌, container_of}
 use Rattle.quota_tree.proofs.Views.{is_some-live, container_of-kept}
+use Rattle.page_words.specs.FiniteMap as map
 use Rattle.quota_tree.proofs.Quotas.live.Goals as goal
 
 pub live-requires : goal.live-requires

@@ -1,5 +1,4 @@
-use Rattle.std.proofs.Common.{sym, ap, ◌∙◌}
-use Rattle.quota_tree.specs.Book.{next_number}
+use Rattle.quota_tree.proofs.Prelude.{sym, ap, ◌∙◌, next_number}
 use Rattle.quota_tree.proofs.Views.{next_number-position}
 use Rattle.quota_tree.proofs.Quotas.next_number.Goals as goal
 

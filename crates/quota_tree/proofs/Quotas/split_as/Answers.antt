@@ -1,9 +1,7 @@
-use Rattle.std.proofs.Common.{ap, ◌∙◌, arith}
-use Rattle.page_words.specs.FiniteMap as map
-use Rattle.quota_tree.specs.Containers.{split_answer, after_split}
-use Rattle.quota_tree.specs.Invariant.{seen_as}
+use Rattle.quota_tree.proofs.Prelude.{ap, ◌∙◌, arith, split_answer, after_split, seen_as}
 use Rattle.quota_tree.proofs.Splits.{can, place_there, giver_room, giver_children, quotas-child, seen_as-child, with_used-split}
 use Rattle.quota_tree.proofs.Views.{is_some-live}
+use Rattle.page_words.specs.FiniteMap as map
 use Rattle.quota_tree.proofs.Quotas.split_as.Goals as goal
 
 pub live-giver-requires : goal.live-giver-requires

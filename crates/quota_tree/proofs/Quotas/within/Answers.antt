@@ -1,8 +1,7 @@
-use Rattle.std.proofs.Common.{◌≡◌, ℕ, ◌+◌, ◌<◌, ◌≤◌, Some, subst}
-use Rattle.page_words.specs.FiniteMap as map
-use Rattle.quota_tree.specs.Book.{Member, given, quota_of}
-use Rattle.quota_tree.specs.Containers.{Containers, IsLive, used_of, total_used}
+use Rattle.quota_tree.proofs.Prelude.{◌≡◌, ℕ, ◌+◌, ◌<◌, ◌≤◌, Some, subst, Member, given, quota_of, Containers, IsLive}
+use Rattle.quota_tree.proofs.Prelude.{used_of, total_used}
 use Rattle.quota_tree.proofs.Views.{all_numbers, all_parents, all_used, all_within, within_root}
+use Rattle.page_words.specs.FiniteMap as map
 use Rattle.quota_tree.proofs.Quotas.within.Goals as goal
 
 pub returns-clause-numbers : goal.returns-clause-numbers

@@ -1,7 +1,5 @@
-use Rattle.std.proofs.Common.{◌≡◌, ℕ, ◌+◌, ◌<◌, length-set, ap, sym, subst, ◌∙◌, arith, Option, Some}
-use Rattle.std.specs.Prelude.{slice_get, slice_set}
-use Rattle.quota_tree.specs.declared.Container.{Container}
-use Rattle.quota_tree.specs.Accounts.{container_in}
+use Rattle.quota_tree.proofs.Prelude.{◌≡◌, ℕ, ◌+◌, ◌<◌, length-set, ap, sym, subst, ◌∙◌, arith, Option, Some, slice_get}
+use Rattle.quota_tree.proofs.Prelude.{slice_set, Container, container_in}
 use Rattle.quota_tree.proofs.AccountLemmas.{fill_goes_on}
 use Rattle.quota_tree.proofs.accounts.containers_of.Goals as goal
 

@@ -1,6 +1,4 @@
-use Rattle.std.proofs.Common.{◌≡◌, ℕ, ◌<◌, length}
-use Rattle.std.specs.Prelude.{slice_get, Some}
-use Rattle.quota_tree.specs.Accounts.{container_in}
+use Rattle.quota_tree.proofs.Prelude.{◌≡◌, ℕ, ◌<◌, length, slice_get, Some, container_in}
 use Rattle.quota_tree.proofs.accounts.containers_of.Given as goal
 
 abbrev pub invariant-loop-number : goal.invariant-loop-number

@@ -1,4 +1,5 @@
 use Rattle.std.proofs.Common.{◌∙◌, ap, sym, subst}
+use Rattle.kernel_calls.specs.Machine.{next}
 use Rattle.kernel_calls.specs.Translations.{ended_by, Ends}
 use Rattle.kernel_calls.specs.declared.translations.Ended.{Ended}
 use Rattle.kernel_calls.proofs.FamilyEnds.{exit_done, exit_ends}
@@ -21,3 +22,6 @@ returns-clause-ends c =
     let done = exit_done s c.args.pid c.requires.live c.requires.not_root (childless s c.args.pid c.requires.childless) in
     subst (λ (x : Ended). Ends x c.args.self.now c.step.new.self)
     (ap (ended_by c.args.self.now) c.exit_of.ensures ∙ sym (exit_ends c.args.self.now c.args.pid done)) c.step.ensures.ends
+
+pub returns-clause-state : goal.returns-clause-state
+returns-clause-state c = c.step.ensures.state ∙ ap (next c.args.self.now.state) c.exit_of.ensures

@@ -1,30 +1,17 @@
-use Rattle.std.proofs.Common.{◌≡◌, ◌≢◌, ℕ, ◌+◌, true, false, [], ◌∷◌, arith, refl, Some, None, rules, sym, ap, subst, ◌∙◌}
-use Rattle.std.specs.Prelude.{IsOk, Ok, Err, is_some, if◌then◌else◌}
-use Rattle.process_table.specs.declared.causes.Cause.TheVariants.{Mapped, Quota}
-use Rattle.page_words.specs.Addresses.{IsUserPage}
-use Rattle.page_sharing.specs.Offers.{offer_key}
-use Rattle.process_table.specs.State.{is_live, is_mapped, overdrawn}
+use Rattle.process_table.proofs.Prelude.{◌≡◌, ◌≢◌, ℕ, ◌+◌, true, false, [], ◌∷◌, arith, refl, Some, None, rules, sym}
+use Rattle.process_table.proofs.Prelude.{ap, subst, ◌∙◌, IsOk, Ok, Err, is_some, if◌then◌else◌, Mapped, Quota}
+use Rattle.process_table.proofs.Prelude.{IsUserPage, offer_key, is_live, is_mapped, overdrawn, State, no_value}
+use Rattle.process_table.proofs.Prelude.{place_in, Slot, cost, need, joined, at_page, cost-joined, cost-joined_other}
+use Rattle.process_table.proofs.Prelude.{used_of, accept_answer, accept_refusal, after_accept, View, IsProcesses}
+use Rattle.process_table.proofs.Prelude.{state_of, IsWellFormed, image_of, FramesStay, of_lazy, memory_of}
 use Rattle.process_table.proofs.Placed.{page_is_user}
-use Rattle.page_words.proofs.OptionLemmas.{no_value}
-use Rattle.page_words.specs.FiniteMap as map
-use Rattle.address_space.specs.Places.{place_in}
-use Rattle.address_space.specs.Spaces.{Slot, cost, need, joined, at_page}
-use Rattle.address_space.proofs.costs.Totals.{cost-joined, cost-joined_other}
 use Rattle.address_space.proofs.standing.FramesStand.{stays_then, stays_most}
-use Rattle.quota_tree.specs.Containers.{used_of}
-use Rattle.process_table.specs.State.{State}
-use Rattle.process_table.specs.TestAnswers.{accept_answer}
-use Rattle.process_table.specs.Calls.{accept_refusal, after_accept}
-use Rattle.process_table.specs.View.{View, IsProcesses, state_of}
-use Rattle.process_table.specs.WellFormed.{IsWellFormed}
 use Rattle.process_table.proofs.Charged.{charged-one}
 use Rattle.process_table.proofs.Keeping.{whole, keeps-accept}
 use Rattle.process_table.proofs.SpaceLaws.{new_fits}
 use Rattle.process_table.proofs.Refusals.{no_cause, may_accept, test_accept}
 use Rattle.process_table.proofs.SharingLaws.{giver_mapped}
-use Rattle.address_space.specs.Image.{image_of}
-use Rattle.address_space.specs.Stays.{FramesStay, of_lazy}
-use Rattle.process_table.specs.Image.{memory_of}
+use Rattle.page_words.specs.FiniteMap as map
 use Rattle.process_table.proofs.processes.Processes.accept_offered.Goals as goal
 
 -- what is known of the accept of an offer that is pending: nothing is against it, and the giver's page is a user page and

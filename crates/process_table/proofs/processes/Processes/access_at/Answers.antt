@@ -1,14 +1,8 @@
-use Rattle.std.proofs.Common.{◌≡◌, ℕ, rules, ap, sym, subst, is_some, ◌∙◌}
-use Rattle.std.specs.Option.{option_map}
-use Rattle.address_space.specs.Places.{place_in}
-use Rattle.page_words.specs.declared.addresses.Size.{Size}
+use Rattle.process_table.proofs.Prelude.{◌≡◌, ℕ, rules, ap, sym, subst, is_some, ◌∙◌, option_map, place_in, Size}
+use Rattle.process_table.proofs.Prelude.{IsUserPage, second_page, EachTouched, page_number, IsThere, Read, Write, State}
+use Rattle.process_table.proofs.Prelude.{View, state_of}
 use Rattle.process_table.specs.Places.{access_places}
-use Rattle.page_words.specs.Addresses.{IsUserPage, second_page, EachTouched, page_number}
-use Rattle.address_space.proofs.costs.MapFirst.{IsThere}
-use Rattle.table_walk.specs.declared.Access.TheVariants.{Read, Write}
 use Rattle.process_table.specs.declared.places.Places.{Places}
-use Rattle.process_table.specs.State.{State}
-use Rattle.process_table.specs.View.{View, state_of}
 use Rattle.process_table.proofs.Keeping.{whole-access}
 use Rattle.process_table.proofs.Placed.{has_place, placed_second}
 use Rattle.process_table.proofs.SharingLaws.{touched_user}

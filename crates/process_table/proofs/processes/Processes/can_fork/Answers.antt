@@ -1,7 +1,4 @@
-use Rattle.std.proofs.Common.{◌≡◌, true, rules, sym, ◌∙◌}
-use Rattle.std.specs.Prelude.{nat_lt}
-use Rattle.process_table.specs.State.{is_live}
-use Rattle.process_table.specs.TestAnswers.{for_copy}
+use Rattle.process_table.proofs.Prelude.{◌≡◌, true, rules, sym, ◌∙◌, nat_lt, is_live, for_copy}
 use Rattle.process_table.proofs.Charged.{used-container}
 use Rattle.process_table.proofs.Forks.{fork-by}
 use Rattle.process_table.proofs.processes.Processes.can_fork.Goals as goal

@@ -1,7 +1,4 @@
-use Rattle.std.proofs.Common.{◌≡◌, true, ap, sym, ◌∙◌, subst}
-use Rattle.process_table.specs.State.{is_live, container_of}
-use Rattle.process_table.specs.TestAnswers.{spawn_answer}
-use Rattle.process_table.specs.View.{View}
+use Rattle.process_table.proofs.Prelude.{◌≡◌, true, ap, sym, ◌∙◌, subst, is_live, container_of, spawn_answer, View}
 use Rattle.process_table.proofs.Spawns.{spawn-split, container-same}
 use Rattle.process_table.proofs.processes.Processes.child_test.Goals as goal
 

@@ -1,8 +1,5 @@
-use Rattle.std.proofs.Common.{◌≡◌, refl, sym, subst, ap, ◌∙◌, length, true}
-use Rattle.address_space.specs.Spaces.{Spaces, cost, at_page}
-use Rattle.address_space.proofs.costs.AccessCosts.{cost-same, kept}
-use Rattle.process_table.specs.State.{State, is_mapped}
-use Rattle.process_table.specs.View.{View, state_of}
+use Rattle.process_table.proofs.Prelude.{◌≡◌, refl, sym, subst, ap, ◌∙◌, length, true, Spaces, cost, at_page, cost-same}
+use Rattle.process_table.proofs.Prelude.{kept, State, is_mapped, View, state_of}
 use Rattle.process_table.proofs.Charged.{charged-same}
 use Rattle.process_table.proofs.Keeping.{whole}
 use Rattle.process_table.proofs.SpaceLaws.{cleaned_state, well_formed-cleaned}

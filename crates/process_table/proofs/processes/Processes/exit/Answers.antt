@@ -1,14 +1,8 @@
-use Rattle.std.proofs.Common.{rules, sym, subst}
-use Rattle.std.specs.Prelude.{IsOk}
-use Rattle.process_table.specs.State.{State}
-use Rattle.process_table.specs.TestAnswers.{exit_answer}
-use Rattle.process_table.specs.Calls.{after_exit}
-use Rattle.process_table.specs.View.{View, IsProcesses, state_of}
+use Rattle.process_table.proofs.Prelude.{rules, sym, subst, IsOk, State, exit_answer, after_exit, View, IsProcesses}
+use Rattle.process_table.proofs.Prelude.{state_of, image_of, memory_of}
 use Rattle.process_table.proofs.Charged.{charged-exit}
 use Rattle.process_table.proofs.Keeping.{whole, keeps-exit}
-use Rattle.address_space.specs.Image.{image_of}
-use Rattle.address_space.specs.Stays.{FramesStay, of_process}
-use Rattle.process_table.specs.Image.{memory_of}
+use Rattle.address_space.specs.Stays.{FramesStay, LooseStay, of_process}
 use Rattle.process_table.proofs.processes.Processes.exit.Goals as goal
 
 pub invariant_of-self : goal.invariant_of-self
@@ -26,3 +20,6 @@ invariant_of-self c =
 pub returns-clause-stay : goal.returns-clause-stay
 returns-clause-stay c = subst (λ (v : View). FramesStay (of_process c.args.pid) (memory_of v)
     (image_of c.drop_space.new.self)) c.self.view_is c.drop_space.ensures.stay
+
+pub returns-clause-loose : goal.returns-clause-loose
+returns-clause-loose c = subst (λ (v : View). LooseStay (memory_of v) (image_of c.drop_space.new.self)) c.self.view_is c.drop_space.ensures.loose

@@ -1,13 +1,8 @@
-use Rattle.std.proofs.Common.{◌≡◌, true, sym, subst, refl, ap}
-use Rattle.process_table.specs.State.{State, is_mapped}
-use Rattle.process_table.specs.View.{View, state_of}
+use Rattle.process_table.proofs.Prelude.{◌≡◌, true, sym, subst, refl, ap, State, is_mapped, View, state_of, cost}
+use Rattle.process_table.proofs.Prelude.{at_page, image_of, FramesStay, of_lazy, memory_of}
 use Rattle.process_table.proofs.Charged.{charged-same}
 use Rattle.process_table.proofs.Keeping.{whole}
 use Rattle.process_table.proofs.SharingLaws.{mapped_user}
-use Rattle.address_space.specs.Spaces.{cost, at_page}
-use Rattle.address_space.specs.Image.{image_of}
-use Rattle.address_space.specs.Stays.{FramesStay, of_lazy}
-use Rattle.process_table.specs.Image.{memory_of}
 use Rattle.process_table.proofs.processes.Processes.fill_at.Goals as goal
 
 pub fill_at-requires-clause-user : goal.fill_at-requires-clause-user

@@ -1,23 +1,13 @@
-use Rattle.std.proofs.Common.{◌≡◌, ◌≢◌, ◌≤◌, ◌<◌, ◌+◌, ℕ, Ok, refl, ap, sym, subst, ◌∙◌, is_some, length, arith}
-use Rattle.page_words.specs.FiniteMap as map
-use Rattle.page_words.proofs.OptionLemmas.{no_value}
-use Rattle.address_space.specs.Image.{image_of, is_lazy_at}
-use Rattle.address_space.specs.Spaces.{cost, at_page, copied}
-use Rattle.address_space.specs.Stays.{FramesStay, none_goes}
-use Rattle.address_space.specs.View as frames
-use Rattle.address_space.specs.View.{directory_of, total_cost}
-use Rattle.address_space.proofs.costs.Copied.{cost-copied, cost-copied_other}
-use Rattle.address_space.proofs.standing.FramesStand.{stays_then}
-use Rattle.quota_tree.specs.Book.{quota_of}
-use Rattle.quota_tree.specs.Containers.{Containers, IsLive, total_used, used_of, split_answer, after_split, with_used}
-use Rattle.process_table.specs.Calls.{after_fork}
-use Rattle.process_table.specs.Image.{memory_of}
-use Rattle.process_table.specs.State.{State}
-use Rattle.process_table.specs.TestAnswers.{fork_answer}
-use Rattle.process_table.specs.View.{View, IsProcesses, state_of}
+use Rattle.process_table.proofs.Prelude
+use Prelude.{◌≡◌, ◌≢◌, ◌≤◌, ◌<◌, ◌+◌, ℕ, Ok, refl, ap, sym, subst, ◌∙◌, is_some, length, arith, no_value, image_of}
+use Prelude.{is_lazy_at, cost, at_page, copied, FramesStay, none_goes, directory_of, total_cost, cost-copied}
+use Prelude.{cost-copied_other, stays_then, quota_of, Containers, IsLive, total_used, used_of, split_answer}
+use Prelude.{after_split, with_used, after_fork, memory_of, State, fork_answer, View, IsProcesses, state_of}
 use Rattle.process_table.proofs.Forks.{may_fork, fork-ok, fork-spawns, well_formed-fork}
 use Rattle.process_table.proofs.Keeping.{whole}
 use Rattle.process_table.proofs.Spawns.{spawn-may, child-is, child-absent, child-has_none, nothing-mapped, room-child, charged-child, used-before}
+use Rattle.page_words.specs.FiniteMap as map
+use Rattle.address_space.specs.View as frames
 use Rattle.process_table.proofs.processes.Processes.fork_as.Goals as goal
 
 -- there are the frames that a copy is charged for

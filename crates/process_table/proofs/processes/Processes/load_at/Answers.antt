@@ -1,12 +1,6 @@
-use Rattle.std.proofs.Common.{◌≡◌, ◌∙◌, ap, sym, subst, length, true}
-use Rattle.page_words.specs.Addresses.{page_number}
-use Rattle.address_space.specs.Spaces.{Spaces, cost, slot_at}
+use Rattle.process_table.proofs.Prelude.{◌≡◌, ◌∙◌, ap, sym, subst, length, true, page_number, Spaces, cost, slot_at}
+use Rattle.process_table.proofs.Prelude.{cost-accessed_of, after_load, State, is_mapped, View, state_of, IsWellFormed}
 use Rattle.address_space.proofs.costs.MapFirst.{load_in_page}
-use Rattle.address_space.proofs.costs.Totals.{cost-accessed_of}
-use Rattle.process_table.specs.Calls.{after_load}
-use Rattle.process_table.specs.State.{State, is_mapped}
-use Rattle.process_table.specs.View.{View, state_of}
-use Rattle.process_table.specs.WellFormed.{IsWellFormed}
 use Rattle.process_table.proofs.Charged.{charged-same}
 use Rattle.process_table.proofs.SpaceLaws.{well_formed-read_at}
 use Rattle.process_table.proofs.processes.Processes.load_at.Goals as goal

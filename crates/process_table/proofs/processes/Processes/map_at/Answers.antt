@@ -1,20 +1,11 @@
-use Rattle.std.proofs.Common.{rules, arith, refl, sym, subst, ap, ◌+◌, ◌∙◌}
-use Rattle.std.specs.Prelude.{IsOk}
-use Rattle.address_space.specs.Spaces.{Slot, cost, fresh, at_page}
-use Rattle.address_space.proofs.costs.Costs.{cost-insert}
+use Rattle.process_table.proofs.Prelude.{rules, arith, refl, sym, subst, ap, ◌+◌, ◌∙◌, IsOk, Slot, cost, fresh, at_page}
+use Rattle.process_table.proofs.Prelude.{cost-insert, used_of, State, map_answer, after_map, map_refusal, View}
+use Rattle.process_table.proofs.Prelude.{IsProcesses, state_of, image_of, FramesStay, none_goes, memory_of}
 use Rattle.address_space.proofs.costs.Totals.{cost-insert_other}
-use Rattle.quota_tree.specs.Containers.{used_of}
-use Rattle.process_table.specs.State.{State}
-use Rattle.process_table.specs.TestAnswers.{map_answer}
-use Rattle.process_table.specs.Calls.{after_map, map_refusal}
-use Rattle.process_table.specs.View.{View, IsProcesses, state_of}
 use Rattle.process_table.proofs.Charged.{charged-one}
 use Rattle.process_table.proofs.Keeping.{whole, keeps-map}
 use Rattle.process_table.proofs.SpaceLaws.{new_fits}
 use Rattle.process_table.proofs.Refusals.{no_cause, may_map}
-use Rattle.address_space.specs.Image.{image_of}
-use Rattle.address_space.specs.Stays.{FramesStay, none_goes}
-use Rattle.process_table.specs.Image.{memory_of}
 use Rattle.process_table.proofs.processes.Processes.map_at.Goals as goal
 
 pub invariant_of-self : goal.invariant_of-self

@@ -1,9 +1,4 @@
-use Rattle.std.proofs.Common.{refl, sym, subst}
-use Rattle.std.specs.Prelude.{IsOk}
-use Rattle.process_table.specs.State.{State}
-use Rattle.process_table.specs.TestAnswers.{offer_answer}
-use Rattle.process_table.specs.Calls.{after_offer}
-use Rattle.process_table.specs.View.{View, state_of}
+use Rattle.process_table.proofs.Prelude.{refl, sym, subst, IsOk, State, offer_answer, after_offer, View, state_of}
 use Rattle.process_table.proofs.Keeping.{whole, keeps-offer}
 use Rattle.process_table.proofs.processes.Processes.offer.Goals as goal
 

@@ -1,5 +1,4 @@
-use Rattle.process_table.specs.Calls.{protect_refusal}
-use Rattle.process_table.specs.TestAnswers.{first_cause}
+use Rattle.process_table.proofs.Prelude.{protect_refusal, first_cause}
 use Rattle.process_table.proofs.Refusals.{is_done}
 use Rattle.process_table.proofs.processes.Processes.protect.Goals as goal
 

@@ -1,11 +1,6 @@
-use Rattle.std.proofs.Common.{refl, sym, subst, ap, ◌∙◌, length}
-use Rattle.std.specs.Prelude.{IsOk}
-use Rattle.process_table.specs.State.{State}
-use Rattle.process_table.specs.TestAnswers.{protect_answer}
-use Rattle.address_space.specs.Spaces.{cost, at_page}
+use Rattle.process_table.proofs.Prelude.{refl, sym, subst, ap, ◌∙◌, length, IsOk, State, protect_answer, cost, at_page}
+use Rattle.process_table.proofs.Prelude.{after_protect, protect_refusal, View, state_of}
 use Rattle.address_space.proofs.costs.Totals.{cost-protected_of}
-use Rattle.process_table.specs.Calls.{after_protect, protect_refusal}
-use Rattle.process_table.specs.View.{View, state_of}
 use Rattle.process_table.proofs.Charged.{charged-same}
 use Rattle.process_table.proofs.Keeping.{whole, keeps-protect}
 use Rattle.process_table.proofs.Refusals.{no_cause, may_protect}

@@ -1,18 +1,9 @@
-use Rattle.std.proofs.Common.{◌≡◌, ◌≤◌, refl, ap, sym, subst, ◌∙◌, arith}
-use Rattle.std.specs.Prelude.{Ok, IsOk}
-use Rattle.page_words.specs.FiniteMap as map
-use Rattle.address_space.specs.Spaces.{cost}
-use Rattle.quota_tree.specs.Book.{quota_of}
-use Rattle.quota_tree.specs.Containers.{Containers, total_used, after_split}
-use Rattle.process_table.specs.TestAnswers.{spawn_answer}
-use Rattle.process_table.specs.Calls.{after_spawn}
-use Rattle.process_table.specs.View.{View, IsProcesses, state_of}
+use Rattle.process_table.proofs.Prelude.{◌≡◌, ◌≤◌, refl, ap, sym, subst, ◌∙◌, arith, Ok, IsOk, cost, quota_of}
+use Rattle.process_table.proofs.Prelude.{Containers, total_used, after_split, spawn_answer, after_spawn, View}
+use Rattle.process_table.proofs.Prelude.{IsProcesses, state_of, State, image_of, FramesStay, none_goes, memory_of}
 use Rattle.process_table.proofs.Spawns.{spawn-may, child-is, child-has_none, room-child, charged-child, cost-child}
-use Rattle.process_table.specs.State.{State}
 use Rattle.process_table.proofs.Keeping.{whole, keeps-spawn}
-use Rattle.address_space.specs.Image.{image_of}
-use Rattle.address_space.specs.Stays.{FramesStay, none_goes}
-use Rattle.process_table.specs.Image.{memory_of}
+use Rattle.page_words.specs.FiniteMap as map
 use Rattle.process_table.proofs.processes.Processes.spawn_as.Goals as goal
 
 pub split_as-requires-clause-live : goal.split_as-requires-clause-live

@@ -1,15 +1,13 @@
-use Rattle.std.proofs.Common.{◌+◌, ◌≤◌, ap, subst, length, is_some}
+use Rattle.process_table.proofs.Prelude.{◌+◌, ◌≤◌, ap, subst, length, is_some, given, quota_of, IsWellFormed, total}
 use Rattle.address_space.specs.Image.{LeavesRoom}
 use Rattle.address_space.specs.Walks.{WalksAgree}
-use Rattle.quota_tree.specs.Book.{given, quota_of}
 use Rattle.process_table.specs.Image.{StandsFor, image_of, memory_of}
 use Rattle.process_table.specs.View.{View, view_of}
-use Rattle.process_table.specs.WellFormed.{IsWellFormed, total}
 use Rattle.process_table.proofs.ImageStanding.{image_stands}
 use Rattle.process_table.proofs.Ranges.{total-book}
-use Rattle.process_table.proofs.processes.Processes.stands.Goals as goal
 use Rattle.address_space.specs.Places.{PlacesTell}
 use Rattle.address_space.specs.Stays.{WaysAgree}
+use Rattle.process_table.proofs.processes.Processes.stands.Goals as goal
 
 pub returns-clause-image : goal.returns-clause-image
 returns-clause-image c =

@@ -1,15 +1,7 @@
-use Rattle.std.proofs.Common.{◌≡◌, ◌∙◌, ap, sym, subst, length, true}
-use Rattle.page_words.specs.Addresses.{offset_number, byte_count}
-use Rattle.address_space.specs.Image.{image_of, takes_stores}
-use Rattle.address_space.specs.Spaces.{Spaces, cost, slot_at, bytes_of}
-use Rattle.address_space.specs.Stays.{FramesStay, none_goes}
+use Rattle.process_table.proofs.Prelude.{◌≡◌, ◌∙◌, ap, sym, subst, length, true, offset_number, byte_count, image_of}
+use Rattle.process_table.proofs.Prelude.{takes_stores, Spaces, cost, slot_at, bytes_of, FramesStay, none_goes}
+use Rattle.process_table.proofs.Prelude.{cost-stored_of, after_store, memory_of, State, View, state_of, IsWellFormed}
 use Rattle.address_space.proofs.costs.MapFirst.{store_in_page}
-use Rattle.address_space.proofs.costs.Totals.{cost-stored_of}
-use Rattle.process_table.specs.Calls.{after_store}
-use Rattle.process_table.specs.Image.{memory_of}
-use Rattle.process_table.specs.State.{State}
-use Rattle.process_table.specs.View.{View, state_of}
-use Rattle.process_table.specs.WellFormed.{IsWellFormed}
 use Rattle.process_table.proofs.Charged.{charged-same}
 use Rattle.process_table.proofs.Keeping.{keeps-store_in_page}
 use Rattle.process_table.proofs.Placed.{takes_mapped, takes_real}

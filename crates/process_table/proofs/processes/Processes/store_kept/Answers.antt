@@ -1,6 +1,4 @@
-use Rattle.std.proofs.Common.{rules}
-use Rattle.table_walk.specs.declared.Access.TheVariants.{Write}
-use Rattle.process_table.specs.View.{state_of}
+use Rattle.process_table.proofs.Prelude.{rules, Write, state_of}
 use Rattle.process_table.proofs.Keeping.{whole-access, container-access}
 use Rattle.process_table.proofs.SharingLaws.{touched_user}
 use Rattle.process_table.proofs.processes.Processes.store_kept.Goals as goal

@@ -1,38 +1,21 @@
-use Rattle.std.proofs.Common.{ap, sym, ◌∙◌, is_some}
-use Rattle.std.specs.Option.{option_map}
-use Rattle.address_space.specs.Finds.{entry_found}
+use Rattle.process_table.proofs.Prelude.{ap, sym, ◌∙◌, is_some, option_map, entry_found, at_page}
 use Rattle.address_space.specs.Places.{found_of, lazy_place, takes_place, need_of, entry_flags}
-use Rattle.address_space.specs.Spaces.{at_page}
 use Rattle.process_table.proofs.Placed.{told_flags, told_write, told_may, few_needed, mapped_live}
 use Rattle.process_table.proofs.processes.Processes.tells.Goals as goal
 
-pub returns-clause-mapped : goal.returns-clause-mapped
-returns-clause-mapped c = ap (λ x. is_some (found_of x)) c.requires.place ∙ c.stands.ensures.places.mapped c.args.pid c.args.page c.requires.user
-
-pub returns-clause-lazy : goal.returns-clause-lazy
-returns-clause-lazy c = ap lazy_place c.requires.place ∙ c.stands.ensures.places.lazy c.args.pid c.args.page c.requires.user
-
-pub returns-clause-takes : goal.returns-clause-takes
-returns-clause-takes c = ap takes_place c.requires.place ∙ c.stands.ensures.places.takes c.args.pid c.args.page c.requires.user
-
-pub returns-clause-need : goal.returns-clause-need
-returns-clause-need c = ap need_of c.requires.place ∙ c.stands.ensures.places.need c.args.pid c.args.page c.requires.user
-
-pub returns-clause-most : goal.returns-clause-most
-returns-clause-most c = few_needed c.args.place.now
-
-pub returns-clause-flags : goal.returns-clause-flags
-returns-clause-flags c = told_flags c.args.self.now.state.spaces c.args.pid c.args.page (found_of c.args.place.now)
-    (ap (λ x. option_map entry_flags (entry_found (found_of x))) c.requires.place ∙ c.stands.ensures.places.flags c.args.pid c.args.page c.requires.user)
-
-pub returns-clause-write : goal.returns-clause-write
-returns-clause-write c = told_write c.args.self.now.state.spaces c.args.pid c.args.page (found_of c.args.place.now)
-    (ap (λ x. option_map entry_flags (entry_found (found_of x))) c.requires.place ∙ c.stands.ensures.places.flags c.args.pid c.args.page c.requires.user)
-
-pub returns-clause-may : goal.returns-clause-may
-returns-clause-may c = told_may c.args.self.now.state.spaces c.args.pid c.args.page (found_of c.args.place.now)
-    (ap (λ x. option_map entry_flags (entry_found (found_of x))) c.requires.place ∙ c.stands.ensures.places.flags c.args.pid c.args.page c.requires.user)
-
-pub returns-clause-live : goal.returns-clause-live
-returns-clause-live c = λ there. mapped_live c.args.self.now.state (at_page c.args.pid c.args.page) c.stands.ensures.well_formed
-    (sym (ap (λ x. is_some (found_of x)) c.requires.place ∙ c.stands.ensures.places.mapped c.args.pid c.args.page c.requires.user) ∙ there)
+pub returns : goal.returns
+returns c = record {
+  mapped = ap (λ x. is_some (found_of x)) c.requires.place ∙ c.stands.ensures.places.mapped c.args.pid c.args.page c.requires.user;
+  lazy = ap lazy_place c.requires.place ∙ c.stands.ensures.places.lazy c.args.pid c.args.page c.requires.user;
+  takes = ap takes_place c.requires.place ∙ c.stands.ensures.places.takes c.args.pid c.args.page c.requires.user;
+  need = ap need_of c.requires.place ∙ c.stands.ensures.places.need c.args.pid c.args.page c.requires.user;
+  most = few_needed c.args.place.now;
+  flags = told_flags c.args.self.now.state.spaces c.args.pid c.args.page (found_of c.args.place.now)
+      (ap (λ x. option_map entry_flags (entry_found (found_of x))) c.requires.place ∙ c.stands.ensures.places.flags c.args.pid c.args.page c.requires.user);
+  write = told_write c.args.self.now.state.spaces c.args.pid c.args.page (found_of c.args.place.now)
+      (ap (λ x. option_map entry_flags (entry_found (found_of x))) c.requires.place ∙ c.stands.ensures.places.flags c.args.pid c.args.page c.requires.user);
+  may = told_may c.args.self.now.state.spaces c.args.pid c.args.page (found_of c.args.place.now)
+      (ap (λ x. option_map entry_flags (entry_found (found_of x))) c.requires.place ∙ c.stands.ensures.places.flags c.args.pid c.args.page c.requires.user);
+  live = λ there. mapped_live c.args.self.now.state (at_page c.args.pid c.args.page) c.stands.ensures.well_formed
+      (sym (ap (λ x. is_some (found_of x)) c.requires.place ∙ c.stands.ensures.places.mapped c.args.pid c.args.page c.requires.user) ∙ there);
+}

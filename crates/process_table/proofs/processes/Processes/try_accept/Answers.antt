@@ -1,5 +1,4 @@
-use Rattle.std.proofs.Common.{rules, sym, ◌∙◌}
-use Rattle.process_table.specs.State.{State}
+use Rattle.process_table.proofs.Prelude.{rules, sym, ◌∙◌, State}
 use Rattle.process_table.proofs.Refusals.{test_accept}
 use Rattle.process_table.proofs.processes.Processes.try_accept.Goals as goal
 

@@ -1,14 +1,9 @@
-use Rattle.std.proofs.Common.{◌≡◌, ◌∙◌, ap, sym, subst, refl, Bool, true, false, length}
-use Rattle.page_words.specs.Addresses.{page_number}
-use Rattle.address_space.specs.View as frames
-use Rattle.address_space.specs.Spaces.{Spaces, cost, slot_at}
+use Rattle.process_table.proofs.Prelude.{◌≡◌, ◌∙◌, ap, sym, subst, refl, Bool, true, false, length, page_number, Spaces}
+use Rattle.process_table.proofs.Prelude.{cost, slot_at, cost-accessed_of, State, View, IsWhole, state_of, IsWellFormed}
 use Rattle.process_table.specs.Parts.{after_loads}
-use Rattle.address_space.proofs.costs.Totals.{cost-accessed_of}
-use Rattle.process_table.specs.State.{State}
-use Rattle.process_table.specs.View.{View, IsWhole, state_of}
-use Rattle.process_table.specs.WellFormed.{IsWellFormed}
 use Rattle.process_table.proofs.Charged.{charged-same}
 use Rattle.process_table.proofs.SpaceLaws.{well_formed-read_at}
+use Rattle.address_space.specs.View as frames
 use Rattle.process_table.proofs.processes.Processes.try_load_part.Goals as goal
 
 pub invariant_of-self : goal.invariant_of-self

@@ -1,19 +1,11 @@
-use Rattle.std.proofs.Common.{◌≡◌, ◌∙◌, ap, sym, subst, refl, Bool, true, false, length, arith}
-use Rattle.std.proofs.lemmas.Bool.{and_parts}
+use Rattle.process_table.proofs.Prelude.{◌≡◌, ◌∙◌, ap, sym, subst, refl, Bool, true, false, length, arith, and_parts}
+use Rattle.process_table.proofs.Prelude.{offset_number, Spaces, cost, slot_at, cost-stored_of, State, is_mapped, View}
+use Rattle.process_table.proofs.Prelude.{IsWhole, state_of, IsWellFormed, image_of, FramesStay, none_goes, memory_of}
 use Rattle.std.proofs.lemmas.List.{get_or_default}
-use Rattle.page_words.specs.Addresses.{offset_number}
-use Rattle.address_space.specs.View as frames
-use Rattle.address_space.specs.Spaces.{Spaces, cost, slot_at}
 use Rattle.process_table.specs.Parts.{after_stores}
-use Rattle.address_space.proofs.costs.Totals.{cost-stored_of}
-use Rattle.process_table.specs.State.{State, is_mapped}
-use Rattle.process_table.specs.View.{View, IsWhole, state_of}
-use Rattle.process_table.specs.WellFormed.{IsWellFormed}
 use Rattle.process_table.proofs.Charged.{charged-same}
 use Rattle.process_table.proofs.SpaceLaws.{well_formed-part}
-use Rattle.address_space.specs.Image.{image_of}
-use Rattle.address_space.specs.Stays.{FramesStay, none_goes}
-use Rattle.process_table.specs.Image.{memory_of}
+use Rattle.address_space.specs.View as frames
 use Rattle.process_table.proofs.processes.Processes.try_store_part.Goals as goal
 
 pub invariant_of-self : goal.invariant_of-self

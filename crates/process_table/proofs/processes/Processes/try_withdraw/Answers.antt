@@ -1,7 +1,4 @@
-use Rattle.std.proofs.Common.{rules, refl}
-use Rattle.process_table.specs.State.{State}
-use Rattle.process_table.specs.Calls.{after_withdraw}
-use Rattle.process_table.specs.View.{state_of}
+use Rattle.process_table.proofs.Prelude.{rules, refl, State, after_withdraw, state_of}
 use Rattle.process_table.proofs.Keeping.{whole}
 use Rattle.process_table.proofs.SharingLaws.{well_formed-withdraw}
 use Rattle.process_table.proofs.processes.Processes.try_withdraw.Goals as goal

@@ -1,0 +1,416 @@
+-- Accesses by what a processor keeps of an earlier memory, where the pages of that are still on their frames.
+use Rattle.std.proofs.Common.{◌≡◌, ◌≢◌, ℕ, ◌+◌, ◌*◌, ◌<◌, ◌≤◌, ◌^◌, ◌==◌, Bool, true, false, List, length, refl, ap, sym, ◌∙◌, subst, arith, inl, inr, Option, Some, None, unwrap_or, is_some, eqb-true}
+use Rattle.std.specs.Prelude.{◌⊎◌, ◌&&◌, not, if◌then◌else◌, IfSome, MatchBool, IsTrue, Ok, slice_get, slice_index}
+use Rattle.std.specs.Option.{option_map, option_and_then}
+use Rattle.std.proofs.lemmas.Option.{slice_get_within}
+use Rattle.page_words.specs.Addresses.{page_number, offset_number, slot_number, index_number, start_number, byte_count, touched, EachTouched, IsUserPage}
+use Rattle.page_words.specs.declared.addresses.Size.{Size}
+use Rattle.page_words.specs.FiniteMap as map
+use Rattle.page_words.specs.FiniteSet as set
+use Rattle.page_words.specs.Words.{frame_number, is_lazy}
+use Rattle.phys_memory.specs.Bytes.{frame_bytes, IsInside}
+use Rattle.phys_memory.proofs.Frames.{byte-frame}
+use Rattle.alloc_table.specs.declared.Role.{Role}
+use Rattle.alloc_table.specs.declared.Role.TheVariants.{Reserved, Page}
+use Rattle.table_walk.specs.declared.Access.{Access}
+use Rattle.table_walk.specs.declared.Access.TheVariants.{Read, Write}
+use Rattle.table_walk.specs.Walk.{walk_of}
+use Rattle.address_space.specs.Image.{directory_at, table_at, word_of, named_by, present_word, page_word, page_frame, is_lazy_at, takes_stores, SlotStands, CellStands}
+use Rattle.address_space.specs.ImageWords.{own_frame}
+use Rattle.address_space.specs.Kept.{kept_place, number_at, written_at}
+use Rattle.address_space.specs.Spaces.{Slot, Cell, Spaces, at_page, slot_at, byte_at, value_of, bytes_of, cell_or_fresh, fresh, all_stored}
+use Rattle.address_space.specs.Stays.{way_of}
+use Rattle.address_space.proofs.costs.MapFirst.{IsThere, with_touched-same}
+use Rattle.address_space.proofs.standing.FramesStand.{way_parts, way_whole}
+use Rattle.address_space.proofs.standing.Restored.{from_map, from_then}
+use Rattle.address_space.proofs.standing.TablesStand.{owned, own_is}
+use Rattle.address_space.proofs.steps.Bytes.{each_byte}
+use Rattle.address_space.proofs.steps.Finding.{same_each}
+use Rattle.process_table.specs.Calls.{loaded}
+use Rattle.process_table.specs.Image.{memory_of}
+use Rattle.process_table.specs.State.{State, is_live, is_mapped}
+use Rattle.process_table.specs.View.{View}
+use Rattle.process_table.specs.declared.causes.Cause.TheVariants as cause
+use Rattle.process_table.proofs.SharingLaws.{touched_user}
+use Rattle.fault_handler.specs.Plans.{plan_of, plan_at, goes_on, takes_no_frame}
+use Rattle.fault_handler.specs.declared.plans.Plan.{Plan}
+use Rattle.fault_handler.specs.declared.plans.Plan.TheVariants as plan
+use Rattle.fault_handler.proofs.Settled.{each_page}
+use Rattle.fault_handler.proofs.Walked.{walk_completes}
+use Rattle.kernel_calls.specs.Decisions.{plan_of_call}
+use Rattle.kernel_calls.specs.Kept.{Serves, ServesCall, ServesEvent, reply_kept, bytes_kept}
+use Rattle.kernel_calls.specs.Machine.{answer, answer_of, after, next, completes, planned_or}
+use Rattle.kernel_calls.specs.Processors.{IsCore}
+use Rattle.kernel_calls.specs.declared.calls.Call.{Call}
+use Rattle.kernel_calls.specs.declared.calls.Call.TheVariants as call
+use Rattle.kernel_calls.specs.declared.calls.Event.{Event}
+use Rattle.kernel_calls.specs.declared.calls.Reply.{Reply}
+use Rattle.kernel_calls.specs.declared.calls.Reply.TheVariants as reply
+use Rattle.kernel_calls.proofs.Decided.{goes-call, next-goes}
+use Rattle.kernel_calls.proofs.KeptAccesses.{small_page, live, leads, Touched, loaded_same}
+use Rattle.kernel_calls.proofs.Translated.{walk_takes}
+use Rattle.kernel_calls.proofs.WalkedReplies.{lives}
+use Rattle.shootdowns.proofs.Filled.{fill, filled, filled_state, get_filled, mapped_filled}
+use Rattle.shootdowns.proofs.Stored.{Held, length-written, all_put, frames_beside}
+
+-- the frame that a slot's word names
+abbrev pub frame_at : View → Slot → ℕ
+frame_at v slot = unwrap_or (option_map frame_number (page_word (memory_of v) slot)) 0
+
+pub frame_is : (v : View) (slot : Slot) (word : ℕ) → page_word (memory_of v) slot ≡ Some word → frame_at v slot ≡ frame_number word
+frame_is v slot word is = ap (λ (y : Option ℕ). unwrap_or (option_map frame_number y) 0) is
+
+goes_frameless : (x : Plan) → takes_no_frame x ≡ true → goes_on x ≡ true
+goes_frameless (plan.Refused k) h = cc
+goes_frameless (plan.Fault f) h = cc
+goes_frameless (plan.Ready a b) h = refl
+
+told_planned : (x : Plan) (r : Reply) → completes (planned_or x r) ≡ true → planned_or x r ≡ r
+told_planned (plan.Refused k) r h = cc
+told_planned (plan.Fault f) r h = cc
+told_planned (plan.Ready a b) r h = refl
+
+both : (a b : Bool) → (a && b) ≡ true → (a ≡ true) × (b ≡ true)
+both true true h = (refl, refl)
+both true false h = cc
+both false b h = cc
+
+real_by : (b : Bool) → not b ≡ true → b ≡ false
+real_by false h = refl
+real_by true h = cc
+
+-- a slot that is mapped has a word
+pub word_mapped : (v : View) → IsCore v → (r : Slot) (d : Cell) → map.get v.state.spaces r ≡ Some d → (word : ℕ) × (page_word (memory_of v) r ≡ Some word)
+word_mapped v core r d at = by (page_word (memory_of v) r) refl (map.get v.state.spaces r) at (core.image.memory.cells r)
+  where
+    by : (y : Option ℕ) → page_word (memory_of v) r ≡ y → (z : Option Cell) → z ≡ Some d → SlotStands (memory_of v) r y z → (word : ℕ) × (page_word (memory_of v) r ≡ Some word)
+    by (Some word) is z k h = (word, is)
+    by None is None k h = cc
+    by None is (Some c) k h = absurd h
+
+-- and a way
+pub way_at : (v : View) (r : Slot) (word : ℕ) → page_word (memory_of v) r ≡ Some word → (d : ℕ) × (way_of (memory_of v) r ≡ Some (d, frame_number word))
+way_at v r word is =
+    let table = from_then (λ t. present_word (memory_of v) t (word_of (memory_of v) t (index_number r.page))) (table_at (memory_of v) r.pid (slot_number r.page)) word is in
+    let home = from_then (λ d. named_by (slot_number r.page) (word_of (memory_of v) d (slot_number r.page))) (directory_at (memory_of v) r.pid) table.0 table.1 in
+    (home.0, way_whole (memory_of v) r home.0 (frame_number word) (record { live = home.1; names = ap (option_map frame_number) is }))
+
+-- the word of a lazy page names frame 0
+pub lazy_zero : (v : View) → IsCore v → (r : Slot) (word : ℕ) → page_word (memory_of v) r ≡ Some word → is_lazy word ≡ true → frame_number word ≡ 0
+lazy_zero v core r word is lazy =
+    let way = way_at v r word is in
+    eqb-true (frame_number word) 0
+    (sym (core.ways.lazy r way.0 (frame_number word) way.1) ∙ ap (λ (y : Option ℕ). unwrap_or (option_map is_lazy y) false) is ∙ lazy)
+
+module _ (v : View) (core : IsCore v) (p : ℕ) where
+  -- the word of a page that is served
+  pub record OnFrame (page frame : ℕ) : Type 0 where
+    pub word : ℕ
+    pub there : page_word (memory_of v) (at_page p page) ≡ Some word
+    pub names : frame_number word ≡ frame
+
+  pub on_frame : (page frame : ℕ) (access : Access) → Serves v p page frame access → OnFrame page frame
+  on_frame page frame access s =
+      let low = small_page v p page frame access s in
+      let a : ℕ = start_number page in
+      let here : page_number a ≡ page = omega arith in
+      let small : a < 2 ^ 32 = omega (arith, low) in
+      let walk = leads v p page frame a access s here in
+      let way = way_parts (memory_of v) (slot_at p a) s.given.directory frame
+      (core.ways.lead p s.given.directory a frame access (live v p page frame access s) small walk) in
+      let word = from_map frame_number (page_word (memory_of v) (slot_at p a)) frame way.names in
+      record { word = word.0; there = sym (ap (λ n. page_word (memory_of v) (at_page p n)) here) ∙ word.1; names = word.2 }
+
+  pub frame_served : (page frame : ℕ) (access : Access) → Serves v p page frame access → frame_at v (at_page p page) ≡ frame
+  frame_served page frame access s = let o = on_frame page frame access s in frame_is v (at_page p page) o.word o.there ∙ o.names
+
+  cell_served : (page frame : ℕ) (access : Access) (s : Serves v p page frame access) → map.get v.state.spaces (at_page p page) ≡ Some s.given.cell
+  cell_served page frame access s = sym (ap (map.get v.state.spaces) s.of_page) ∙ s.given.mapped
+
+  takes_served : (page frame : ℕ) → Serves v p page frame Write → takes_stores v.state.spaces (memory_of v) (at_page p page) ≡ true
+  takes_served page frame s =
+      let low = small_page v p page frame Write s in
+      let a : ℕ = start_number page in
+      let here : page_number a ≡ page = omega arith in
+      let small : a < 2 ^ 32 = omega (arith, low) in
+      sym (ap (λ n. takes_stores v.state.spaces (memory_of v) (at_page p n)) here)
+      ∙ walk_takes v core.image core.walks core.ways p s.given.directory a frame (live v p page frame Write s) small
+      (leads v p page frame a Write s here)
+
+  real_served : (page frame : ℕ) (s : Serves v p page frame Write) → is_lazy (on_frame page frame Write s).word ≡ false
+  real_served page frame s =
+      let o = on_frame page frame Write s in
+      let t = both (map.contains_key v.state.spaces (at_page p page)) _ (takes_served page frame s) in
+      let u = both (cell_or_fresh v.state.spaces (at_page p page)).write (not (is_lazy_at (memory_of v) (at_page p page))) t.1 in
+      sym (ap (λ (y : Option ℕ). unwrap_or (option_map is_lazy y) false) o.there) ∙ real_by (is_lazy_at (memory_of v) (at_page p page)) u.1
+
+  own_served : (page frame : ℕ) → Serves v p page frame Write → page_frame (memory_of v) (at_page p page) ≡ Some frame
+  own_served page frame s =
+      let o = on_frame page frame Write s in
+      ap (option_and_then (own_frame 2)) o.there ∙ own_is o.word (real_served page frame s) ∙ ap Some o.names
+
+  -- it is a page's
+  pub role_served : (page frame : ℕ) → Serves v p page frame Write → (c : ℕ) × (slice_get v.roles frame ≡ Some (Page c))
+  role_served page frame s = core.image.memory.sound.pages (at_page p page) frame (own_served page frame s)
+
+  pub inside_served : (page frame : ℕ) → Serves v p page frame Write → 4096 * frame + 4096 ≤ length v.bytes
+  inside_served page frame s =
+      let role = role_served page frame s in
+      let within = slice_get_within v.roles frame (Page role.0) role.1 in
+      let size = core.image.memory.sound.size in
+      omega (arith, within, size)
+
+  held : (long page : ℕ) (frames : ℕ → ℕ) → long ≡ length v.bytes → Serves v p page (frames page) Write
+      → Held (frame_at v) v.state.spaces p frames long page
+  held long page frames is s = record {
+    cell = s.given.cell;
+    there = cell_served page f Write s;
+    accessed = s.given.accessed;
+    dirty = s.given.dirty (s.written refl).1;
+    frame = frame_served page f Write s;
+    inside = let k = inside_served page f s in omega (arith, k, is);
+    group = λ r d at h. group r ((k.group r).0 (truly (set.contains s.given.cell.holders r) h));
+    apart = λ r d at h same. absurd (
+        let t : true ≡ false = sym (true_of (set.contains s.given.cell.holders r) ((k.group r).1 (others r d at same))) ∙ h in
+        cc);
+  }
+    where
+      f : ℕ
+      f = frames page
+
+      o : OnFrame page f
+      o = on_frame page f Write s
+
+      real : is_lazy o.word ≡ false
+      real = real_served page f s
+
+      stands : (y : Option ℕ) → page_word (memory_of v) (at_page p page) ≡ y → y ≡ Some o.word → (z : Option Cell) → z ≡ Some s.given.cell
+          → SlotStands (memory_of v) (at_page p page) y z → CellStands (memory_of v) (at_page p page) o.word s.given.cell
+      stands None at y z h c = cc
+      stands (Some word) at y None h c = cc
+      stands (Some word) at y (Some cell) h c =
+          let same : word ≡ o.word = cc in
+          let alike : cell ≡ s.given.cell = cc in
+          subst (λ (q : Cell). CellStands (memory_of v) (at_page p page) o.word q) alike
+          (subst (λ n. CellStands (memory_of v) (at_page p page) n cell) same c)
+
+      k : CellStands (memory_of v) (at_page p page) o.word s.given.cell
+      k = stands (page_word (memory_of v) (at_page p page)) refl o.there (map.get v.state.spaces (at_page p page)) (cell_served page f Write s)
+          (core.image.memory.cells (at_page p page))
+
+      truly : (b : Bool) → b ≡ true → IsTrue b
+      truly b h = h
+
+      true_of : (b : Bool) → IsTrue b → b ≡ true
+      true_of b h = h
+
+      group : (r : Slot) → MatchBool (is_lazy o.word) (r ≡ at_page p page) (page_frame (memory_of v) r ≡ Some (frame_number o.word)) → frame_at v r ≡ f
+      group r h =
+          let own : page_frame (memory_of v) r ≡ Some (frame_number o.word) = subst (λ b. MatchBool b (r ≡ at_page p page) (page_frame (memory_of v) r ≡ Some (frame_number o.word))) real h in
+          let w = from_then (own_frame 2) (page_word (memory_of v) r) (frame_number o.word) own in
+          frame_is v r w.0 w.1 ∙ (owned w.0 (frame_number o.word) w.2).1 ∙ o.names
+
+      others : (r : Slot) (d : Cell) → map.get v.state.spaces r ≡ Some d → frame_at v r ≡ f
+          → MatchBool (is_lazy o.word) (r ≡ at_page p page) (page_frame (memory_of v) r ≡ Some (frame_number o.word))
+      others r d at same =
+          let w = word_mapped v core r d at in
+          subst (λ b. MatchBool b (r ≡ at_page p page) (page_frame (memory_of v) r ≡ Some (frame_number o.word))) (sym real)
+          (by w.0 w.1 (is_lazy w.0) refl)
+        where
+          by : (word : ℕ) → page_word (memory_of v) r ≡ Some word → (b : Bool) → is_lazy word ≡ b → page_frame (memory_of v) r ≡ Some (frame_number o.word)
+          by word is false lazy =
+              ap (option_and_then (own_frame 2)) is ∙ own_is word lazy ∙ ap Some (sym (frame_is v r word is) ∙ same ∙ sym o.names)
+          by word is true lazy = absurd (
+              let zero = lazy_zero v core r word is lazy in
+              let role = role_served page f s in
+              let within = slice_get_within v.roles f (Page role.0) role.1 in
+              let none : f ≡ 0 = sym same ∙ frame_is v r word is ∙ zero in
+              let k : ◌≡◌ {A = Option Role} (Some Reserved) (Some (Page role.0)) = sym ((core.image.memory.sound.reserved f within).1 none) ∙ role.1 in
+              cc)
+
+  module _ (bytes : List ℕ) (frames : ℕ → ℕ) where
+    abbrev s : State
+    s = filled_state (frame_at v) bytes v.state
+
+    abbrev g : View
+    g = record { state = s; directories = v.directories; bytes = v.bytes; roles = v.roles }
+
+    there_filled : (page frame : ℕ) (access : Access) (k : Serves v p page frame access)
+        → map.get s.spaces (at_page p page) ≡ Some (fill (frame_at v) bytes (at_page p page) k.given.cell)
+    there_filled page frame access k =
+        get_filled (frame_at v) bytes v.state.spaces (at_page p page) ∙ ap (option_map (fill (frame_at v) bytes (at_page p page))) (cell_served page frame access k)
+
+    byte_there : (a : ℕ) → Serves v p (page_number a) (frames (page_number a)) Read → byte_at s.spaces p a ≡ slice_index bytes (kept_place frames a)
+    byte_there a k =
+        ap (λ (z : Option Cell). slice_index (unwrap_or z (fresh (slot_at p a) true)).bytes (offset_number a)) (there_filled (page_number a) (frames (page_number a)) Read k)
+        ∙ ap (λ n. slice_index (frame_bytes bytes n) (offset_number a)) (frame_served (page_number a) (frames (page_number a)) Read k)
+        ∙ byte-frame bytes (frames (page_number a)) (offset_number a) (omega arith)
+
+    number_there : (addr : ℕ) (size : Size) → EachTouched addr size (λ page. Serves v p page (frames page) Read)
+        → loaded s p addr size ≡ number_at frames bytes addr size
+    number_there addr size served = ap value_of (same_each (byte_at s.spaces p) (λ a. slice_index bytes (kept_place frames a)) addr (byte_count size)
+        (λ i l. byte_there (addr + i) (each_byte addr size (λ page. Serves v p page (frames page) Read) served i l)))
+
+    takes_filled : (page frame : ℕ) → Serves v p page frame Write → takes_stores s.spaces (memory_of v) (at_page p page) ≡ true
+    takes_filled page frame k =
+        ap (λ (z : Option Cell). is_some z && ((unwrap_or z (fresh (at_page p page) true)).write && not (is_lazy_at (memory_of v) (at_page p page)))) (there_filled page frame Write k)
+        ∙ sym (ap (λ (z : Option Cell). is_some z && ((unwrap_or z (fresh (at_page p page) true)).write && not (is_lazy_at (memory_of v) (at_page p page)))) (cell_served page frame Write k))
+        ∙ takes_served page frame k
+
+    frameless : (addr : ℕ) (size : Size) (access : Access) → EachTouched addr size (λ page. Serves v p page (frames page) access)
+        → takes_no_frame (plan_at g p addr size access) ≡ true
+    frameless addr size access served = walk_completes g p addr size access
+        (touched_user v.state p addr size core.well_formed
+        (each_page addr size (λ page. Serves v p page (frames page) access) (λ page. is_mapped v.state (at_page p page) ≡ true)
+        (λ page k. ap is_some (cell_served page (frames page) access k)) served))
+        (each_page addr size (λ page. Serves v p page (frames page) access) (λ page. is_mapped s (at_page p page) ≡ true)
+        (λ page k. ap is_some (there_filled page (frames page) access k)) served)
+        (λ store. each_page addr size (λ page. Serves v p page (frames page) access) (λ page. takes_stores s.spaces (memory_of v) (at_page p page) ≡ true)
+        (λ page k. takes_filled page (frames page) (subst (Serves v p page (frames page)) store k)) served)
+
+    done : (c : Call) → takes_no_frame (plan_of_call g p c) ≡ true → completes (answer_of s p c) ≡ true
+    done c h = sym (goes-call g p c) ∙ goes_frameless (plan_of_call g p c) h
+
+    -- what it is answered
+    call_answer : (c : Call) → ServesCall v p frames c → answer_of s p c ≡ reply_kept frames bytes c
+    call_answer (call.Load addr size) k =
+        told_planned (plan_of s p addr size Read) (reply.Value (loaded s p addr size)) (done (call.Load addr size) (frameless addr size Read k))
+        ∙ ap reply.Value (number_there addr size k)
+    call_answer (call.Store addr size value) k =
+        told_planned (plan_of s p addr size Write) reply.Done (done (call.Store addr size value) (frameless addr size Write k))
+    call_answer (call.Map page write) k = absurd k
+    call_answer (call.Unmap page) k = absurd k
+    call_answer (call.Protect page write) k = absurd k
+    call_answer (call.Info page) k = absurd k
+    call_answer (call.Offer page target write) k = absurd k
+    call_answer (call.Withdraw page target) k = absurd k
+    call_answer (call.Accept giver giver_page page) k = absurd k
+    call_answer (call.Spawn quota) k = absurd k
+    call_answer (call.Fork quota) k = absurd k
+    call_answer call.Exit k = absurd k
+    call_answer call.Quota k = absurd k
+
+    touched_there : (page frame : ℕ) (access : Access) → Serves v p page frame access → Touched s.spaces p page
+    touched_there page frame access k = record {
+      cell = fill (frame_at v) bytes (at_page p page) k.given.cell;
+      there = there_filled page frame access k;
+      set = k.given.accessed;
+    }
+
+    -- and what it leaves
+    call_after : (c : Call) → ServesCall v p frames c → length bytes ≡ length v.bytes
+        → after s p c ≡ filled_state (frame_at v) (bytes_kept frames bytes c) v.state
+    call_after (call.Load addr size) k long = loaded_same s p addr size
+        (each_page addr size (λ page. Serves v p page (frames page) Read) (Touched s.spaces p) (λ page q. touched_there page (frames page) Read q) k)
+    call_after (call.Store addr size value) k long =
+        let there : EachTouched addr size (IsThere s.spaces p) = each_page addr size (λ page. Serves v p page (frames page) Write) (IsThere s.spaces p)
+        (λ page q. ap is_some (there_filled page (frames page) Write q)) k in
+        (λ i. record s { spaces = all_stored (with_touched-same s.spaces p addr size there i) p addr (bytes_of (byte_count size) value) })
+        ∙ ap (λ (S : Spaces). record s { spaces = S })
+        (all_put (frame_at v) v.state.spaces p frames (byte_count size) value addr bytes
+        (λ i l. held (length bytes) (page_number (addr + i)) frames long (each_byte addr size (λ page. Serves v p page (frames page) Write) k i l)))
+    call_after (call.Map page write) k long = absurd k
+    call_after (call.Unmap page) k long = absurd k
+    call_after (call.Protect page write) k long = absurd k
+    call_after (call.Info page) k long = absurd k
+    call_after (call.Offer page target write) k long = absurd k
+    call_after (call.Withdraw page target) k long = absurd k
+    call_after (call.Accept giver giver_page page) k long = absurd k
+    call_after (call.Spawn quota) k long = absurd k
+    call_after (call.Fork quota) k long = absurd k
+    call_after call.Exit k long = absurd k
+    call_after call.Quota k long = absurd k
+
+module _ (v : View) (core : IsCore v) (bytes : List ℕ) (frames : ℕ → ℕ) (a : Event) (served : ServesEvent v frames a) where
+  -- the process is live
+  pub served_live : is_live v.state a.pid ≡ true
+  served_live = by a.call served
+    where
+      by : (c : Call) → ServesCall v a.pid frames c → is_live v.state a.pid ≡ true
+      by (call.Load addr size) k = lives v core a.pid k.0.given.directory (live v a.pid (page_number addr) (frames (page_number addr)) Read k.0)
+      by (call.Store addr size value) k = lives v core a.pid k.0.given.directory (live v a.pid (page_number addr) (frames (page_number addr)) Write k.0)
+      by (call.Map page write) k = absurd k
+      by (call.Unmap page) k = absurd k
+      by (call.Protect page write) k = absurd k
+      by (call.Info page) k = absurd k
+      by (call.Offer page target write) k = absurd k
+      by (call.Withdraw page target) k = absurd k
+      by (call.Accept giver giver_page page) k = absurd k
+      by (call.Spawn quota) k = absurd k
+      by (call.Fork quota) k = absurd k
+      by call.Exit k = absurd k
+      by call.Quota k = absurd k
+
+  -- such an access is answered by the bytes there
+  pub kept_answer : answer (filled_state (frame_at v) bytes v.state) a ≡ reply_kept frames bytes a.call
+  kept_answer =
+      ap (λ b. if b then answer_of (filled_state (frame_at v) bytes v.state) a.pid a.call else reply.Refused cause.NoProcess) served_live
+      ∙ call_answer v core a.pid bytes frames a.call served
+
+  completing : completes (answer (filled_state (frame_at v) bytes v.state) a) ≡ true
+  completing = ap completes kept_answer ∙ by a.call served
+    where
+      by : (c : Call) → ServesCall v a.pid frames c → completes (reply_kept frames bytes c) ≡ true
+      by (call.Load addr size) k = refl
+      by (call.Store addr size value) k = refl
+      by (call.Map page write) k = absurd k
+      by (call.Unmap page) k = absurd k
+      by (call.Protect page write) k = absurd k
+      by (call.Info page) k = absurd k
+      by (call.Offer page target write) k = absurd k
+      by (call.Withdraw page target) k = absurd k
+      by (call.Accept giver giver_page page) k = absurd k
+      by (call.Spawn quota) k = absurd k
+      by (call.Fork quota) k = absurd k
+      by call.Exit k = absurd k
+      by call.Quota k = absurd k
+
+  -- and leaves a state whose cells have the bytes that it leaves
+  pub kept_next : length bytes ≡ length v.bytes → next (filled_state (frame_at v) bytes v.state) a ≡ filled_state (frame_at v) (bytes_kept frames bytes a.call) v.state
+  kept_next long = next-goes (filled_state (frame_at v) bytes v.state) a completing ∙ call_after v core a.pid bytes frames a.call served long
+
+  -- in frames that are no pages no byte changes
+  pub kept_beside : (f : ℕ) → length bytes ≡ length v.bytes → ((c : ℕ) → slice_get v.roles f ≡ Some (Page c) → ⊥)
+      → frame_bytes (bytes_kept frames bytes a.call) f ≡ frame_bytes bytes f
+  kept_beside f long none = by a.call served
+    where
+      by : (c : Call) → ServesCall v a.pid frames c → frame_bytes (bytes_kept frames bytes c) f ≡ frame_bytes bytes f
+      by (call.Load addr size) k = refl
+      by (call.Store addr size value) k = frames_beside frames (byte_count size) value bytes addr f (λ i l.
+          let page : ℕ = page_number (addr + i) in
+          let s = each_byte addr size (λ page. Serves v a.pid page (frames page) Write) k i l in
+          let inside = inside_served v core a.pid page (frames page) s in (
+            omega (arith, inside, long),
+            λ same. (
+                let role = role_served v core a.pid page (frames page) s in
+                none role.0 (ap (slice_get v.roles) same ∙ role.1)),
+          ))
+      by (call.Map page write) k = absurd k
+      by (call.Unmap page) k = absurd k
+      by (call.Protect page write) k = absurd k
+      by (call.Info page) k = absurd k
+      by (call.Offer page target write) k = absurd k
+      by (call.Withdraw page target) k = absurd k
+      by (call.Accept giver giver_page page) k = absurd k
+      by (call.Spawn quota) k = absurd k
+      by (call.Fork quota) k = absurd k
+      by call.Exit k = absurd k
+      by call.Quota k = absurd k
+
+  pub kept_long : length (bytes_kept frames bytes a.call) ≡ length bytes
+  kept_long = by a.call
+    where
+      by : (c : Call) → length (bytes_kept frames bytes c) ≡ length bytes
+      by (call.Load addr size) = refl
+      by (call.Store addr size value) = length-written frames bytes addr (bytes_of (byte_count size) value)
+      by (call.Map page write) = refl
+      by (call.Unmap page) = refl
+      by (call.Protect page write) = refl
+      by (call.Info page) = refl
+      by (call.Offer page target write) = refl
+      by (call.Withdraw page target) = refl
+      by (call.Accept giver giver_page page) = refl
+      by (call.Spawn quota) = refl
+      by (call.Fork quota) = refl
+      by call.Exit = refl
+      by call.Quota = refl

@@ -1,0 +1,159 @@
+-- A state with the bytes of frames in its cells: events that only take away leave these as they are, and a store
+-- changes one frame's.
+use Rattle.std.proofs.Common.{◌≡◌, ◌≢◌, ℕ, zero, suc, ◌+◌, ◌*◌, ◌/◌, ◌%◌, ◌<◌, Bool, true, false, cond, List, [], ◌∷◌, length, refl, ap, sym, ◌∙◌, subst, arith, inl, inr, Option, Some, None, unwrap_or}
+use Rattle.std.specs.Prelude.{◌⊎◌, ◌&&◌, not, if◌then◌else◌, is_some, slice_set, slice_index}
+use Rattle.std.specs.Option.{option_map}
+use Rattle.page_words.specs.Addresses.{page_number, offset_number, is_user_page}
+use Rattle.page_words.specs.FiniteMap as map
+use Rattle.page_words.specs.FiniteMap.{same}
+use Rattle.page_words.specs.FiniteSet as set
+use Rattle.page_words.specs.FiniteSet.{Set}
+use Rattle.page_words.proofs.MapLemmas.{same_map, same_or_not, get-insert, get-map_values}
+use Rattle.page_words.proofs.OptionLemmas.{is_some-map}
+use Rattle.phys_memory.specs.Bytes.{frame_bytes, IsInside, with_frame}
+use Rattle.phys_memory.proofs.Frames.{frames-with_byte, with_frame-same, with_frame-other, length-frame}
+use Rattle.address_space.specs.Kept.{kept_place, written_at}
+use Rattle.address_space.specs.Spaces.{Slot, slot_order, Cell, Spaces, at_page, slot_at, cell_or_fresh, fresh, with_bytes, with_holders, set_bytes, write_at, store_in, stored, all_stored, bytes_of, protected, without, is_slot, is_of}
+use Rattle.address_space.proofs.steps.Stores.{byte_is_write}
+use Rattle.process_table.specs.State.{State, is_live, is_mapped}
+use Rattle.process_table.specs.Calls.{unmap_refusal, protect_refusal}
+use Rattle.process_table.specs.declared.causes.Cause.{Cause}
+use Rattle.process_table.specs.declared.causes.Cause.TheVariants as cause
+use Rattle.kernel_calls.specs.Machine.{answer, answer_of, after, next, completes, refused_or}
+use Rattle.kernel_calls.specs.declared.calls.Call.{Call}
+use Rattle.kernel_calls.specs.declared.calls.Call.TheVariants as call
+use Rattle.kernel_calls.specs.declared.calls.Event.{Event}
+use Rattle.kernel_calls.specs.declared.calls.Reply.{Reply}
+use Rattle.kernel_calls.specs.declared.calls.Reply.TheVariants as reply
+use Rattle.kernel_calls.proofs.CommutingGone.{fewer, get_gone}
+use Rattle.kernel_calls.proofs.Decided.{next-stays, next-goes}
+use Rattle.shootdowns.specs.Windows.{only_takes}
+
+-- each cell has the bytes of its slot's frame
+abbrev pub fill : (Slot → ℕ) → List ℕ → Slot → Cell → Cell
+fill F bytes slot c = with_bytes c (frame_bytes bytes (F slot))
+
+abbrev pub filled : (Slot → ℕ) → List ℕ → Spaces → Spaces
+filled F bytes S = map.map_values (fill F bytes) S
+
+abbrev pub filled_state : (Slot → ℕ) → List ℕ → State → State
+filled_state F bytes s = record s { spaces = filled F bytes s.spaces }
+
+-- a Protect that completes is of a mapped page
+pub protects_mapped : (s : State) (p page : ℕ) → completes (answer_of s p (call.Protect page false)) ≡ true → is_mapped s (at_page p page) ≡ true
+protects_mapped s p page done = by (is_user_page page) (is_mapped s (at_page p page)) done
+  where
+    by : (u b : Bool) → completes (refused_or (if not u then Some cause.BadPage else if not b then Some cause.NotMapped else None) reply.Done) ≡ true → b ≡ true
+    by true true k = refl
+    by true false k = cc
+    by false b k = cc
+
+-- an event that completes is a live process's
+pub completed : (s : State) (e : Event) → completes (answer s e) ≡ true → completes (answer_of s e.pid e.call) ≡ true
+completed s e = by (is_live s e.pid) refl
+  where
+    by : (b : Bool) → is_live s e.pid ≡ b → completes (answer s e) ≡ true → completes (answer_of s e.pid e.call) ≡ true
+    by true is k = sym (ap (λ b. completes (if b then answer_of s e.pid e.call else reply.Refused cause.NoProcess)) is) ∙ k
+    by false is k = absurd (let z : false ≡ true = sym (ap (λ b. completes (if b then answer_of s e.pid e.call else reply.Refused cause.NoProcess)) is) ∙ k in cc)
+
+module _ (F : Slot → ℕ) (bytes : List ℕ) where
+  pub get_filled : (S : Spaces) (r : Slot) → map.get (filled F bytes S) r ≡ option_map (fill F bytes r) (map.get S r)
+  get_filled S r = get-map_values slot_order (fill F bytes) S r
+
+  pub mapped_filled : (S : Spaces) (r : Slot) → map.contains_key (filled F bytes S) r ≡ map.contains_key S r
+  mapped_filled S r = ap is_some (get_filled S r) ∙ is_some-map (fill F bytes r) (map.get S r)
+
+  -- ---- Slots that go, and rights
+
+  gone_filled : (S : Spaces) (gone : Slot → Bool) → without (filled F bytes S) gone ≡ filled F bytes (without S gone)
+  gone_filled S gone = same_map _ _ (λ r.
+      get_gone (filled F bytes S) gone r
+      ∙ ap (λ (z : Option Cell). option_map (fewer gone) (cond (not (gone r)) z None)) (get_filled S r)
+      ∙ by r (not (gone r)) (map.get S r)
+      ∙ sym (get_filled (without S gone) r ∙ ap (option_map (fill F bytes r)) (get_gone S gone r)))
+    where
+      by : (r : Slot) (b : Bool) (z : Option Cell)
+          → option_map (fewer gone) (cond b (option_map (fill F bytes r) z) None) ≡ option_map (fill F bytes r) (option_map (fewer gone) (cond b z None))
+      by r false z = refl
+      by r true None = refl
+      by r true (Some c) = refl
+
+  right_filled : (S : Spaces) (slot : Slot) (w : Bool) → is_some (map.get S slot) ≡ true
+      → protected (filled F bytes S) slot w ≡ filled F bytes (protected S slot w)
+  right_filled S slot w there = same_map _ _ (λ r.
+      get-insert (filled F bytes S) slot (record (cell_or_fresh (filled F bytes S) slot) { write = w }) r
+      ∙ ap (cond (same slot_order r slot) (Some (record (cell_or_fresh (filled F bytes S) slot) { write = w }))) (get_filled S r)
+      ∙ by r (same_or_not slot_order r slot)
+      ∙ sym (get_filled (protected S slot w) r
+      ∙ ap (option_map (fill F bytes r)) (get-insert S slot (record (cell_or_fresh S slot) { write = w }) r)))
+    where
+      own : (z : Option Cell) → map.get S slot ≡ z → is_some z ≡ true
+          → record (cell_or_fresh (filled F bytes S) slot) { write = w } ≡ fill F bytes slot (record (cell_or_fresh S slot) { write = w })
+      own None is k = cc
+      own (Some c) is k =
+          ap (λ (z : Option Cell). record (unwrap_or z (fresh slot true)) { write = w }) (get_filled S slot ∙ ap (option_map (fill F bytes slot)) is)
+          ∙ sym (ap (λ (z : Option Cell). fill F bytes slot (record (unwrap_or z (fresh slot true)) { write = w })) is)
+
+      by : (r : Slot) → ((r ≡ slot) × (same slot_order r slot ≡ true)) ⊎ (same slot_order r slot ≡ false)
+          → cond (same slot_order r slot) (Some (record (cell_or_fresh (filled F bytes S) slot) { write = w })) (option_map (fill F bytes r) (map.get S r))
+          ≡ option_map (fill F bytes r) (cond (same slot_order r slot) (Some (record (cell_or_fresh S slot) { write = w })) (map.get S r))
+      by r (inl is) =
+          ap (λ k. cond k (Some (record (cell_or_fresh (filled F bytes S) slot) { write = w })) (option_map (fill F bytes r) (map.get S r))) is.1
+          ∙ ap (λ (c : Cell). Some c) (own (map.get S slot) refl there)
+          ∙ (λ i. Some (fill F bytes (sym is.0 i) (record (cell_or_fresh S slot) { write = w })))
+          ∙ sym (ap (λ k. option_map (fill F bytes r) (cond k (Some (record (cell_or_fresh S slot) { write = w })) (map.get S r))) is.1)
+      by r (inr other) =
+          ap (λ k. cond k (Some (record (cell_or_fresh (filled F bytes S) slot) { write = w })) (option_map (fill F bytes r) (map.get S r))) other
+          ∙ sym (ap (λ k. option_map (fill F bytes r) (cond k (Some (record (cell_or_fresh S slot) { write = w })) (map.get S r))) other)
+
+  -- ---- Events
+
+  call_filled : (s : State) (p : ℕ) (c : Call) → only_takes c ≡ true → answer_of (filled_state F bytes s) p c ≡ answer_of s p c
+  call_filled s p (call.Unmap page) h =
+      ap (λ b. refused_or (if not (is_user_page page) then Some cause.BadPage else if not b then Some cause.NotMapped else None) reply.Done) (mapped_filled s.spaces (at_page p page))
+  call_filled s p (call.Protect page false) h =
+      ap (λ b. refused_or (if not (is_user_page page) then Some cause.BadPage else if not b then Some cause.NotMapped else None) reply.Done) (mapped_filled s.spaces (at_page p page))
+  call_filled s p (call.Protect page true) h = cc
+  call_filled s p call.Exit h = refl
+  call_filled s p (call.Load addr size) h = cc
+  call_filled s p (call.Store addr size value) h = cc
+  call_filled s p (call.Map page write) h = cc
+  call_filled s p (call.Info page) h = cc
+  call_filled s p (call.Offer page target write) h = cc
+  call_filled s p (call.Withdraw page target) h = cc
+  call_filled s p (call.Accept giver giver_page page) h = cc
+  call_filled s p (call.Spawn quota) h = cc
+  call_filled s p (call.Fork quota) h = cc
+  call_filled s p call.Quota h = cc
+
+  pub answer_filled : (s : State) (e : Event) → only_takes e.call ≡ true → answer (filled_state F bytes s) e ≡ answer s e
+  answer_filled s e h = ap (λ (r : Reply). if is_live s e.pid then r else reply.Refused cause.NoProcess) (call_filled s e.pid e.call h)
+
+  after_filled : (s : State) (p : ℕ) (c : Call) → only_takes c ≡ true → completes (answer_of s p c) ≡ true
+      → after (filled_state F bytes s) p c ≡ filled_state F bytes (after s p c)
+  after_filled s p (call.Unmap page) h done = ap (λ (S : Spaces). record (after s p (call.Unmap page)) { spaces = S }) (gone_filled s.spaces (is_slot p page))
+  after_filled s p (call.Protect page false) h done = ap (λ (S : Spaces). record s { spaces = S }) (right_filled s.spaces (at_page p page) false (protects_mapped s p page done))
+  after_filled s p (call.Protect page true) h done = cc
+  after_filled s p call.Exit h done = ap (λ (S : Spaces). record (after s p call.Exit) { spaces = S }) (gone_filled s.spaces (is_of p))
+  after_filled s p (call.Load addr size) h done = cc
+  after_filled s p (call.Store addr size value) h done = cc
+  after_filled s p (call.Map page write) h done = cc
+  after_filled s p (call.Info page) h done = cc
+  after_filled s p (call.Offer page target write) h done = cc
+  after_filled s p (call.Withdraw page target) h done = cc
+  after_filled s p (call.Accept giver giver_page page) h done = cc
+  after_filled s p (call.Spawn quota) h done = cc
+  after_filled s p (call.Fork quota) h done = cc
+  after_filled s p call.Quota h done = cc
+
+  pub next_filled : (s : State) (e : Event) → only_takes e.call ≡ true → next (filled_state F bytes s) e ≡ filled_state F bytes (next s e)
+  next_filled s e h = by (completes (answer s e)) refl
+    where
+      by : (b : Bool) → completes (answer s e) ≡ b → next (filled_state F bytes s) e ≡ filled_state F bytes (next s e)
+      by false is =
+          next-stays (filled_state F bytes s) e (ap completes (answer_filled s e h) ∙ is)
+          ∙ ap (filled_state F bytes) (sym (next-stays s e is))
+      by true is =
+          next-goes (filled_state F bytes s) e (ap completes (answer_filled s e h) ∙ is)
+          ∙ after_filled s e.pid e.call h (completed s e is)
+          ∙ ap (filled_state F bytes) (sym (next-goes s e is))

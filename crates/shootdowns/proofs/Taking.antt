@@ -1,0 +1,284 @@
+-- Events that only take away: which slots stay, and on which frames.
+use Rattle.std.proofs.Common.{◌≡◌, ℕ, ◌*◌, ◌+◌, Bool, true, false, not, cond, List, [], ◌∷◌, length, refl, ap, sym, ◌∙◌, subst, arith, inl, inr, Option, Some, None, is_some, unwrap_or, ◌<◌}
+use Rattle.std.specs.Prelude.{◌⊎◌, if◌then◌else◌, IsTrue, slice_get}
+use Rattle.std.proofs.lemmas.Option.{slice_get_within}
+use Rattle.std.specs.FinMap.Entries.{find}
+use Rattle.std.specs.Option.{option_map, option_and_then}
+use Rattle.page_words.specs.FiniteMap as map
+use Rattle.page_words.specs.FiniteMap.{same}
+use Rattle.page_words.specs.FiniteSet as set
+use Rattle.page_words.specs.FiniteSet.{Set}
+use Rattle.page_words.proofs.OptionLemmas.{some_value}
+use Rattle.page_words.proofs.MapLemmas.{same_itself, same_map, same_or_not, get-insert}
+use Rattle.page_words.specs.Words.{frame_number, is_lazy}
+use Rattle.phys_memory.specs.Bytes.{frame_bytes}
+use Rattle.alloc_table.specs.declared.Role.{Role}
+use Rattle.alloc_table.specs.declared.Role.TheVariants.{Reserved, Free, Page}
+use Rattle.address_space.specs.Image.{directory_at, page_word, page_frame, SlotStands, CellStands}
+use Rattle.address_space.specs.ImageWords.{own_frame}
+use Rattle.address_space.specs.Spaces.{Slot, slot_order, Cell, Spaces, at_page, cell_or_fresh, fresh, with_bytes, without, protected, is_slot, is_of}
+use Rattle.address_space.specs.Stays.{way_of, FramesStay, LooseStay}
+use Rattle.address_space.proofs.standing.FramesStand.{way_parts, way_whole}
+use Rattle.address_space.proofs.standing.TablesStand.{owned, own_is}
+use Rattle.address_space.proofs.standing.Restored.{from_map, from_then}
+use Rattle.process_table.specs.Image.{Account, memory_of, as_account}
+use Rattle.quota_tree.specs.Book.{Member}
+use Rattle.process_table.specs.State.{State, is_live, is_mapped}
+use Rattle.process_table.specs.View.{View}
+use Rattle.kernel_calls.specs.Gone.{gone_of_call, gone_by, gives_back}
+use Rattle.kernel_calls.specs.Machine.{answer, answer_of, after, next, completes}
+use Rattle.kernel_calls.specs.Processors.{IsCore}
+use Rattle.kernel_calls.specs.declared.calls.Call.{Call}
+use Rattle.kernel_calls.specs.declared.calls.Call.TheVariants as call
+use Rattle.kernel_calls.specs.declared.calls.Event.{Event}
+use Rattle.kernel_calls.proofs.CommutingGone.{fewer, get_gone}
+use Rattle.kernel_calls.proofs.Decided.{next-stays, next-goes}
+use Rattle.kernel_calls.proofs.Runs.{kept-next}
+use Rattle.shootdowns.specs.Windows.{only_takes}
+use Rattle.shootdowns.proofs.Accesses.{frame_at, frame_is, word_mapped, way_at, lazy_zero}
+use Rattle.shootdowns.proofs.Filled.{fill, filled, filled_state, get_filled, next_filled, protects_mapped, completed}
+
+-- a slot that is mapped afterwards was mapped before, and isn't gone
+abbrev Left : State → State → (Slot → ℕ → Bool) → Type 0
+Left s t gone = (slot : Slot) → is_some (map.get t.spaces slot) ≡ true → (is_some (map.get s.spaces slot) ≡ true) × ((f : ℕ) → gone slot f ≡ false)
+
+left_gone : (S : Spaces) (gone : Slot → Bool) (slot : Slot) → is_some (map.get (without S gone) slot) ≡ true
+    → (is_some (map.get S slot) ≡ true) × (gone slot ≡ false)
+left_gone S gone slot h = by (gone slot) refl (map.get S slot) (sym (ap is_some (get_gone S gone slot)) ∙ h)
+  where
+    by : (b : Bool) → gone slot ≡ b → (z : Option Cell) → is_some (option_map (fewer gone) (cond (not (gone slot)) z None)) ≡ true → (is_some z ≡ true) × (gone slot ≡ false)
+    by true is z k = absurd (let e : false ≡ true = sym (ap (λ b. is_some (option_map (fewer gone) (cond (not b) z None))) is) ∙ k in cc)
+    by false is None k = absurd (let e : false ≡ true = sym (ap (λ b. is_some (option_map (fewer gone) (cond (not b) None None))) is) ∙ k in cc)
+    by false is (Some c) k = (refl, is)
+
+left_right : (S : Spaces) (at slot : Slot) (w : Bool) → is_some (map.get S at) ≡ true → is_some (map.get (protected S at w) slot) ≡ true
+    → is_some (map.get S slot) ≡ true
+left_right S at slot w there h = by (same_or_not slot_order slot at)
+  where
+    new : Cell
+    new = record (cell_or_fresh S at) { write = w }
+
+    by : ((slot ≡ at) × (same slot_order slot at ≡ true)) ⊎ (same slot_order slot at ≡ false) → is_some (map.get S slot) ≡ true
+    by (inl is) = ap (λ q. is_some (map.get S q)) is.0 ∙ there
+    by (inr other) = sym (ap is_some (get-insert S at new slot ∙ ap (λ b. cond b (Some new) (map.get S slot)) other)) ∙ h
+
+left_call : (s : State) (p : ℕ) (c : Call) → only_takes c ≡ true → (c ≡ c → completes (answer_of s p c) ≡ true) → Left s (after s p c) (gone_of_call p c)
+left_call s p (call.Unmap page) h done slot there = let k = left_gone s.spaces (is_slot p page) slot there in (k.0, λ f. k.1)
+left_call s p (call.Protect page false) h done slot there =
+    (left_right s.spaces (at_page p page) slot false (protects_mapped s p page (done refl)) there, λ f. refl)
+left_call s p (call.Protect page true) h done slot there = cc
+left_call s p call.Exit h done slot there = let k = left_gone s.spaces (is_of p) slot there in (k.0, λ f. k.1)
+left_call s p (call.Load addr size) h done slot there = cc
+left_call s p (call.Store addr size value) h done slot there = cc
+left_call s p (call.Map page write) h done slot there = cc
+left_call s p (call.Info page) h done slot there = cc
+left_call s p (call.Offer page target write) h done slot there = cc
+left_call s p (call.Withdraw page target) h done slot there = cc
+left_call s p (call.Accept giver giver_page page) h done slot there = cc
+left_call s p (call.Spawn quota) h done slot there = cc
+left_call s p (call.Fork quota) h done slot there = cc
+left_call s p call.Quota h done slot there = cc
+
+pub left_next : (s : State) (e : Event) → only_takes e.call ≡ true → Left s (next s e) (gone_by s e)
+left_next s e h = by (completes (answer s e)) refl
+  where
+    by : (b : Bool) → completes (answer s e) ≡ b → Left s (next s e) (gone_by s e)
+    by false is slot there = (
+      sym (ap (λ (t : State). is_some (map.get t.spaces slot)) (next-stays s e is)) ∙ there,
+      λ f. ap (λ b. if b then gone_of_call e.pid e.call slot f else false) is,
+    )
+    by true is slot there =
+        let k = left_call s e.pid e.call h (λ _. completed s e is) slot (sym (ap (λ (t : State). is_some (map.get t.spaces slot)) (next-goes s e is)) ∙ there) in
+        (k.0, λ f. ap (λ b. if b then gone_of_call e.pid e.call slot f else false) is ∙ k.1 f)
+
+-- a slot that has a word is mapped
+pub mapped_word : (v : View) → IsCore v → (slot : Slot) (word : ℕ) → page_word (memory_of v) slot ≡ Some word → is_some (map.get v.state.spaces slot) ≡ true
+mapped_word v core slot word is = by (page_word (memory_of v) slot) is (map.get v.state.spaces slot) (core.image.memory.cells slot)
+  where
+    by : (y : Option ℕ) → y ≡ Some word → (z : Option Cell) → SlotStands (memory_of v) slot y z → is_some z ≡ true
+    by None k z h = cc
+    by (Some n) k None h = absurd h
+    by (Some n) k (Some c) h = refl
+
+-- each frame of a page keeps its bytes, and is a page's or free
+pub record PagesStand (v w : View) : Type 0 where
+  pub each : (f c : ℕ) → slice_get v.roles f ≡ Some (Page c) → (frame_bytes w.bytes f ≡ frame_bytes v.bytes f)
+      × ((slice_get w.roles f ≡ Some Free) ⊎ ((d : ℕ) × (slice_get w.roles f ≡ Some (Page d))))
+
+by_loose : (v w : View) → LooseStay (memory_of v) (memory_of w) → PagesStand v w
+by_loose v w loose = record { each = λ f c is. loose.each f (inr (c, is)) }
+
+-- the bytes of a cell, by its word
+cell_bytes : (v : View) → IsCore v → (slot : Slot) (c : Cell) (word : ℕ) → map.get v.state.spaces slot ≡ Some c → page_word (memory_of v) slot ≡ Some word
+    → c.bytes ≡ frame_bytes v.bytes (frame_number word)
+cell_bytes v core slot c word at is = by (page_word (memory_of v) slot) is (map.get v.state.spaces slot) at (core.image.memory.cells slot)
+  where
+    by : (y : Option ℕ) → y ≡ Some word → (z : Option Cell) → z ≡ Some c → SlotStands (memory_of v) slot y z → c.bytes ≡ frame_bytes v.bytes (frame_number word)
+    by None k z l h = cc
+    by (Some n) k None l h = absurd h
+    by (Some n) k (Some d) l h =
+        let same : n ≡ word = cc in
+        let alike : d ≡ c = cc in
+        sym (ap (λ (q : Cell). q.bytes) alike) ∙ h.bytes ∙ ap (λ m. frame_bytes v.bytes (frame_number m)) same
+
+-- a Protect leaves all bytes
+bytes_protected : (s : State) (p page : ℕ) (write : Bool) (slot : Slot) (c : Cell) → map.get s.spaces slot ≡ Some c
+    → (d : Cell) × (map.get (protected s.spaces (at_page p page) write) slot ≡ Some d) × (d.bytes ≡ c.bytes)
+bytes_protected s p page write slot c at = by (same_or_not slot_order slot (at_page p page))
+  where
+    new : Cell
+    new = record (cell_or_fresh s.spaces (at_page p page)) { write = write }
+
+    by : ((slot ≡ at_page p page) × (same slot_order slot (at_page p page) ≡ true)) ⊎ (same slot_order slot (at_page p page) ≡ false)
+        → (d : Cell) × (map.get (protected s.spaces (at_page p page) write) slot ≡ Some d) × (d.bytes ≡ c.bytes)
+    by (inl is) = (
+      record (cell_or_fresh s.spaces (at_page p page)) { write = write },
+      get-insert s.spaces (at_page p page) (record (cell_or_fresh s.spaces (at_page p page)) { write = write }) slot
+          ∙ ap (λ b. cond b (Some (record (cell_or_fresh s.spaces (at_page p page)) { write = write })) (map.get s.spaces slot)) is.1,
+      ap (λ (z : Option Cell). (unwrap_or z (fresh (at_page p page) true)).bytes) (sym (ap (map.get s.spaces) is.0) ∙ at),
+    )
+    by (inr other) = (
+      c,
+      get-insert s.spaces (at_page p page) (record (cell_or_fresh s.spaces (at_page p page)) { write = write }) slot
+          ∙ ap (λ b. cond b (Some (record (cell_or_fresh s.spaces (at_page p page)) { write = write })) (map.get s.spaces slot)) other ∙ at,
+      refl,
+    )
+
+bytes_next : (s : State) (e : Event) (page : ℕ) (write : Bool) → e.call ≡ call.Protect page write → (slot : Slot) (c : Cell) → map.get s.spaces slot ≡ Some c
+    → (d : Cell) × (map.get (next s e).spaces slot ≡ Some d) × (d.bytes ≡ c.bytes)
+bytes_next s e page write is slot c at = by (completes (answer s e)) refl
+  where
+    by : (b : Bool) → completes (answer s e) ≡ b → (d : Cell) × (map.get (next s e).spaces slot ≡ Some d) × (d.bytes ≡ c.bytes)
+    by false stops = (c, ap (λ (t : State). map.get t.spaces slot) (next-stays s e stops) ∙ at, refl)
+    by true goes =
+        let d = bytes_protected s e.pid page write slot c at in
+        (d.0, ap (λ (t : State). map.get t.spaces slot) (next-goes s e goes ∙ ap (after s e.pid) is) ∙ d.1, d.2)
+
+none_gone : (s : State) (e : Event) (page : ℕ) (write : Bool) → e.call ≡ call.Protect page write → (slot : Slot) (f : ℕ) → gone_by s e slot f ≡ false
+none_gone s e page write is slot f =
+    ap (λ c. if completes (answer s e) then gone_of_call e.pid c slot f else false) is ∙ by (completes (answer s e))
+  where
+    by : (b : Bool) → (if b then false else false) ≡ false
+    by true = refl
+    by false = refl
+
+-- a set that isn't empty has a member
+some_member : (s : Set slot_order) → 0 < set.len s → (slot : Slot) × (set.contains s slot ≡ true)
+some_member s up = go s.entries up
+  where
+    go : (es : List (Slot × Unit {0})) → 0 < length es → (slot : Slot) × (is_some (find slot_order.cmp slot es) ≡ true)
+    go [] h = absurd (omega (arith, h))
+    go (x ∷ es) h = (x.0, ap (λ b. is_some (cond b (Some x.1) (find slot_order.cmp x.0 es))) (same_itself slot_order x.0))
+
+by_protect : (v w : View) → IsCore v → IsCore w → (e : Event) → w.state ≡ next v.state e → FramesStay (gone_by v.state e) (memory_of v) (memory_of w)
+    → (page : ℕ) (write : Bool) → e.call ≡ call.Protect page write → PagesStand v w
+by_protect v w before later e state stay page write is = record {
+  each = λ f c role.
+      let counted = before.image.memory.sound.counts f c role in
+      let up = counted.0 in
+      let count = counted.1.count in
+      let member = some_member counted.1.members (omega (arith, up, count)) in
+      stands f c role member.0 ((counted.1.are member.0).0 member.1);
+}
+  where
+    stands : (f c : ℕ) → slice_get v.roles f ≡ Some (Page c) → (slot : Slot) → page_frame (memory_of v) slot ≡ Some f
+        → (frame_bytes w.bytes f ≡ frame_bytes v.bytes f) × ((slice_get w.roles f ≡ Some Free) ⊎ ((d : ℕ) × (slice_get w.roles f ≡ Some (Page d))))
+    stands f c role slot framed =
+        let old = from_then (own_frame 2) (page_word (memory_of v) slot) f framed in
+        let own = owned old.0 f old.2 in
+        let way = way_at v slot old.0 old.1 in
+        let now = way_parts (memory_of w) slot way.0 (frame_number old.0) (stay.ways slot way.0 (frame_number old.0) (none_gone v.state e page write is slot (frame_number old.0)) way.1) in
+        let new = from_map frame_number (page_word (memory_of w) slot) (frame_number old.0) now.names in
+        let cell = some_value (map.get v.state.spaces slot) (mapped_word v before slot old.0 old.1) in
+        let left = bytes_next v.state e page write is slot cell.0 cell.1 in
+        let there : map.get w.state.spaces slot ≡ Some left.0 = ap (λ (t : State). map.get t.spaces slot) state ∙ left.1 in
+        let same : frame_number new.0 ≡ f = new.2 ∙ own.1 in (
+          ap (frame_bytes w.bytes) (sym same) ∙ sym (cell_bytes w later slot left.0 new.0 there new.1) ∙ left.2
+              ∙ cell_bytes v before slot cell.0 old.0 cell.1 old.1 ∙ ap (frame_bytes v.bytes) own.1,
+          inr (later.image.memory.sound.pages slot f (ap (option_and_then (own_frame 2)) new.1 ∙ own_is new.0 (real new.0 new.1 (is_lazy new.0) refl same) ∙ ap Some same)),
+        )
+      where
+        real : (word : ℕ) → page_word (memory_of w) slot ≡ Some word → (b : Bool) → is_lazy word ≡ b → frame_number word ≡ f → is_lazy word ≡ false
+        real word at false k same = k
+        real word at true k same = absurd (
+            let zero = lazy_zero w later slot word at k in
+            let within = slice_get_within v.roles f (Page c) role in
+            let none : f ≡ 0 = sym same ∙ zero in
+            let k : ◌≡◌ {A = Option Role} (Some Reserved) (Some (Page c)) = sym ((before.image.memory.sound.reserved f within).1 none) ∙ role in
+            cc)
+
+pub pages_stand : (v w : View) → IsCore v → IsCore w → (e : Event) → w.state ≡ next v.state e → FramesStay (gone_by v.state e) (memory_of v) (memory_of w)
+    → (gives_back e.call ≡ true → LooseStay (memory_of v) (memory_of w)) → only_takes e.call ≡ true → PagesStand v w
+pages_stand v w before later e state stay loose takes = by e.call refl takes loose
+  where
+    by : (c : Call) → e.call ≡ c → only_takes c ≡ true → (gives_back c ≡ true → LooseStay (memory_of v) (memory_of w)) → PagesStand v w
+    by (call.Unmap page) is h l = by_loose v w (l refl)
+    by call.Exit is h l = by_loose v w (l refl)
+    by (call.Protect page write) is h l = by_protect v w before later e state stay page write is
+    by (call.Load addr size) is h l = cc
+    by (call.Store addr size value) is h l = cc
+    by (call.Map page write) is h l = cc
+    by (call.Info page) is h l = cc
+    by (call.Offer page target write) is h l = cc
+    by (call.Withdraw page target) is h l = cc
+    by (call.Accept giver giver_page page) is h l = cc
+    by (call.Spawn quota) is h l = cc
+    by (call.Fork quota) is h l = cc
+    by call.Quota is h l = cc
+
+module _ (v w : View) (before : IsCore v) (later : IsCore w) (e : Event) (takes : only_takes e.call ≡ true) (state : w.state ≡ next v.state e)
+    (stay : FramesStay (gone_by v.state e) (memory_of v) (memory_of w)) (pages : PagesStand v w) where
+  -- a word afterwards names the frame that it named before
+  pub names_stay : (slot : Slot) (word : ℕ) → page_word (memory_of w) slot ≡ Some word → frame_at v slot ≡ frame_number word
+  names_stay slot word is =
+      let left = left_next v.state e takes slot (sym (ap (λ (t : State). is_some (map.get t.spaces slot)) state) ∙ mapped_word w later slot word is) in
+      let cell = some_value (map.get v.state.spaces slot) left.0 in
+      let old = word_mapped v before slot cell.0 cell.1 in
+      let way = way_at v slot old.0 old.1 in
+      let now = way_parts (memory_of w) slot way.0 (frame_number old.0) (stay.ways slot way.0 (frame_number old.0) (left.1 (frame_number old.0)) way.1) in
+      let e : Some (frame_number word) ≡ Some (frame_number old.0) = sym (ap (option_map frame_number) is) ∙ now.names in
+      let same : frame_number word ≡ frame_number old.0 = cc in
+      frame_is v slot old.0 old.1 ∙ sym same
+
+  -- the bytes of its frame stand
+  bytes_stay : (slot : Slot) (word : ℕ) → page_word (memory_of v) slot ≡ Some word → frame_bytes v.bytes (frame_number word) ≡ frame_bytes w.bytes (frame_number word)
+  bytes_stay slot word is = by (is_lazy word) refl
+    where
+      by : (b : Bool) → is_lazy word ≡ b → frame_bytes v.bytes (frame_number word) ≡ frame_bytes w.bytes (frame_number word)
+      by true lazy =
+          let zero = lazy_zero v before slot word is lazy in
+          ap (frame_bytes v.bytes) zero ∙ before.image.memory.sound.zero_frame ∙ sym later.image.memory.sound.zero_frame ∙ ap (frame_bytes w.bytes) (sym zero)
+      by false real =
+          let role = before.image.memory.sound.pages slot (frame_number word) (ap (option_and_then (own_frame 2)) is ∙ own_is word real) in
+          sym (pages.each (frame_number word) role.0 role.1).0
+
+  pub filled_first : v.state ≡ filled_state (frame_at v) w.bytes v.state
+  filled_first = ap (λ (S : Spaces). record v.state { spaces = S }) (same_map _ _ (λ slot.
+      by slot (map.get v.state.spaces slot) refl ∙ sym (get_filled (frame_at v) w.bytes v.state.spaces slot)))
+    where
+      stands : (slot : Slot) (c : Cell) → map.get v.state.spaces slot ≡ Some c → c.bytes ≡ frame_bytes w.bytes (frame_at v slot)
+      stands slot c at =
+          let word = word_mapped v before slot c at in
+          cell_bytes v before slot c word.0 at word.1
+          ∙ bytes_stay slot word.0 word.1 ∙ ap (frame_bytes w.bytes) (sym (frame_is v slot word.0 word.1))
+
+      by : (slot : Slot) (z : Option Cell) → map.get v.state.spaces slot ≡ z → map.get v.state.spaces slot ≡ option_map (fill (frame_at v) w.bytes slot) (map.get v.state.spaces slot)
+      by slot None is = is ∙ sym (ap (option_map (fill (frame_at v) w.bytes slot)) is)
+      by slot (Some c) is = is ∙ ap (λ l. Some (with_bytes c l)) (stands slot c is) ∙ sym (ap (option_map (fill (frame_at v) w.bytes slot)) is)
+
+  pub filled_after : w.state ≡ filled_state (frame_at v) w.bytes (next v.state e)
+  filled_after = state ∙ ap (λ (s : State). next s e) filled_first ∙ next_filled (frame_at v) w.bytes v.state e takes
+
+  pub long_stays : length w.bytes ≡ length v.bytes
+  long_stays =
+      let here = before.image.sound.root in
+      let there = later.image.sound.root in
+      let old = from_map (as_account v.state 0) (map.get v.state.book 0) here.0 here.1 in
+      let new = from_map (as_account w.state 0) (map.get w.state.book 0) there.0 there.1 in
+      let k : Some new.0 ≡ Some old.0 = sym new.1 ∙ ap (λ (s : State). map.get s.book 0) state ∙ (kept-next v.state e before.well_formed).1 ∙ old.1 in
+      let same : new.0 ≡ old.0 = cc in
+      let quota : there.0.quota ≡ here.0.quota = sym (ap (λ (c : Account). c.quota) new.2) ∙ ap (λ (m : Member). m.quota) same ∙ ap (λ (c : Account). c.quota) old.2 in
+      let first = here.2 in
+      let last = there.2 in
+      let roles : length w.roles ≡ length v.roles = omega (arith, first, last, quota) in
+      later.image.memory.sound.size ∙ ap (λ n. 4096 * n) roles ∙ sym before.image.memory.sound.size

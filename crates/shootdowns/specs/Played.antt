@@ -1,0 +1,28 @@
+-- Windows that are played on a core: the event begins, and processors make accesses by their walks before it ends.
+use Rattle.std.specs.Prelude.{◌≡◌, Bool, true, false, ◌&&◌, List, [], ◌∷◌, Option}
+use Rattle.process_table.specs.View.{View}
+use Rattle.kernel_calls.specs.Processors.{Processors}
+use Rattle.kernel_calls.specs.Translations.{ended_by}
+use Rattle.kernel_calls.specs.Turns.{taken, told_in}
+use Rattle.kernel_calls.specs.declared.calls.Event.{Event}
+use Rattle.kernel_calls.specs.declared.calls.Reply.{Reply}
+use Rattle.kernel_calls.specs.declared.translations.Ended.{Ended}
+use Rattle.kernel_calls.specs.declared.translations.Ended.TheVariants as end
+use Rattle.kernel_calls.specs.declared.turns.Turn.{Turn}
+use Rattle.kernel_calls.specs.declared.turns.Turn.TheVariants as turn
+use Rattle.shootdowns.specs.Windows.{settled, Steps}
+
+-- each turn is an access by a walk
+abbrev pub all_walk : List Turn → Bool
+all_walk [] = true
+all_walk (turn.Walk e ∷ turns) = all_walk turns
+all_walk (turn.Call e ∷ turns) = false
+all_walk (turn.Store e ∷ turns) = false
+all_walk (turn.Mark pid page walked ∷ turns) = false
+
+-- The event, and what it ended. If the turns after it are accesses by walks, all of it are steps, whatever processors
+-- keep: the event comes first, and then each access that was made.
+pub record IsWindow (v : View) (e : Event) (turns : List Turn) (r : Reply) (x : Ended) (told : List (Option Reply)) (w : View) : Type 0 where
+  pub ended : x ≡ ended_by v e
+  pub steps : all_walk turns ≡ true → (keeps : Processors)
+      → Steps (settled end.Nothing v) keeps (e ∷ taken turns told) (r ∷ told_in told) (settled x w) keeps
