@@ -297,7 +297,9 @@ static void offer(uint32_t page) {
         offered[target].page = page;
     }
     let_go();
-    access_often(page);
+    for (uint32_t i = random(8); i > 0; i--) {
+        access_page(page, false);
+    }
 }
 
 static void accept(uint32_t page) {
@@ -324,9 +326,9 @@ static void act(void) {
         access_often(page);
     } else if (what < 52) {
         call((struct tower_event){.call = TOWER_UNMAP, .first = 0x60000 + random(8)});
-    } else if (what < 55) {
+    } else if (what < 56) {
         offer(page);
-    } else if (what < 59) {
+    } else if (what < 61) {
         accept(page);
     } else if (what < 63) {
         make_child();

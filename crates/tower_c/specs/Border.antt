@@ -11,7 +11,7 @@ use Rattle.table_walk.specs.declared.WalkEnd.{WalkEnd}
 use Rattle.table_walk.specs.declared.WalkEnd.TheVariants.{Fault, Outside}
 use Rattle.address_space.specs.View.{directory_of}
 use Rattle.process_table.specs.State.{State, container_of}
-use Rattle.process_table.specs.Image.{StandsFor, image_of}
+use Rattle.process_table.specs.Image.{StandsFor, image_of, memory_of}
 use Rattle.process_table.specs.View.{View}
 use Rattle.process_table.specs.declared.causes.Cause.{Cause}
 use Rattle.process_table.specs.declared.causes.Cause.TheVariants as cause
@@ -30,7 +30,10 @@ use Rattle.tower_c.specs.declared.numbers.TowerEvent.{TowerEvent}
 use Rattle.tower_c.specs.declared.numbers.TowerReply.{TowerReply}
 use Rattle.tower_c.specs.declared.numbers.TowerWalk.{TowerWalk}
 use Rattle.tower_c.specs.declared.numbers.TowerEnded.{TowerEnded}
+use Rattle.address_space.specs.Stays.{FramesStay, LooseStay}
+use Rattle.kernel_calls.specs.Gone.{gone_by, gives_back}
 use Rattle.kernel_calls.specs.Translations.{ended_by, Ends}
+use Rattle.kernel_calls.specs.Written.{WritesItsOwn}
 use Rattle.kernel_calls.specs.declared.translations.Ended.{Ended}
 use Rattle.kernel_calls.specs.declared.translations.Ended.TheVariants as end
 
@@ -271,6 +274,14 @@ ended_in None event = None
 abbrev pub ends_in : View → Option Event → Ended
 ends_in core (Some event) = ended_by core event
 ends_in core None = end.Nothing
+
+-- What these numbers leave of memory: what the event may not write stands as before, each way that it doesn't take leads
+-- where it led, and one that only gives back leaves the bytes of pages and of free frames. Where they are no event, all
+-- is as it was.
+abbrev pub LeavesMemory : View → View → Option Event → Type 0
+LeavesMemory v w (Some e) = WritesItsOwn v w e × FramesStay (gone_by v.state e) (memory_of v) (memory_of w)
+    × (gives_back e.call ≡ true → LooseStay (memory_of v) (memory_of w))
+LeavesMemory v w None = w ≡ v
 
 -- each event, one after the other, ended what `ends_in` says, and nothing else; memory stood for the state after each
 abbrev pub EndInOrder : List TowerEvent → View → View → Type 0

@@ -9,7 +9,7 @@ ghost use Rattle.std.specs.Prelude.{◌≡◌, ◌≢◌, ◌↔◌, ◌≤◌, 
 ghost use Rattle.process_table.specs.State.{open_with};
 ghost use Rattle.process_table.specs.Image.{StandsFor, image_of};
 ghost use Rattle.phys_memory.specs.Bytes.{frame_bytes};
-ghost use Rattle.tower_c.specs.Border.{EndInOrder, event_in, reply_in, state_after, is_carried_out, none_is_carried_out, replies_in, end_after, given, frames_in, directory_in, container_in, role_in, copy_in, walk_in, ended_in, ends_in, ended_numbers, version};
+ghost use Rattle.tower_c.specs.Border.{EndInOrder, LeavesMemory, event_in, reply_in, state_after, is_carried_out, none_is_carried_out, replies_in, end_after, given, frames_in, directory_in, container_in, role_in, copy_in, walk_in, ended_in, ends_in, ended_numbers, version};
 ghost use Rattle.c_handle.specs.Handle.{IsTower};
 ghost use Rattle.kernel_calls.specs.Translations.{Ends};
 
@@ -115,6 +115,7 @@ pub(crate) fn step(core: &mut Core, event: &TowerEvent) -> TowerReply
     ensures state { core.new.state ≡ state_after core.old.state (event_in event.now) }
     ensures stands { StandsFor (image_of core.new) core.new.state }
     ensures ends { Ends (ends_in core.old (event_in event.now)) core.old core.new }
+    ensures memory { LeavesMemory core.old core.new (event_in event.now) }
     ensures refused { is_carried_out core.old.state (event_in event.now) ≡ false → core.new ≡ core.old }
 {
     match event_from(event) {
@@ -144,6 +145,8 @@ pub extern "C" fn tower_step(
     ensures stands { IfSome tower.new.hold.core (λ core. StandsFor (image_of core) core.state) }
     ensures ends { IfSome tower.old.hold.core (λ core. IfSome tower.new.hold.core
         (λ next. Ends (ends_in core (event_in event.now)) core next)) }
+    ensures memory { IfSome tower.old.hold.core (λ core. IfSome tower.new.hold.core
+        (λ next. LeavesMemory core next (event_in event.now))) }
     ensures refused { IfSome tower.old.hold.core (λ core. is_carried_out core.state (event_in event.now) ≡ false
         → tower.new.hold.core ≡ Some core) }
     ensures none { result ≡ false → reply.new ≡ reply.old }
@@ -218,6 +221,7 @@ fn step_ending(core: &mut Core, event: &TowerEvent) -> (TowerReply, TowerEnded)
     ensures state { core.new.state ≡ state_after core.old.state (event_in event.now) }
     ensures stands { StandsFor (image_of core.new) core.new.state }
     ensures ends { Ends (ends_in core.old (event_in event.now)) core.old core.new }
+    ensures memory { LeavesMemory core.old core.new (event_in event.now) }
     ensures refused { is_carried_out core.old.state (event_in event.now) ≡ false → core.new ≡ core.old }
 {
     let ended = ended_on(core, event);
@@ -246,6 +250,8 @@ pub extern "C" fn tower_step_ending(
     ensures stands { IfSome tower.new.hold.core (λ core. StandsFor (image_of core) core.state) }
     ensures ends { IfSome tower.old.hold.core (λ core. IfSome tower.new.hold.core
         (λ next. Ends (ends_in core (event_in event.now)) core next)) }
+    ensures memory { IfSome tower.old.hold.core (λ core. IfSome tower.new.hold.core
+        (λ next. LeavesMemory core next (event_in event.now))) }
     ensures refused { IfSome tower.old.hold.core (λ core. is_carried_out core.state (event_in event.now) ≡ false
         → tower.new.hold.core ≡ Some core) }
     ensures none { result ≡ false → (reply.new ≡ reply.old) × (ended.new ≡ ended.old) }
