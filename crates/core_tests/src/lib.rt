@@ -35,3 +35,5 @@ mod transfer_tests;
 mod turn_tests;
 #[cfg(test)]
 mod walk_tests;
+#[cfg(test)]
+mod window_tests;
