@@ -3,7 +3,8 @@
  * told, the next event does not begin, and the others go on, by translations that may be stale.
  *
  * Two events give something with what they end: a store that fills a lazy page, and an accept of one. For these all
- * others stand still, so that nobody sees the new page before another's last use of the old one.
+ * others stand still, so that nobody sees the new page before another's last use of the old one. They stand still at an
+ * exit, too, since nobody walks from the directory of a process that has exited.
  *
  * Each access and each event of the core is one step, and the steps come one after another. An access is noted as it is
  * made, and an event as its window ends. A second core gets the notes: it has to answer all of them alike. */
@@ -159,7 +160,7 @@ static struct tower_reply carry_out(struct tower_event event) {
 /* Makes an event of a process, with the lock. */
 static struct tower_reply event_of(uint32_t pid, struct tower_event event) {
     event.pid = (uint8_t)pid;
-    bool stops = gives(&event) && wrong != WRONG_GIVE;
+    bool stops = (gives(&event) && wrong != WRONG_GIVE) || event.call == TOWER_EXIT;
     if (stops) {
         stop_others();
     }
@@ -184,8 +185,7 @@ static struct tower_reply call(struct tower_event event) {
 /* Returns whether the walks no longer give what an access used. */
 static bool is_stale(const struct access *it, uint32_t frame) {
     struct walk now = walk_of(memory, FRAMES, it->directory, it->address, it->is_store);
-    bool has_exited = ended.kind == TOWER_ENDS_SPACE && ended.pid == mine()->pid;
-    return has_exited || now.kind != WALK_FOUND || now.frame != frame;
+    return now.kind != WALK_FOUND || now.frame != frame;
 }
 
 /* Makes an access as one step, and notes it. Returns whether it completed. */
