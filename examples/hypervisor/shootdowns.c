@@ -1,9 +1,10 @@
 /* Shootdowns: up to four processes run on all processors at once, each on any of them, over one core. What an event
- * ended a processor invalidates when it takes its interrupt. Until all have, the event's window is open: the reply is not
- * told, the next event does not begin, and the others go on, by translations that may be stale.
+ * ended a processor invalidates when it takes its interrupt. Until all have, the event's window is open: the reply is
+ * not told, the next event does not begin, and the others go on, by translations that may be stale.
  *
  * Two events give something with what they end: a store that fills a lazy page, and an accept of one. For these all
- * others stand still, so that nobody sees the new page before another's last use of the old one.
+ * others stand still, so that nobody sees the new page before another's last use of the old one. They stand still at an
+ * exit, too, since nobody walks from the directory of a process that has exited.
  *
  * Each access and each event of the core is one step, and the steps come one after another. An access is noted as it is
  * made, and an event as its window ends. A second core gets the notes: it has to answer all of them alike. */
@@ -38,7 +39,7 @@ static struct tower_ended ended;
 static bool is_open;
 static uint32_t within, stale;
 
-/* A processor's own data: the process that it runs, and what it should have invalidated and has not (a wrong version). */
+/* A processor's own data: the process that it runs, and what it has not invalidated yet (a wrong version). */
 static struct runner {
     uint32_t pid, identifier, directory;
     struct tower_ended late;
@@ -71,7 +72,7 @@ static void invalidate_here(struct tower_ended what) {
     }
 }
 
-/* This processor takes its interrupt; when it returns from here, it has acknowledged. A wrong version invalidates later. */
+/* This processor takes its interrupt, and acknowledges when it returns. A wrong version invalidates later. */
 static void take_interrupt(void) {
     if (wrong == WRONG_ACKNOWLEDGE) {
         mine()->late = ended;
@@ -110,11 +111,12 @@ static bool gives(const struct tower_event *event) {
 
 static struct tower_reply carry_out(struct tower_event event);
 
-/* The core gives the frame that was freed to another process, and a processor may still keep it. */
+/* A wrong version: the next event begins. It may give the frame that was freed to another process. */
 static void give_early(const struct tower_event *event) {
-    uint32_t pid = random(LIVE);
-    if (event->call == TOWER_UNMAP && is_live[pid]) {
-        carry_out((struct tower_event){.pid = (uint8_t)pid, .call = TOWER_MAP, .flag = 1, .first = 0x60000 + random(8)});
+    uint32_t pid = random(LIVE), address = (0x60000 + random(8)) << 12;
+    if (event->call == TOWER_UNMAP && pid != event->pid && is_live[pid]) {
+        struct tower_event store = {.pid = (uint8_t)pid, .call = TOWER_STORE, .flag = 1, .first = address, .second = 7};
+        carry_out(store);
     }
 }
 
@@ -159,7 +161,7 @@ static struct tower_reply carry_out(struct tower_event event) {
 /* Makes an event of a process, with the lock. */
 static struct tower_reply event_of(uint32_t pid, struct tower_event event) {
     event.pid = (uint8_t)pid;
-    bool stops = gives(&event) && wrong != WRONG_GIVE;
+    bool stops = (gives(&event) && wrong != WRONG_GIVE) || event.call == TOWER_EXIT;
     if (stops) {
         stop_others();
     }
@@ -184,8 +186,7 @@ static struct tower_reply call(struct tower_event event) {
 /* Returns whether the walks no longer give what an access used. */
 static bool is_stale(const struct access *it, uint32_t frame) {
     struct walk now = walk_of(memory, FRAMES, it->directory, it->address, it->is_store);
-    bool has_exited = ended.kind == TOWER_ENDS_SPACE && ended.pid == mine()->pid;
-    return has_exited || now.kind != WALK_FOUND || now.frame != frame;
+    return now.kind != WALK_FOUND || now.frame != frame;
 }
 
 /* Makes an access as one step, and notes it. Returns whether it completed. */
@@ -405,7 +406,7 @@ void try_shootdowns(uint32_t turns, struct tower *tower) {
     compare_cores(core, &second);
     need(stale > 0 || processors() == 1, "an access is made by a stale translation");
     say("shootdowns: the second core agrees\n");
-    say("schedule: %u calls, %u windows; %u accesses, %u of them in a window, %u by a stale translation\n", calls, windows,
-        accesses, within, stale);
+    say("schedule: %u calls, %u windows; %u accesses, %u of them in a window, %u by a stale translation\n", calls,
+        windows, accesses, within, stale);
     tower_free(&second);
 }
