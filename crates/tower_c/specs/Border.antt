@@ -275,9 +275,8 @@ abbrev pub ends_in : View → Option Event → Ended
 ends_in core (Some event) = ended_by core event
 ends_in core None = end.Nothing
 
--- What these numbers leave of memory: what the event may not write stands as before, each way that it doesn't take leads
--- where it led, and one that only gives back leaves the bytes of pages and of free frames. Where they are no event, all
--- is as it was.
+-- What these numbers leave of memory. What the event may not write stands as before. Each way that it doesn't take leads
+-- where it led. An Unmap or an Exit leaves the bytes of pages and of free frames. Numbers that are no event leave all.
 abbrev pub LeavesMemory : View → View → Option Event → Type 0
 LeavesMemory v w (Some e) = WritesItsOwn v w e × FramesStay (gone_by v.state e) (memory_of v) (memory_of w)
     × (gives_back e.call ≡ true → LooseStay (memory_of v) (memory_of w))
