@@ -160,3 +160,11 @@ abbrev pub ShootdownsMakeEvents : Type 0
 ShootdownsMakeEvents = (v : View) (m : Moment) (keeps last : Processors) (events : List Event) (replies : List Reply)
     → IsCore v → AllAreRead v keeps → Steps (settled end.Nothing nobody v) keeps events replies m last
     → AreInOrder v events replies m last
+
+-- Take a store by what a processor keeps, made after an event that only takes away. It is answered as if made before the
+-- event, and the event as if carried out after it. Memory is a core's after both.
+abbrev pub StaleStoresComeFirst : Type 0
+StaleStoresComeFirst = (v w : View) (keeps : Processors) (i : ℕ) (e a : Event) (r q : Reply) (bytes : List ℕ) → IsCore v
+    → AllAreRead v keeps → Begins v e r w → only_takes e.call ≡ true → IsStale (keeps i) w a q bytes
+    → (q ≡ answer v.state a) × (r ≡ answer (next v.state a) e)
+    × IsCore (record w { bytes = bytes; state = next (next v.state a) e })
