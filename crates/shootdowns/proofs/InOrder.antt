@@ -34,11 +34,11 @@ use Rattle.kernel_calls.proofs.Leaving.{left_read}
 use Rattle.kernel_calls.proofs.MixedRuns.{among_read, read_with, serves_call, one}
 use Rattle.kernel_calls.proofs.Runs.{kept-next}
 use Rattle.kernel_calls.proofs.WalkedReplies.{answered, lives}
-use Rattle.shootdowns.specs.Windows.{only_takes, Moment, settled, under_way, IsStale, LeavesFree, Step, begun, loaded, stored, walked, marked, ordered, usual, refilled, forgotten, told, Steps, none, first, memory_in, state_of, Stands, ShootdownsMakeEvents}
+use Rattle.shootdowns.specs.Windows.{only_takes, Acknowledged, nobody, usable, Moment, acknowledged, ended_in, settled, under_way, IsStale, LeavesFree, Step, begun, loaded, stored, walked, marked, ordered, usual, refilled, forgotten, invalidated, told, Steps, none, first, memory_in, state_of, Stands, ShootdownsMakeEvents, StaleStoresComeFirst}
 use Rattle.shootdowns.proofs.Accesses.{frame_at, kept_answer, kept_next, kept_beside, kept_long}
 use Rattle.shootdowns.proofs.Alike.{Alike, with_state, FlagsGrow, flags_read, alike_same, alike_then, alike_filled, again}
 use Rattle.shootdowns.proofs.Filled.{fill, filled_state, get_filled, answer_filled, next_filled}
-use Rattle.shootdowns.proofs.Kept.{spared, reading, none_left, left_more, left_fewer}
+use Rattle.shootdowns.proofs.Kept.{none_left, nothing_read, left_all, left_more, left_fewer, left_done, all_told}
 use Rattle.shootdowns.proofs.Onward.{names_onward, tables_onward, full_onward}
 use Rattle.shootdowns.proofs.Refilled.{read_before}
 use Rattle.shootdowns.proofs.Rewritten.{is_fixed, rewritten, names_same, word_same, linked_same, read_same}
@@ -62,8 +62,8 @@ record Taken (v : View) (e : Event) (s : State) (w : View) (keeps : Processors) 
 
 -- what holds at each moment
 abbrev IsTaken : Moment → Processors → Type 0
-IsTaken (settled x w) keeps = Unit {0}
-IsTaken (under_way x e r s w) keeps = only_takes e.call ≡ true → (v : View) × Taken v e s w keeps
+IsTaken (settled x done w) keeps = Unit {0}
+IsTaken (under_way x done e r s w) keeps = only_takes e.call ≡ true → (v : View) × Taken v e s w keeps
 
 record Good (m : Moment) (keeps : Processors) : Type 0 where
   stands : Stands m keeps
@@ -107,18 +107,18 @@ load_leaves frames bytes (call.Fork quota) h = refl
 load_leaves frames bytes call.Exit h = refl
 load_leaves frames bytes call.Quota h = refl
 
-module _ (x : Ended) (e : Event) (r : Reply) (s : State) (w : View) (keeps : Processors) (takes : only_takes e.call ≡ true)
-    (good : Good (under_way x e r s w) keeps) (i : ℕ) where
+module _ (x : Ended) (done : Acknowledged) (e : Event) (r : Reply) (s : State) (w : View) (keeps : Processors) (takes : only_takes e.call ≡ true)
+    (good : Good (under_way x done e r s w) keeps) (i : ℕ) where
   abbrev v : View
   v = (good.taken takes).0
 
   abbrev t : Taken v e s w keeps
   t = (good.taken takes).1
 
-  one_loaded : (a : Event) (q : Reply) → IsLoaded (keeps i) w a q → IsOne (under_way x e r s w) (a ∷ []) (q ∷ []) (under_way x e r s w) keeps
+  one_loaded : (a : Event) (q : Reply) → IsLoaded (keeps i) w a q → IsOne (under_way x done e r s w) (a ∷ []) (q ∷ []) (under_way x done e r s w) keeps
   one_loaded a q l =
       let served = serves_call (with_state v s) (keeps i) a.pid l.frames a.call (t.read i) l.through in
-      is_event (under_way x e r s w) (under_way x e r s w) a q keeps
+      is_event (under_way x done e r s w) (under_way x done e r s w) a q keeps
       (l.found ∙ sym (kept_answer v t.before s t.alike t.well w.bytes l.frames a served) ∙ ap (λ (z : State). answer z a) (sym t.state))
       (t.state ∙ ap (λ b. filled_state (frame_at v) b s) (sym (load_leaves l.frames w.bytes a.call l.load))
       ∙ sym (kept_next v t.before s t.alike t.well w.bytes l.frames a served t.long) ∙ ap (λ (z : State). next z a) (sym t.state))
@@ -211,15 +211,15 @@ module _ (x : Ended) (e : Event) (r : Reply) (s : State) (w : View) (keeps : Pro
       long = long_now ∙ t.long;
     }
 
-    one_stored : IsOne (under_way x e r s w) (a ∷ []) (q ∷ []) (under_way x e r (next s a) later) keeps
+    one_stored : IsOne (under_way x done e r s w) (a ∷ []) (q ∷ []) (under_way x done e r (next s a) later) keeps
     one_stored =
-        is_event (under_way x e r s w) (under_way x e r (next s a) later) a q keeps
+        is_event (under_way x done e r s w) (under_way x done e r (next s a) later) a q keeps
         (l.found ∙ sym (kept_answer v t.before s t.alike t.well w.bytes l.frames a served) ∙ ap (λ (z : State). answer z a) (sym t.state))
         refl
         (record {
           stands = (
             core_now,
-            λ j. read_now (left_by x (keeps j)) (good.stands.1 j),
+            λ j. read_now (usable x done keeps j) (good.stands.1 j),
             refl,
             good.stands.3 ∙ sym (ap (λ (z : State). answer z e) state_now ∙ answer_filled (frame_at v) bytes s e takes),
           );
@@ -248,13 +248,13 @@ mark_leaves w core u k is f free =
     ∙ with_frame-other (frame_bytes w.bytes) k.directory f (with_word_in (frame_bytes w.bytes k.directory) (slot_number k.page) (walked_word k.walked (word_at w.bytes (word_place k.directory (slot_number k.page))))) apart
 
 -- what any such step leaves, where the order's state grows to another
-onward : (x : Ended) (e : Event) (r : Reply) (s t : State) (w u : View) (keeps : Processors) → only_takes e.call ≡ true → (v : View) → Taken v e s w keeps → IsCore w → IsCore u
+onward : (x : Ended) (done : Acknowledged) (e : Event) (r : Reply) (s t : State) (w u : View) (keeps : Processors) → only_takes e.call ≡ true → (v : View) → Taken v e s w keeps → IsCore w → IsCore u
     → w.state ≡ next s e → u.state ≡ next t e → u.directories ≡ w.directories → u.roles ≡ w.roles → Ends end.Nothing w u → LeavesFree w u → IsWellFormed t → t.book ≡ s.book → Grows s.spaces t.spaces
     → ((slot : Slot) → map.contains_key u.state.spaces slot ≡ map.contains_key w.state.spaces slot)
     → ((slot : Slot) (c d : Cell) → map.get s.spaces slot ≡ Some c → map.get t.spaces slot ≡ Some d → is_some (map.get w.state.spaces slot) ≡ false
     → ((b : Slot) (k : Cell) → is_some (map.get w.state.spaces b) ≡ true → map.get s.spaces b ≡ Some k → set.contains k.holders slot ≡ false) → d.bytes ≡ c.bytes)
     → Taken v e t u keeps
-onward x e r s t w u keeps takes v k core later state_w state_u dirs roles ends free well book grows keys beside = record {
+onward x done e r s t w u keeps takes v k core later state_w state_u dirs roles ends free well book grows keys beside = record {
   before = k.before;
   well = well;
   alike = alike;
@@ -288,52 +288,52 @@ onward x e r s t w u keeps takes v k core later state_w state_u dirs roles ends 
     full slot None is = is ∙ sym (ap (option_map (fill (frame_at v) u.bytes slot)) is)
     full slot (Some d) is = is ∙ ap (λ l. Some (with_bytes d l)) (bytes slot d is) ∙ sym (ap (option_map (fill (frame_at v) u.bytes slot)) is)
 
-one_walked : (x : Ended) (e : Event) (r : Reply) (s : State) (w u : View) (keeps : Processors) → only_takes e.call ≡ true → Good (under_way x e r s w) keeps
-    → (a : Event) (q : Reply) → IsWalked w a q u → LeavesFree w u → IsOne (under_way x e r s w) (a ∷ []) (q ∷ []) (under_way x e r (next s a) u) keeps
-one_walked x e r s w u keeps takes good a q k free =
+one_walked : (x : Ended) (done : Acknowledged) (e : Event) (r : Reply) (s : State) (w u : View) (keeps : Processors) → only_takes e.call ≡ true → Good (under_way x done e r s w) keeps
+    → (a : Event) (q : Reply) → IsWalked w a q u → LeavesFree w u → IsOne (under_way x done e r s w) (a ∷ []) (q ∷ []) (under_way x done e r (next s a) u) keeps
+one_walked x done e r s w u keeps takes good a q k free =
     let core = good.stands.0 in
     let state = good.stands.2 in
     let t = good.taken takes in
     let pages = pages_in s t.1.well e takes w core state a k.directory k.live k.finds in
-    let done = done_in s t.1.well e takes w core state a k.directory k.live k.finds in
+    let goes = done_in s t.1.well e takes w core state a k.directory k.live k.finds in
     let later = done_after s t.1.well e takes w core state a k.directory k.live k.finds in
     let mapped = mapped_before s e a.pid a.call pages in
-    let now : u.state ≡ next (next s a) e = k.left.state ∙ ap (λ (z : State). next z a) state ∙ turned s e a takes pages done later in
-    let grows = next_grows s a done mapped in
-    let book = next_book s a done mapped in
+    let now : u.state ≡ next (next s a) e = k.left.state ∙ ap (λ (z : State). next z a) state ∙ turned s e a takes pages goes later in
+    let grows = next_grows s a goes mapped in
+    let book = next_book s a goes mapped in
     let keys : (slot : Slot) → map.contains_key u.state.spaces slot ≡ map.contains_key w.state.spaces slot = λ slot.
     ap (λ (z : State). map.contains_key z.spaces slot) (k.left.state ∙ ap (λ (z : State). next z a) state)
     ∙ keys_of (next s e).spaces (next (next s e) a).spaces (next_grows (next s e) a later (mapped_after s e a.pid a.call (next s e) refl pages)) slot
     ∙ sym (ap (λ (z : State). map.contains_key z.spaces slot) state) in
-    is_event (under_way x e r s w) (under_way x e r (next s a) u) a q keeps
+    is_event (under_way x done e r s w) (under_way x done e r (next s a) u) a q keeps
     (k.found ∙ sym (answered w a k.directory core k.finds k.live) ∙ same_answer s t.1.well e takes w core state a k.directory k.live k.finds)
     refl
     (record {
       stands = (
         k.left.core,
-        λ j. stay_read w u k.left.ends (left_by x (keeps j)) (good.stands.1 j),
+        λ j. stay_read w u k.left.ends (usable x done keeps j) (good.stands.1 j),
         now,
         good.stands.3 ∙ sym (answer_alike s (next s a) e takes book grows),
       );
       taken = λ _. (
         t.0,
-        onward x e r s (next s a) w u keeps takes t.0 t.1 core k.left.core state now k.left.directories k.left.roles k.left.ends free (kept-next s a t.1.well).0 book grows keys
+        onward x done e r s (next s a) w u keeps takes t.0 t.1 core k.left.core state now k.left.directories k.left.roles k.left.ends free (kept-next s a t.1.well).0 book grows keys
             (bytes_beside s t.1.well e takes w core state a k.directory k.live k.finds),
       );
     })
 
-one_marked : (x : Ended) (e : Event) (r : Reply) (s : State) (w u : View) (keeps : Processors) → only_takes e.call ≡ true → Good (under_way x e r s w) keeps
-    → IsMarked w u → IsOne (under_way x e r s w) [] [] (under_way x e r s u) keeps
-one_marked x e r s w u keeps takes good k =
+one_marked : (x : Ended) (done : Acknowledged) (e : Event) (r : Reply) (s : State) (w u : View) (keeps : Processors) → only_takes e.call ≡ true → Good (under_way x done e r s w) keeps
+    → IsMarked w u → IsOne (under_way x done e r s w) [] [] (under_way x done e r s u) keeps
+one_marked x done e r s w u keeps takes good k =
     let core = good.stands.0 in
     let t = good.taken takes in
     let left = k.left (lives w core k.pid k.directory k.live) in
-    is_none (under_way x e r s w) (under_way x e r s u) keeps refl
+    is_none (under_way x done e r s w) (under_way x done e r s u) keeps refl
     (record {
-      stands = (left.core, λ j. stay_read w u left.ends (left_by x (keeps j)) (good.stands.1 j), left.state ∙ good.stands.2, good.stands.3);
+      stands = (left.core, λ j. stay_read w u left.ends (usable x done keeps j) (good.stands.1 j), left.state ∙ good.stands.2, good.stands.3);
       taken = λ _. (
         t.0,
-        onward x e r s s w u keeps takes t.0 t.1 core left.core good.stands.2 (left.state ∙ good.stands.2) left.directories left.roles left.ends (mark_leaves w core u k left.bytes) t.1.well refl (grows_same s.spaces)
+        onward x done e r s s w u keeps takes t.0 t.1 core left.core good.stands.2 (left.state ∙ good.stands.2) left.directories left.roles left.ends (mark_leaves w core u k left.bytes) t.1.well refl (grows_same s.spaces)
             (λ slot. ap (λ (z : State). map.contains_key z.spaces slot) left.state)
             (λ slot c d at now gone out. (let e : Some d ≡ Some c = sym now ∙ at in let q : d ≡ c = cc in ap (λ (z : Cell). z.bytes) q)),
       );
@@ -341,12 +341,12 @@ one_marked x e r s w u keeps takes good k =
 
 -- a processor keeps one more
 more_kept : (m : Moment) (keeps : Processors) (i : ℕ) (k : Kept) → IsRead (memory_in m) k → Good m keeps → Good m (with_kept keeps i (k ∷ keeps i))
-more_kept (settled x w) keeps i k read good = record {
-  stands = (good.stands.0, left_more x w keeps i k read good.stands.1);
+more_kept (settled x done w) keeps i k read good = record {
+  stands = (good.stands.0, left_more x done w keeps i k read good.stands.1);
   taken = tt;
 }
-more_kept (under_way x e r s w) keeps i k read good = record {
-  stands = (good.stands.0, left_more x w keeps i k read good.stands.1, good.stands.2, good.stands.3);
+more_kept (under_way x done e r s w) keeps i k read good = record {
+  stands = (good.stands.0, left_more x done w keeps i k read good.stands.1, good.stands.2, good.stands.3);
   taken = λ takes.
       let t = good.taken takes in (
         t.0,
@@ -366,15 +366,45 @@ more_kept (under_way x e r s w) keeps i k read good = record {
       );
 }
 
+-- a processor invalidates
+same_state : (m : Moment) (i : ℕ) → state_of (acknowledged m i) ≡ state_of m
+same_state (settled x done w) i = refl
+same_state (under_way x done e r s w) i = refl
+
+done_kept : (m : Moment) (keeps : Processors) (i : ℕ) → Good m keeps → Good (acknowledged m i) (with_kept keeps i (left_by (ended_in m) (keeps i)))
+done_kept (settled x done w) keeps i good = record {
+  stands = (good.stands.0, left_done x done w keeps i good.stands.1);
+  taken = tt;
+}
+done_kept (under_way x done e r s w) keeps i good = record {
+  stands = (good.stands.0, left_done x done w keeps i good.stands.1, good.stands.2, good.stands.3);
+  taken = λ takes.
+      let t = good.taken takes in (
+        t.0,
+        record {
+          before = t.1.before;
+          well = t.1.well;
+          alike = t.1.alike;
+          read = read_with (with_state t.0 s) keeps i (left_by x (keeps i)) t.1.read (left_all x (with_state t.0 s) (keeps i) (t.1.read i));
+          state = t.1.state;
+          names = t.1.names;
+          homes = t.1.homes;
+          tables = t.1.tables;
+          pages = t.1.pages;
+          long = t.1.long;
+        },
+      );
+}
+
 -- ---- One step
 
 fewer_kept : (m : Moment) (keeps : Processors) (i : ℕ) (left : List Kept) → AreAmong left (keeps i) → Good m keeps → Good m (with_kept keeps i left)
-fewer_kept (settled x w) keeps i left among good = record {
-  stands = (good.stands.0, left_fewer x w keeps i left among good.stands.1);
+fewer_kept (settled x done w) keeps i left among good = record {
+  stands = (good.stands.0, left_fewer x done w keeps i left among good.stands.1);
   taken = tt;
 }
-fewer_kept (under_way x e r s w) keeps i left among good = record {
-  stands = (good.stands.0, left_fewer x w keeps i left among good.stands.1, good.stands.2, good.stands.3);
+fewer_kept (under_way x done e r s w) keeps i left among good = record {
+  stands = (good.stands.0, left_fewer x done w keeps i left among good.stands.1, good.stands.2, good.stands.3);
   taken = λ takes.
       let t = good.taken takes in (
         t.0,
@@ -395,9 +425,9 @@ fewer_kept (under_way x e r s w) keeps i left among good = record {
 
 step : {m n : Moment} {keeps between : Processors} {es : List Event} {rs : List Reply} → Step m keeps es rs n between → Good m keeps
     → IsOne m es rs n between
-step (begun {v = v} {w = w} {keeps = keeps} {e = e} {r = r} b) good =
-    let read : AllAreRead v keeps = λ i. subst (AreRead v) (none_left (keeps i)) (good.stands.1 i) in
-    is_none (settled end.Nothing v) (under_way (ended_by v e) e r v.state w) keeps refl
+step (begun {v = v} {w = w} {done = done} {keeps = keeps} {e = e} {r = r} b) good =
+    let read : AllAreRead v keeps = λ i. nothing_read v (keeps i) (done i) (good.stands.1 i) in
+    is_none (settled end.Nothing done v) (under_way (ended_by v e) nobody e r v.state w) keeps refl
     (record {
       stands = (b.carried.core, λ i. left_read (ended_by v e) v w (keeps i) b.carried.ends (read i), b.carried.state, b.carried.reply);
       taken = λ takes.
@@ -417,27 +447,24 @@ step (begun {v = v} {w = w} {keeps = keeps} {e = e} {r = r} b) good =
             },
           );
     })
-step (loaded {x = x} {w = w} {s = s} {keeps = keeps} {e = e} {a = a} {r = r} {q = q} i takes l) good = one_loaded x e r s w keeps takes good i a q l
-step (stored {x = x} {w = w} {s = s} {keeps = keeps} {e = e} {a = a} {r = r} {q = q} {bytes = bytes} i takes l) good =
-    one_stored x e r s w keeps takes good i a q bytes l
-step (walked {x = x} {w = w} {u = u} {s = s} {keeps = keeps} {e = e} {a = a} {r = r} {q = q} takes k free) good = one_walked x e r s w u keeps takes good a q k free
-step (marked {x = x} {w = w} {u = u} {s = s} {keeps = keeps} {e = e} {r = r} takes k) good = one_marked x e r s w u keeps takes good k
-step (ordered {x = x} {w = w} {s = s} {keeps = keeps} {e = e} {r = r}) good =
-    is_event (under_way x e r s w) (settled x w) e r keeps good.stands.3 good.stands.2
+step (loaded {x = x} {done = done} {w = w} {s = s} {keeps = keeps} {e = e} {a = a} {r = r} {q = q} i takes l) good = one_loaded x done e r s w keeps takes good i a q l
+step (stored {x = x} {done = done} {w = w} {s = s} {keeps = keeps} {e = e} {a = a} {r = r} {q = q} {bytes = bytes} i takes l) good =
+    one_stored x done e r s w keeps takes good i a q bytes l
+step (walked {x = x} {done = done} {w = w} {u = u} {s = s} {keeps = keeps} {e = e} {a = a} {r = r} {q = q} takes k free) good = one_walked x done e r s w u keeps takes good a q k free
+step (marked {x = x} {done = done} {w = w} {u = u} {s = s} {keeps = keeps} {e = e} {r = r} takes k) good = one_marked x done e r s w u keeps takes good k
+step (ordered {x = x} {done = done} {w = w} {s = s} {keeps = keeps} {e = e} {r = r}) good =
+    is_event (under_way x done e r s w) (settled x done w) e r keeps good.stands.3 good.stands.2
     (record { stands = (good.stands.0, good.stands.1); taken = tt })
-step (usual {x = x} {v = v} {w = w} {keeps = keeps} {es = es} {rs = rs} own) good =
+step (usual {x = x} {done = done} {v = v} {w = w} {keeps = keeps} {es = es} {rs = rs} own) good =
     let now = one own good.stands.0 good.stands.1 in
     record { replies = now.replies; state = now.state; good = record { stands = (now.core, now.kept); taken = tt } }
 step (refilled {m = m} {keeps = keeps} i k read) good = is_none m m (with_kept keeps i (k ∷ keeps i)) refl (more_kept m keeps i k read good)
 step (forgotten {m = m} {keeps = keeps} i left among) good = is_none m m (with_kept keeps i left) refl (fewer_kept m keeps i left among good)
-step (told {x = x} {v = v} {keeps = keeps} not) good =
-    is_none (settled x v) (settled end.Nothing v) keeps refl
+step (invalidated {m = m} {keeps = keeps} i) good = is_none m (acknowledged m i) (with_kept keeps i (left_by (ended_in m) (keeps i))) (same_state m i) (done_kept m keeps i good)
+step (told {x = x} {done = done} {v = v} {keeps = keeps} all) good =
+    is_none (settled x done v) (settled end.Nothing nobody v) keeps refl
     (record {
-      stands = (
-        good.stands.0,
-        λ i. subst (AreRead v) (sym (none_left (keeps i)))
-            (reading v (keeps i) (λ n k there. spared x v (keeps i) (good.stands.1 i) n k there (not i n k there))),
-      );
+      stands = (good.stands.0, λ i. subst (AreRead v) (sym (none_left (keeps i))) (all_told x (done i) v (keeps i) (all i) (good.stands.1 i)));
       taken = tt;
     })
 
@@ -465,3 +492,13 @@ pub shootdowns_make_events : ShootdownsMakeEvents
 shootdowns_make_events v m keeps last events replies core all steps =
     let came = all_steps steps (record { stands = (core, λ i. subst (AreRead v) (sym (none_left (keeps i))) (all i)); taken = tt }) in
     record { replies = came.replies; state = came.state; stands = came.stands }
+
+pub stale_stores_come_first : StaleStoresComeFirst
+stale_stores_come_first v w keeps i e a r q bytes core all b takes l =
+    let came = shootdowns_make_events v
+    (settled (ended_by v e) nobody (record w { bytes = bytes; state = next (next v.state a) e })) keeps keeps (a ∷ e ∷ []) (q ∷ r ∷ []) core all
+    (first (begun b) (first (stored i takes l) (first ordered none))) in
+    let told : (q ∷ r ∷ []) ≡ (answer v.state a ∷ answer (next v.state a) e ∷ []) = came.replies in
+    let one : q ≡ answer v.state a = cc in
+    let two : r ≡ answer (next v.state a) e = cc in
+    (one, two, came.stands.0)

@@ -5,7 +5,7 @@ use Rattle.address_space.specs.Stays.{FramesStay, LooseStay}
 use Rattle.process_table.specs.Image.{memory_of}
 use Rattle.kernel_calls.specs.Gone.{gone_by, gives_back}
 use Rattle.kernel_calls.specs.Machine.{answer, next}
-use Rattle.kernel_calls.specs.Processors.{IsCore, Processors, all_left_by}
+use Rattle.kernel_calls.specs.Processors.{IsCore, Processors}
 use Rattle.kernel_calls.specs.Translations.{Ends, ended_by}
 use Rattle.kernel_calls.specs.Turns.{AreTurns, taken, told_in}
 use Rattle.kernel_calls.specs.declared.calls.Event.{Event}
@@ -15,19 +15,19 @@ use Rattle.kernel_calls.specs.declared.translations.Ended.TheVariants as end
 use Rattle.kernel_calls.specs.declared.turns.Turn.{Turn}
 use Rattle.kernel_calls.specs.declared.turns.Turn.TheVariants as turn
 use Rattle.shootdowns.specs.Played.{all_walk, IsWindow}
-use Rattle.shootdowns.specs.Windows.{settled, begun, ordered, usual, Steps, none, first}
+use Rattle.shootdowns.specs.Windows.{nobody, usable, settled, begun, ordered, usual, Steps, none, first}
 
 pub walks_steps : (turns : List Turn) (told : List (Option Reply)) (ended : List Ended) (x : Ended) (v w : View) → AreTurns turns told ended v w
-    → all_walk turns ≡ true → (keeps : Processors) → Steps (settled x v) keeps (taken turns told) (told_in told) (settled x w) keeps
-walks_steps [] [] [] x v w are all keeps = subst (λ (u : View). Steps (settled x v) keeps [] [] (settled x u) keeps) are none
+    → all_walk turns ≡ true → (keeps : Processors) → Steps (settled x nobody v) keeps (taken turns told) (told_in told) (settled x nobody w) keeps
+walks_steps [] [] [] x v w are all keeps = subst (λ (u : View). Steps (settled x nobody v) keeps [] [] (settled x nobody u) keeps) are none
 walks_steps [] [] (y ∷ ended) x v w are all keeps = absurd are
 walks_steps [] (r ∷ told) ended x v w are all keeps = absurd are
 walks_steps (turn.Walk e ∷ turns) [] ended x v w are all keeps = absurd are
 walks_steps (turn.Walk e ∷ turns) (r ∷ told) [] x v w are all keeps = absurd are
 walks_steps (turn.Walk e ∷ turns) (Some r ∷ told) (y ∷ ended) x v w are all keeps =
-    first (usual (are.1.1 (all_left_by x keeps))) (walks_steps turns told ended x are.0 w are.2 all keeps)
+    first (usual (are.1.1 (usable x nobody keeps))) (walks_steps turns told ended x are.0 w are.2 all keeps)
 walks_steps (turn.Walk e ∷ turns) (None ∷ told) (y ∷ ended) x v w are all keeps =
-    subst (λ (u : View). Steps (settled x u) keeps (taken turns told) (told_in told) (settled x w) keeps) are.1.1.1
+    subst (λ (u : View). Steps (settled x nobody u) keeps (taken turns told) (told_in told) (settled x nobody w) keeps) are.1.1.1
     (walks_steps turns told ended x are.0 w are.2 all keeps)
 walks_steps (turn.Call e ∷ turns) told ended x v w are all keeps = cc
 walks_steps (turn.Store e ∷ turns) told ended x v w are all keeps = cc
@@ -40,7 +40,7 @@ pub window_steps : (v u w : View) (e : Event) (turns : List Turn) (r : Reply) (x
 window_steps v u w e turns r x told ended is reply state ends core stay loose are = record {
   ended = is;
   steps = λ all keeps.
-      subst (λ (y : Ended). Steps (settled end.Nothing v) keeps (e ∷ taken turns told) (r ∷ told_in told) (settled y w) keeps) (sym is)
+      subst (λ (y : Ended). Steps (settled end.Nothing nobody v) keeps (e ∷ taken turns told) (r ∷ told_in told) (settled y nobody w) keeps) (sym is)
       (first (begun (record {
         carried = record { reply = reply; state = state; ends = subst (λ (y : Ended). Ends y v u) is ends; core = core };
         stay = stay;

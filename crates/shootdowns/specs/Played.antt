@@ -10,7 +10,7 @@ use Rattle.kernel_calls.specs.declared.translations.Ended.{Ended}
 use Rattle.kernel_calls.specs.declared.translations.Ended.TheVariants as end
 use Rattle.kernel_calls.specs.declared.turns.Turn.{Turn}
 use Rattle.kernel_calls.specs.declared.turns.Turn.TheVariants as turn
-use Rattle.shootdowns.specs.Windows.{settled, Steps}
+use Rattle.shootdowns.specs.Windows.{nobody, settled, Steps}
 
 -- each turn is an access by a walk
 abbrev pub all_walk : List Turn → Bool
@@ -25,4 +25,4 @@ all_walk (turn.Mark pid page walked ∷ turns) = false
 pub record IsWindow (v : View) (e : Event) (turns : List Turn) (r : Reply) (x : Ended) (told : List (Option Reply)) (w : View) : Type 0 where
   pub ended : x ≡ ended_by v e
   pub steps : all_walk turns ≡ true → (keeps : Processors)
-      → Steps (settled end.Nothing v) keeps (e ∷ taken turns told) (r ∷ told_in told) (settled x w) keeps
+      → Steps (settled end.Nothing nobody v) keeps (e ∷ taken turns told) (r ∷ told_in told) (settled x nobody w) keeps

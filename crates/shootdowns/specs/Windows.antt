@@ -1,6 +1,6 @@
 -- Shootdowns as they happen: the core carries out an event, and each processor uses what it keeps until it invalidates
 -- what the event ended. Which events such steps are, and in which order.
-use Rattle.std.specs.Prelude.{◌≡◌, ℕ, Bool, true, false, not, List, [], ◌∷◌, ◌++◌, Some, slice_get}
+use Rattle.std.specs.Prelude.{◌≡◌, ◌⊎◌, ℕ, ◌==◌, Bool, true, false, not, if◌then◌else◌, List, [], ◌∷◌, ◌++◌, Some, slice_get}
 use Rattle.phys_memory.specs.Bytes.{frame_bytes}
 use Rattle.alloc_table.specs.declared.Role.TheVariants.{Free}
 use Rattle.address_space.specs.Stays.{FramesStay, LooseStay}
@@ -11,8 +11,8 @@ use Rattle.kernel_calls.specs.Gone.{gone_by, gives_back}
 use Rattle.kernel_calls.specs.Kept.{reply_kept, bytes_kept, IsStore}
 use Rattle.kernel_calls.specs.Machine.{answer, answers, next, end_of}
 use Rattle.kernel_calls.specs.Processors as base
-use Rattle.kernel_calls.specs.Processors.{IsCore, Processors, with_kept, all_left_by, AllAreRead, AreAmong, LetCall, IsCarried, IsWalked, IsLoaded, IsMarked}
-use Rattle.kernel_calls.specs.Translations.{Kept, IsRead, ended_by, is_invalidated}
+use Rattle.kernel_calls.specs.Processors.{IsCore, Processors, with_kept, AllAreRead, AreAmong, LetCall, IsCarried, IsWalked, IsLoaded, IsMarked}
+use Rattle.kernel_calls.specs.Translations.{Kept, IsRead, ended_by, is_invalidated, left_by}
 use Rattle.kernel_calls.specs.declared.calls.Call.{Call}
 use Rattle.kernel_calls.specs.declared.calls.Call.TheVariants as call
 use Rattle.kernel_calls.specs.declared.calls.Event.{Event}
@@ -38,17 +38,40 @@ pub record Begins (v : View) (e : Event) (r : Reply) (w : View) : Type 0 where
 
 -- ---- Moments
 
+-- which processors have invalidated what the last event ended
+abbrev pub Acknowledged : Type 0
+Acknowledged = ℕ → Bool
+
+abbrev pub nobody : Acknowledged
+nobody i = false
+
+abbrev pub with_one : Acknowledged → ℕ → Acknowledged
+with_one done i j = if j == i then true else done j
+
+-- what each processor may use: all that it keeps, once it has invalidated, and until then what wasn't ended
+abbrev pub usable : Ended → Acknowledged → Processors → Processors
+usable x done keeps i = if done i then keeps i else left_by x (keeps i)
+
 -- what is under way: the memory, with the state of all events that the core carried out
 pub data Moment : Type 0 where
-  -- all of them are in the order. Processors may still keep what these translations say, and don't use it.
-  settled : Ended → View → Moment
+  -- all of them are in the order; what the last one ended isn't used
+  settled : Ended → Acknowledged → View → Moment
   -- all but the last, which ends these and is answered so, are in the order, whose state this is
-  under_way : Ended → Event → Reply → State → View → Moment
+  under_way : Ended → Acknowledged → Event → Reply → State → View → Moment
 
 -- the memory then
 abbrev pub memory_in : Moment → View
-memory_in (settled x w) = w
-memory_in (under_way x e r s w) = w
+memory_in (settled x done w) = w
+memory_in (under_way x done e r s w) = w
+
+-- what the last event ended, and a processor that has invalidated it
+abbrev pub ended_in : Moment → Ended
+ended_in (settled x done w) = x
+ended_in (under_way x done e r s w) = x
+
+abbrev pub acknowledged : Moment → ℕ → Moment
+acknowledged (settled x done w) i = settled x (with_one done i) w
+acknowledged (under_way x done e r s w) i = under_way x (with_one done i) e r s w
 
 -- a processor stores by what it keeps, and makes memory this; that it is a core's isn't assumed
 pub record IsStale (kept : List Kept) (w : View) (a : Event) (q : Reply) (bytes : List ℕ) : Type 0 where
@@ -57,6 +80,10 @@ pub record IsStale (kept : List Kept) (w : View) (a : Event) (q : Reply) (bytes 
   pub through : LetCall kept a.pid frames a.call
   pub found : q ≡ reply_kept frames w.bytes a.call
   pub left : bytes ≡ bytes_kept frames w.bytes a.call
+
+-- nothing of these is kept
+abbrev pub KeepsNone : Ended → List Kept → Type 0
+KeepsNone x kept = (n : ℕ) (k : Kept) → slice_get kept n ≡ Some k → is_invalidated x k ≡ false
 
 -- no byte of a free frame is written
 abbrev pub LeavesFree : View → View → Type 0
@@ -67,37 +94,39 @@ LeavesFree v w = (f : ℕ) → slice_get v.roles f ≡ Some Free → frame_bytes
 -- One step, with the events that come next in the order, and their replies or the values read. A window begins when
 -- the core carries out an event, which comes in the order later. Until then, and if it only takes away, each processor
 -- makes accesses by all that it keeps or by its walk, and marks directories' words. Then the event comes in
--- the order, and processors do what they do outside windows, except by what it ended. The window ends when no processor
--- keeps that: then the event is replied to, and the next may begin. At each moment a processor may begin to keep what a
--- walk reads then, or forget some of what it keeps, as one does that invalidates.
+-- the order, and processors do what they do outside windows, except that none uses what it ended until it has
+-- invalidated that. The window ends when all have, or keep nothing of it: then the event is replied to, and the next may
+-- begin. At each moment a processor may begin to keep what a walk reads then, or forget some of what it keeps.
 pub data Step : Moment → Processors → List Event → List Reply → Moment → Processors → Type 0 where
-  begun : {v w : View} {keeps : Processors} {e : Event} {r : Reply} → Begins v e r w
-      → Step (settled end.Nothing v) keeps [] [] (under_way (ended_by v e) e r v.state w) keeps
-  loaded : {x : Ended} {w : View} {s : State} {keeps : Processors} {e a : Event} {r q : Reply} (i : ℕ)
+  begun : {v w : View} {done : Acknowledged} {keeps : Processors} {e : Event} {r : Reply} → Begins v e r w
+      → Step (settled end.Nothing done v) keeps [] [] (under_way (ended_by v e) nobody e r v.state w) keeps
+  loaded : {x : Ended} {done : Acknowledged} {w : View} {s : State} {keeps : Processors} {e a : Event} {r q : Reply} (i : ℕ)
       → only_takes e.call ≡ true → IsLoaded (keeps i) w a q
-      → Step (under_way x e r s w) keeps (a ∷ []) (q ∷ []) (under_way x e r s w) keeps
-  stored : {x : Ended} {w : View} {s : State} {keeps : Processors} {e a : Event} {r q : Reply} {bytes : List ℕ} (i : ℕ)
+      → Step (under_way x done e r s w) keeps (a ∷ []) (q ∷ []) (under_way x done e r s w) keeps
+  stored : {x : Ended} {done : Acknowledged} {w : View} {s : State} {keeps : Processors} {e a : Event} {r q : Reply} {bytes : List ℕ} (i : ℕ)
       → only_takes e.call ≡ true → IsStale (keeps i) w a q bytes
-      → Step (under_way x e r s w) keeps (a ∷ []) (q ∷ [])
-      (under_way x e r (next s a) (record w { bytes = bytes; state = next (next s a) e })) keeps
-  walked : {x : Ended} {w u : View} {s : State} {keeps : Processors} {e a : Event} {r q : Reply}
+      → Step (under_way x done e r s w) keeps (a ∷ []) (q ∷ [])
+      (under_way x done e r (next s a) (record w { bytes = bytes; state = next (next s a) e })) keeps
+  walked : {x : Ended} {done : Acknowledged} {w u : View} {s : State} {keeps : Processors} {e a : Event} {r q : Reply}
       → only_takes e.call ≡ true → IsWalked w a q u → LeavesFree w u
-      → Step (under_way x e r s w) keeps (a ∷ []) (q ∷ []) (under_way x e r (next s a) u) keeps
-  marked : {x : Ended} {w u : View} {s : State} {keeps : Processors} {e : Event} {r : Reply}
+      → Step (under_way x done e r s w) keeps (a ∷ []) (q ∷ []) (under_way x done e r (next s a) u) keeps
+  marked : {x : Ended} {done : Acknowledged} {w u : View} {s : State} {keeps : Processors} {e : Event} {r : Reply}
       → only_takes e.call ≡ true → IsMarked w u
-      → Step (under_way x e r s w) keeps [] [] (under_way x e r s u) keeps
-  ordered : {x : Ended} {w : View} {s : State} {keeps : Processors} {e : Event} {r : Reply}
-      → Step (under_way x e r s w) keeps (e ∷ []) (r ∷ []) (settled x w) keeps
-  usual : {x : Ended} {v w : View} {keeps : Processors} {es : List Event} {rs : List Reply}
-      → base.Step v (all_left_by x keeps) es rs w (all_left_by x keeps)
-      → Step (settled x v) keeps es rs (settled x w) keeps
+      → Step (under_way x done e r s w) keeps [] [] (under_way x done e r s u) keeps
+  ordered : {x : Ended} {done : Acknowledged} {w : View} {s : State} {keeps : Processors} {e : Event} {r : Reply}
+      → Step (under_way x done e r s w) keeps (e ∷ []) (r ∷ []) (settled x done w) keeps
+  usual : {x : Ended} {done : Acknowledged} {v w : View} {keeps : Processors} {es : List Event} {rs : List Reply}
+      → base.Step v (usable x done keeps) es rs w (usable x done keeps)
+      → Step (settled x done v) keeps es rs (settled x done w) keeps
   refilled : {m : Moment} {keeps : Processors} (i : ℕ) (k : Kept) → IsRead (memory_in m) k
       → Step m keeps [] [] m (with_kept keeps i (k ∷ keeps i))
   forgotten : {m : Moment} {keeps : Processors} (i : ℕ) (left : List Kept) → AreAmong left (keeps i)
       → Step m keeps [] [] m (with_kept keeps i left)
-  told : {x : Ended} {v : View} {keeps : Processors}
-      → ((i n : ℕ) (k : Kept) → slice_get (keeps i) n ≡ Some k → is_invalidated x k ≡ false)
-      → Step (settled x v) keeps [] [] (settled end.Nothing v) keeps
+  invalidated : {m : Moment} {keeps : Processors} (i : ℕ)
+      → Step m keeps [] [] (acknowledged m i) (with_kept keeps i (left_by (ended_in m) (keeps i)))
+  told : {x : Ended} {done : Acknowledged} {v : View} {keeps : Processors}
+      → ((i : ℕ) → (done i ≡ true) ⊎ KeepsNone x (keeps i))
+      → Step (settled x done v) keeps [] [] (settled end.Nothing nobody v) keeps
 
 -- steps, one after another
 pub data Steps : Moment → Processors → List Event → List Reply → Moment → Processors → Type 0 where
@@ -110,15 +139,15 @@ pub data Steps : Moment → Processors → List Event → List Reply → Moment 
 
 -- the state of the order
 abbrev pub state_of : Moment → State
-state_of (settled x w) = w.state
-state_of (under_way x e r s w) = s
+state_of (settled x done w) = w.state
+state_of (under_way x done e r s w) = s
 
--- memory is a core's, and walks read all that any processor keeps and isn't ended. Of an event under way, the state and
+-- memory is a core's, and walks read all that any processor may use. Of an event under way, the state and
 -- the reply are what it has where it comes next.
 abbrev pub Stands : Moment → Processors → Type 0
-Stands (settled x w) keeps = IsCore w × AllAreRead w (all_left_by x keeps)
-Stands (under_way x e r s w) keeps =
-    IsCore w × AllAreRead w (all_left_by x keeps) × (w.state ≡ next s e) × (r ≡ answer s e)
+Stands (settled x done w) keeps = IsCore w × AllAreRead w (usable x done keeps)
+Stands (under_way x done e r s w) keeps =
+    IsCore w × AllAreRead w (usable x done keeps) × (w.state ≡ next s e) × (r ≡ answer s e)
 
 -- replies and values read are the answers to the events in the order, and so it stands at each moment
 pub record AreInOrder (v : View) (events : List Event) (told : List Reply) (m : Moment) (last : Processors) : Type 0 where
@@ -129,5 +158,13 @@ pub record AreInOrder (v : View) (events : List Event) (told : List Reply) (m : 
 -- so it is at the end of all steps from a core, where the walks read all that is kept
 abbrev pub ShootdownsMakeEvents : Type 0
 ShootdownsMakeEvents = (v : View) (m : Moment) (keeps last : Processors) (events : List Event) (replies : List Reply)
-    → IsCore v → AllAreRead v keeps → Steps (settled end.Nothing v) keeps events replies m last
+    → IsCore v → AllAreRead v keeps → Steps (settled end.Nothing nobody v) keeps events replies m last
     → AreInOrder v events replies m last
+
+-- Take a store by what a processor keeps, made after an event that only takes away. It is answered as if made before the
+-- event, and the event as if carried out after it. Memory is a core's after both.
+abbrev pub StaleStoresComeFirst : Type 0
+StaleStoresComeFirst = (v w : View) (keeps : Processors) (i : ℕ) (e a : Event) (r q : Reply) (bytes : List ℕ) → IsCore v
+    → AllAreRead v keeps → Begins v e r w → only_takes e.call ≡ true → IsStale (keeps i) w a q bytes
+    → (q ≡ answer v.state a) × (r ≡ answer (next v.state a) e)
+    × IsCore (record w { bytes = bytes; state = next (next v.state a) e })
