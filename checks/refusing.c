@@ -1,26 +1,32 @@
-/* A library to preload: it refuses the allocation of the number in REFUSE, counted from 1, and as it is unloaded writes
- * how many there were into the file in COUNTED. checks/fail_alloc builds it. */
+/* A library to preload: it refuses the allocation of the number in REFUSE, counted from 1, and counts them in the first
+ * eight bytes of the file in COUNTED, which is mapped. checks/fail_alloc builds it. */
 #define _GNU_SOURCE
 #include <dlfcn.h>
+#include <fcntl.h>
 #include <stdatomic.h>
-#include <stdio.h>
 #include <stdlib.h>
+#include <sys/mman.h>
+#include <unistd.h>
 
-static _Atomic long made;
+static _Atomic long before;
+static _Atomic long *made = &before;
 static long refused;
 
 __attribute__((constructor)) static void begin(void) {
-    const char *number = getenv("REFUSE");
+    const char *number = getenv("REFUSE"), *file = getenv("COUNTED");
+    int opened = file ? open(file, O_RDWR) : -1;
+    void *counted = mmap(NULL, sizeof *made, PROT_READ | PROT_WRITE, MAP_SHARED, opened, 0);
+    if (counted == MAP_FAILED) {
+        _exit(99);
+    }
+    close(opened);
     refused = number ? atol(number) : 0;
-    made = 0;
+    made = counted;
 }
 
-__attribute__((destructor)) static void end(void) {
-    const char *file = getenv("COUNTED");
-    FILE *to = file ? fopen(file, "w") : NULL;
-    if (to) {
-        fprintf(to, "%ld\n", made);
-    }
+/* Whether this is the allocation to refuse. Those before `begin` are the loader's. */
+static int is_refused(void) {
+    return ++*made == refused && made != &before;
 }
 
 void *malloc(size_t size) {
@@ -28,7 +34,7 @@ void *malloc(size_t size) {
     if (!next) {
         next = (void *(*)(size_t))dlsym(RTLD_NEXT, "malloc");
     }
-    return ++made == refused ? NULL : next(size);
+    return is_refused() ? NULL : next(size);
 }
 
 void *realloc(void *block, size_t size) {
@@ -36,5 +42,5 @@ void *realloc(void *block, size_t size) {
     if (!next) {
         next = (void *(*)(void *, size_t))dlsym(RTLD_NEXT, "realloc");
     }
-    return ++made == refused ? NULL : next(block, size);
+    return is_refused() ? NULL : next(block, size);
 }
