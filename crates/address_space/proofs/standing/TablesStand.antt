@@ -77,6 +77,7 @@ named f (Some word) up kernel = (there (is_lazy word) refl, λ h. eq-eqb (frame_
 user_word_of : (b : Bool) (word t : ℕ) → (if b && is_present word then Some (frame_number word) else None) ≡ Some t → b ≡ true
 user_word_of true word t h = refl
 user_word_of false word t h = cc
+
 -- the tables that an image names, where no directory has a word outside the user range
 pub same_table_by : (directories : List (Option ℕ)) (bytes : List ℕ) (roles : List Role)
     → ((p d s : ℕ) → directory_of directories p ≡ Some d → is_user_slot s ≡ false → dir_word (frame_bytes bytes) d s ≡ 0)
