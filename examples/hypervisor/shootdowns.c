@@ -74,11 +74,12 @@ static void invalidate_here(struct tower_ended what) {
 
 /* This processor takes its interrupt, and acknowledges when it returns. A wrong version invalidates later. */
 static void take_interrupt(void) {
-    if (wrong == WRONG_ACKNOWLEDGE) {
-        mine()->late = ended;
-    } else {
+    if (wrong != WRONG_ACKNOWLEDGE || ended.kind == TOWER_ENDS_SPACE) {
         invalidate_here(ended);
+        return;
     }
+    invalidate_here(mine()->late);
+    mine()->late = ended;
 }
 
 /* Takes the interrupts that have come by now. */
@@ -109,31 +110,31 @@ static bool gives(const struct tower_event *event) {
     return is_giver && tower_ends(core, event, &would) && would.kind != TOWER_ENDS_NOTHING;
 }
 
-static struct tower_reply carry_out(struct tower_event event);
-
-/* A wrong version: the next event begins. It may give the frame that was freed to another process. */
-static void give_early(const struct tower_event *event) {
-    uint32_t pid = random(LIVE), address = (0x60000 + random(8)) << 12;
-    if (event->call == TOWER_UNMAP && pid != event->pid && is_live[pid]) {
-        struct tower_event store = {.pid = (uint8_t)pid, .call = TOWER_STORE, .flag = 1, .first = address, .second = 7};
-        carry_out(store);
+/* A wrong version: the next event begins in the window. It may give the frame that was freed to another process. Its
+ * note comes after that of the window's event. */
+static bool give_early(const struct tower_event *event, struct note *it) {
+    uint32_t pid = random(LIVE), page = 0x60000 + random(8);
+    if (event->call != TOWER_UNMAP || pid == event->pid || !is_live[pid]) {
+        return false;
     }
+    it->event = (struct tower_event){.pid = (uint8_t)pid, .call = TOWER_STORE, .flag = 1, .first = page << 12, .second = 7};
+    begin_step();
+    need(tower_step(core, &it->event, &it->reply), "a core answers");
+    end_step();
+    return true;
 }
 
 /* All that may keep what was ended invalidate it. Returns once they have. */
-static void shoot_down(const struct tower_event *event) {
+static void shoot_down(void) {
     windows++;
     call_others();
     invalidate_here(ended);
-    if (wrong == WRONG_FRAME) {
-        give_early(event);
-    }
     wait_for_called();
 }
 
 /* Carries out an event, as one step. Its note comes where its window ends. */
 static struct tower_reply carry_out(struct tower_event event) {
-    struct note it = {.event = event};
+    struct note it = {.event = event}, early;
     struct tower_ended by = {0};
     begin_step();
     need(tower_step_ending(core, &event, &it.reply, &by), "a core answers");
@@ -147,10 +148,14 @@ static struct tower_reply carry_out(struct tower_event event) {
     }
     end_step();
     if (has_window) {
-        shoot_down(&event);
+        bool is_early = wrong == WRONG_FRAME && give_early(&event, &early);
+        shoot_down();
         begin_step();
         if (wrong != WRONG_REPLY) {
             note(&it);
+        }
+        if (is_early) {
+            note(&early);
         }
         is_open = false;
         end_step();

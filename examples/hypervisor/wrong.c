@@ -30,7 +30,7 @@ static const struct {
     {"fork", STORM, "the other processors run on while a fork copies"},
     {"write", EVENTS, "nothing is invalidated after a write of the kernel's own"},
     {"acknowledge", SHOOTDOWNS, "a processor acknowledges before it invalidates"},
-    {"reply", SHOOTDOWNS, "the reply is told before all have invalidated"},
+    {"reply", SHOOTDOWNS, "the event comes in the order before all have invalidated"},
     {"frame", SHOOTDOWNS, "a freed frame is given while a processor keeps it"},
     {"give", SHOOTDOWNS, "the others go on while a lazy page gets a frame"},
 };
