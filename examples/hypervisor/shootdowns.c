@@ -117,7 +117,7 @@ static bool give_early(const struct tower_event *event, struct note *it) {
     if (event->call != TOWER_UNMAP || pid == event->pid || !is_live[pid]) {
         return false;
     }
-    it->event = (struct tower_event){.pid = (uint8_t)pid, .call = TOWER_STORE, .flag = 1, .first = page << 12, .second = 7};
+    it->event = tower_store(pid, page << 12, 1, 7);
     begin_step();
     need(tower_step(core, &it->event, &it->reply), "a core answers");
     end_step();
