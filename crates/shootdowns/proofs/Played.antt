@@ -36,9 +36,11 @@ walks_steps (turn.Mark pid page walked ∷ turns) told ended x v w are all keeps
 -- the event, and then the turns
 pub window_steps : (v u w : View) (e : Event) (turns : List Turn) (r : Reply) (x : Ended) (told : List (Option Reply)) (ended : List Ended) → x ≡ ended_by v e
     → r ≡ answer v.state e → u.state ≡ next v.state e → Ends x v u → IsCore u → FramesStay (gone_by v.state e) (memory_of v) (memory_of u)
-    → (gives_back e.call ≡ true → LooseStay (memory_of v) (memory_of u)) → AreTurns turns told ended u w → IsWindow v e turns r x told w
+    → (gives_back e.call ≡ true → LooseStay (memory_of v) (memory_of u)) → AreTurns turns told ended u w → IsWindow v e turns r x told ended w
 window_steps v u w e turns r x told ended is reply state ends core stay loose are = record {
-  ended = is;
+  reply = reply;
+  ends = is;
+  played = (u, state, are);
   steps = λ all keeps.
       subst (λ (y : Ended). Steps (settled end.Nothing nobody v) keeps (e ∷ taken turns told) (r ∷ told_in told) (settled y nobody w) keeps) (sym is)
       (first (begun (record {

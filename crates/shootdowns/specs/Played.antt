@@ -3,7 +3,8 @@ use Rattle.std.specs.Prelude.{◌≡◌, Bool, true, false, List, [], ◌∷◌,
 use Rattle.process_table.specs.View.{View}
 use Rattle.kernel_calls.specs.Processors.{Processors}
 use Rattle.kernel_calls.specs.Translations.{ended_by}
-use Rattle.kernel_calls.specs.Turns.{taken, told_in}
+use Rattle.kernel_calls.specs.Machine.{answer, next}
+use Rattle.kernel_calls.specs.Turns.{AreTurns, taken, told_in}
 use Rattle.kernel_calls.specs.declared.calls.Event.{Event}
 use Rattle.kernel_calls.specs.declared.calls.Reply.{Reply}
 use Rattle.kernel_calls.specs.declared.translations.Ended.{Ended}
@@ -20,9 +21,11 @@ all_walk (turn.Call e ∷ turns) = false
 all_walk (turn.Store e ∷ turns) = false
 all_walk (turn.Mark pid page walked ∷ turns) = false
 
--- The event, and what it ended. If the turns after it are accesses by walks, all of it are steps, whatever processors
--- keep: the event comes first, and then each access that was made.
-pub record IsWindow (v : View) (e : Event) (turns : List Turn) (r : Reply) (x : Ended) (told : List (Option Reply)) (w : View) : Type 0 where
-  pub ended : x ≡ ended_by v e
+-- The event is answered, and then the turns are taken in the state that it leaves. If all of them are accesses by walks,
+-- all of it are steps, whatever processors keep: the event comes first, and then each access that was made.
+pub record IsWindow (v : View) (e : Event) (turns : List Turn) (r : Reply) (x : Ended) (told : List (Option Reply)) (ended : List Ended) (w : View) : Type 0 where
+  pub reply : r ≡ answer v.state e
+  pub ends : x ≡ ended_by v e
+  pub played : (u : View) × (u.state ≡ next v.state e) × AreTurns turns told ended u w
   pub steps : all_walk turns ≡ true → (keeps : Processors)
       → Steps (settled end.Nothing nobody v) keeps (e ∷ taken turns told) (r ∷ told_in told) (settled x nobody w) keeps

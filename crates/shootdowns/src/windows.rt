@@ -18,7 +18,7 @@ pub fn window(
 ) -> (Reply, Ended)
     requires told { length turns.now ≡ length told.old }
     requires ended { length turns.now ≡ length ended.old }
-    ensures { IsWindow core.old event.now turns.now result.0 result.1 told.new core.new }
+    ensures { IsWindow core.old event.now turns.now result.0 result.1 told.new ended.new core.new }
 {
     core.stands();
     let begun = core.step_ending(event);
