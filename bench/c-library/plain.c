@@ -94,6 +94,16 @@ static bool tell(struct tower_reply *to, struct tower_reply reply) {
     return true;
 }
 
+/* The word of a mapped page; NULL once the page is refused. */
+static inline __attribute__((always_inline)) uint32_t *mapped_page(const struct process *of, uint32_t page,
+                                                                   struct tower_reply *to) {
+    uint32_t *word = is_user(page) ? mapped(of, page) : NULL;
+    if (!word) {
+        tell(to, refused(is_user(page) ? TOWER_NOT_MAPPED : TOWER_BAD_PAGE));
+    }
+    return word;
+}
+
 /* ---- Pages */
 
 /* Puts a word into a table, which it makes if there is none. */
@@ -267,12 +277,9 @@ static bool map(struct process *of, const struct tower_event *it, struct tower_r
 
 static bool unmap(struct process *of, const struct tower_event *it, struct tower_reply *to) {
     uint32_t page = it->first;
-    if (!is_user(page)) {
-        return tell(to, refused(TOWER_BAD_PAGE));
-    }
-    uint32_t *word = mapped(of, page);
+    uint32_t *word = mapped_page(of, page, to);
     if (!word) {
-        return tell(to, refused(TOWER_NOT_MAPPED));
+        return true;
     }
     let_go(*word);
     *word = 0;
@@ -290,12 +297,9 @@ static bool unmap(struct process *of, const struct tower_event *it, struct tower
 }
 
 static bool protect(struct process *of, const struct tower_event *it, struct tower_reply *to) {
-    if (!is_user(it->first)) {
-        return tell(to, refused(TOWER_BAD_PAGE));
-    }
-    uint32_t *word = mapped(of, it->first);
+    uint32_t *word = mapped_page(of, it->first, to);
     if (!word) {
-        return tell(to, refused(TOWER_NOT_MAPPED));
+        return true;
     }
     if (it->flag && !(*word & MAY)) {
         return tell(to, refused(TOWER_RIGHTS));
@@ -306,12 +310,9 @@ static bool protect(struct process *of, const struct tower_event *it, struct tow
 }
 
 static bool info(struct process *of, const struct tower_event *it, struct tower_reply *to) {
-    if (!is_user(it->first)) {
-        return tell(to, refused(TOWER_BAD_PAGE));
-    }
-    uint32_t *word = mapped(of, it->first);
+    uint32_t *word = mapped_page(of, it->first, to);
     if (!word) {
-        return tell(to, refused(TOWER_NOT_MAPPED));
+        return true;
     }
     *to = (struct tower_reply){.kind = TOWER_FLAGS, .first = *word & LAZY ? 1 : core.count[*word >> 12],
                                .write = (*word & ASKED) != 0, .may = (*word & MAY) != 0,
@@ -322,12 +323,9 @@ static bool info(struct process *of, const struct tower_event *it, struct tower_
 /* ---- Offers */
 
 static bool offer(struct process *of, const struct tower_event *it, struct tower_reply *to) {
-    if (!is_user(it->first)) {
-        return tell(to, refused(TOWER_BAD_PAGE));
-    }
-    uint32_t *word = mapped(of, it->first);
+    uint32_t *word = mapped_page(of, it->first, to);
     if (!word) {
-        return tell(to, refused(TOWER_NOT_MAPPED));
+        return true;
     }
     if (it->second == it->pid) {
         return tell(to, refused(TOWER_SELF_OFFER));
