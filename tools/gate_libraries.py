@@ -4,12 +4,11 @@
 again, with its proofs. One run of `rt ci` from scratch builds all of them over one another, so that they fit together.
 Then a stamp on each says what it was built from, as `rt lib` writes it. A changed source still makes the stamp stale.
 """
-import importlib.machinery
-import importlib.util
 import os
 import pathlib
 import shutil
-import sys
+
+from scripts import module_of
 
 ROOT = pathlib.Path(__file__).resolve().parent.parent
 
@@ -22,11 +21,7 @@ def any_built():
 def kit():
     """The module of the kit that knows a library's stamp."""
     file = pathlib.Path(os.path.realpath(shutil.which("rt"))).parent / "rtlib.py"
-    loader = importlib.machinery.SourceFileLoader("rtlib", str(file))
-    module = importlib.util.module_from_spec(importlib.util.spec_from_loader("rtlib", loader))
-    sys.modules["rtlib"] = module
-    loader.exec_module(module)
-    return module
+    return module_of("rtlib", file)
 
 
 def stamp():
