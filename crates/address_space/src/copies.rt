@@ -1,6 +1,6 @@
 //! All pages of a process are copied to another process.
 
-ghost use Rattle.std.specs.Prelude.{◌≡◌, ◌+◌, ◌*◌, ◌<◌, ◌≤◌, ◌^◌, ℕ, true, false, List, Some, None, IfSome, IfNone, is_some, length};
+ghost use Rattle.std.specs.Prelude.{◌≡◌, ◌+◌, ◌*◌, ◌<◌, ◌≤◌, ◌^◌, ℕ, true, false, if◌then◌else◌, List, Some, None, IfSome, IfNone, is_some, length};
 ghost use Rattle.page_words.specs.Addresses.{slot_number, IsUserPage};
 ghost use Rattle.page_words.specs.FiniteMap as map;
 ghost use Rattle.phys_memory.specs.Bytes.{frame_bytes, word_in};
@@ -8,7 +8,7 @@ ghost use Rattle.alloc_table.specs.Roles.{free_frames};
 ghost use Rattle.alloc_table.specs.declared.Role.{Role as RoleValue};
 ghost use Rattle.page_map.specs.Entries.{table_of, entry_at, word_entry};
 ghost use Rattle.address_space.specs.Spaces.{need, cost, at_page, copied};
-ghost use Rattle.address_space.specs.View.{directory_of, total_cost};
+ghost use Rattle.address_space.specs.View.{directory_of, spaces_in, total_cost};
 ghost use Rattle.address_space.specs.Sound.{Inside};
 ghost use Rattle.address_space.specs.Changes.{IsEntry, IsCopying, CopyIn, PageCopied, words_left};
 ghost use Rattle.address_space.specs.Image.{image_of, is_lazy_at};
@@ -16,6 +16,7 @@ ghost use Rattle.address_space.specs.Stays.{FramesStay, none_goes};
 ghost use Rattle.address_space.specs.Finds.{EntryCopied};
 
 use crate::mapping::{count_at, count_page, give_table};
+use crate::unmapping::region_left;
 use crate::{Spaces, home, take};
 use alloc_table::{FrameTable, Role};
 use page_map::{FIRST_SLOT, Listed, PageEntry};
@@ -72,6 +73,13 @@ pub fn next_left(memory: &Memory, table: Frame, first: u32, left: u32) -> Option
     page_map::next_listed(memory, table, first)
 }
 
+/// What a page costs whose region has this table, or none yet.
+fn new_frames(linked: &Option<Frame>) -> u32
+    ensures { result ≡ (if is_some linked.now then 1 else 2) }
+{
+    if linked.is_some() { 1 } else { 2 }
+}
+
 impl Spaces {
     /// Copies a page, which has this entry, to the same page of another process, which has none there. Its region there
     /// has the linked table, or none yet, and the result is the table that it has then.
@@ -104,35 +112,43 @@ impl Spaces {
     }
 
     /// Copies the pages of a region, by the table that a process has there, to the same pages of another process, which
-    /// has none there, and so no table. It reads each word of that table up to the last that is present once.
-    fn copy_region(&mut self, to: Pid, target: Frame, slot: u32, table: Frame)
+    /// has none there, and so no table. It reads each word of that table up to the last that is present once. The other
+    /// process is charged for `used` before, and for the result then.
+    fn copy_region(&mut self, to: Pid, target: Frame, slot: u32, table: Frame, used: u32) -> u32
         requires copying { IsCopying self.old.directories to slot table self.old.bytes self.old.roles }
         requires target { directory_of self.old.directories to ≡ Some target }
         requires slot { slot < 960 }
+        requires used { used ≡ cost (spaces_in self.old.directories self.old.bytes) to }
+        ensures used { result ≡ cost (spaces_in self.new.directories self.new.bytes) to }
         ensures copied { (from source : ℕ) (bytes : List ℕ) (roles : List RoleValue)
             → CopyIn self.old.directories from source to slot table 0 bytes roles self.old.bytes self.old.roles
             → CopyIn self.old.directories from source to slot table 1024 bytes roles self.new.bytes self.new.roles }
         ensures directories { self.new.directories ≡ self.old.directories }
     {
+        let mut used = used;
         let mut left = count_at(&self.counts, table);
         let mut linked = None;
         let mut index = 0;
         while let Some(listed) = next_left(&self.memory, table, index, left) {
             let page = Page(1024 * slot + listed.index);
+            used += new_frames(&linked);
             linked = Some(self.copy_page(to, target, linked, page, listed.entry));
             index = listed.index + 1;
             left -= 1;
         }
+        used
     }
 
     /// Copies each page of a process to the same page of another, whose space is as `fresh` leaves it: equal bytes and
-    /// rights, untouched, in groups of their own. The copy of a lazy page is lazy.
-    pub fn copy_space(&mut self, from: Pid, to: Pid)
+    /// rights, untouched, in groups of their own. The copy of a lazy page is lazy. The first process is charged for
+    /// `used`, and no more words are read than that takes.
+    pub fn copy_space(&mut self, from: Pid, to: Pid, used: u32)
         requires from { is_some (directory_of self.old.directories from) ≡ true }
         requires live { is_some (directory_of self.old.directories to) ≡ true }
         requires empty { (page : ℕ) → map.get self.old.spaces (at_page to page) ≡ None }
         requires room { cost self.old.spaces from + total_cost self.old.directories self.old.spaces
             ≤ length self.old.roles }
+        requires used { used ≡ cost self.old.spaces from }
         ensures spaces { self.new.spaces ≡ copied self.old.spaces from to }
         ensures stay { FramesStay none_goes (image_of self.old) (image_of self.new) }
         ensures lazy { (page : ℕ) → is_lazy_at (image_of self.new) (at_page to page)
@@ -142,9 +158,15 @@ impl Spaces {
     {
         let source = home(&self.directories, from);
         let target = home(&self.directories, to);
+        let mut made = 1;
         let mut first = FIRST_SLOT;
-        while let Some(region) = page_map::next_region(&self.memory, source, first) {
-            self.copy_region(to, target, region.slot, region.table);
+        while let Some(region) = region_left(
+            &self.memory,
+            source,
+            first,
+            used.saturating_sub(made),
+        ) {
+            made = self.copy_region(to, target, region.slot, region.table, made);
             first = region.slot + 1;
         }
     }

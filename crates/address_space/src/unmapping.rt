@@ -1,11 +1,11 @@
 //! Pages and whole spaces that go, and the blank directory that a process begins with.
 
-ghost use Rattle.std.specs.Prelude.{◌≡◌, ◌≢◌, ℕ, ◌+◌, ◌*◌, ◌<◌, ◌≤◌, Some, None, length, is_some, true, false, slice_set};
+ghost use Rattle.std.specs.Prelude.{◌≡◌, ◌≢◌, ◌⊎◌, ℕ, ◌+◌, ◌*◌, ◌<◌, ◌≤◌, Some, None, IfSome, IfNone, length, is_some, true, false, slice_set};
 ghost use Rattle.page_words.specs.Addresses.{IsUserPage};
 ghost use Rattle.alloc_table.specs.Roles.{IsInUse};
-ghost use Rattle.address_space.specs.Spaces.{Slot, without, is_slot, at_page, is_of};
+ghost use Rattle.address_space.specs.Spaces.{Slot, without, is_slot, at_page, is_of, cost};
 ghost use Rattle.phys_memory.specs.Bytes.{frame_bytes};
-ghost use Rattle.page_map.specs.Entries.{table_of};
+ghost use Rattle.page_map.specs.Entries.{table_of, IsPageMap};
 ghost use Rattle.address_space.specs.Finds.{found_in};
 ghost use Rattle.address_space.specs.View.{View, directory_of, total_cost};
 ghost use Rattle.address_space.specs.Changes.{TableFreed, EntryLeft, IsEmptySpace, EntryGone, DroppedBelow};
@@ -19,8 +19,9 @@ use crate::mapping::{count_at, uncount_page};
 use crate::place::{Found, Place};
 use crate::{Directories, Spaces, home, take};
 use alloc_table::{FrameTable, Role};
-use page_map::{FIRST_SLOT, PageEntry};
+use page_map::{FIRST_SLOT, PageEntry, Region};
 use page_words::{Frame, Page, Pid};
+use phys_memory::Memory;
 
 /// Frees a table that was unlinked.
 pub fn free_table(frames: &mut FrameTable, freed: Option<Frame>)
@@ -124,6 +125,24 @@ impl Spaces {
     }
 }
 
+/// The next region of a directory from a slot on, if its tables and pages from there on are so many. If there are none,
+/// it reads no word and returns None.
+pub fn region_left(memory: &Memory, directory: Frame, first: u32, left: u32) -> Option<Region>
+    requires { IsPageMap memory.now directory }
+    ensures within { IfSome result (λ region. (first ≤ region.slot) × (region.slot < 960)) }
+    ensures table { IfSome result (λ region. table_of (frame_bytes memory.now) directory region.slot
+        ≡ Some region.table) }
+    ensures least { IfSome result (λ region. (slot : ℕ) → first ≤ slot → slot < region.slot
+        → table_of (frame_bytes memory.now) directory slot ≡ None) }
+    ensures none { IfNone result ((left ≡ 0) ⊎ ((slot : ℕ) → first ≤ slot → slot < 960
+        → table_of (frame_bytes memory.now) directory slot ≡ None)) }
+{
+    if left == 0 {
+        return None;
+    }
+    page_map::next_region(memory, directory, first)
+}
+
 /// Takes a process's directory off the list.
 fn forget(directories: &mut Directories, pid: Pid)
     ensures { directories.new ≡ slice_set directories.old pid None }
@@ -133,31 +152,38 @@ fn forget(directories: &mut Directories, pid: Pid)
 
 impl Spaces {
     /// Takes each page of a region out of its group, by the table that the process has there. It reads each word of the
-    /// table up to the last that is present once.
-    fn drop_region(&mut self, pid: Pid, directory: Frame, slot: u32, table: Frame)
+    /// table up to the last that is present once. The process is charged for `used` before, and for the result then.
+    fn drop_region(&mut self, pid: Pid, directory: Frame, slot: u32, table: Frame, used: u32) -> u32
         requires home { directory_of self.old.directories pid ≡ Some directory }
         requires table { table_of (frame_bytes self.old.bytes) directory slot ≡ Some table }
         requires low { 256 ≤ slot }
         requires high { slot < 960 }
+        requires used { used ≡ cost self.old.spaces pid }
+        ensures used { result ≡ cost self.new.spaces pid }
         ensures dropped { (v : View) → DroppedBelow v pid (1024 * slot) self.old
             → DroppedBelow v pid (1024 * slot + 1024) self.new }
         ensures directories { self.new.directories ≡ self.old.directories }
     {
+        let mut used = used;
         let mut left = count_at(&self.counts, table);
         let mut index = 0;
         while let Some(listed) = next_left(&self.memory, table, index, left) {
             let page = Page(1024 * slot + listed.index);
             let entry = listed.entry;
-            self.unmap_found(pid, page, directory, &Found { page, table, entry });
+            let found = Found { page, table, entry };
+            used -= self.relief_at(pid, page, &Place::Mapped(found));
+            self.unmap_found(pid, page, directory, &found);
             index = listed.index + 1;
             left -= 1;
         }
+        used
     }
 
-    /// Takes each page of a process out of its group, region by region. It reads each directory word of the
-    /// user range once.
-    fn drop_pages(&mut self, pid: Pid, directory: Frame)
-        requires { directory_of self.old.directories pid ≡ Some directory }
+    /// Takes each page of a process out of its group, region by region. It reads each directory word of the user range
+    /// once, up to that of the last region. The process is charged for `used`.
+    fn drop_pages(&mut self, pid: Pid, directory: Frame, used: u32)
+        requires home { directory_of self.old.directories pid ≡ Some directory }
+        requires used { used ≡ cost self.old.spaces pid }
         ensures spaces { self.new.spaces ≡ without self.old.spaces (is_of pid) }
         ensures stay { FramesStay (of_process pid) (image_of self.old) (image_of self.new) }
         ensures loose { LooseStay (image_of self.old) (image_of self.new) }
@@ -166,9 +192,15 @@ impl Spaces {
         ensures frames { length self.new.roles ≡ length self.old.roles }
     {
         let _ = &self.memory;
+        let mut used = used;
         let mut first = FIRST_SLOT;
-        while let Some(region) = page_map::next_region(&self.memory, directory, first) {
-            self.drop_region(pid, directory, region.slot, region.table);
+        while let Some(region) = region_left(
+            &self.memory,
+            directory,
+            first,
+            used.saturating_sub(1),
+        ) {
+            used = self.drop_region(pid, directory, region.slot, region.table, used);
             first = region.slot + 1;
         }
     }
@@ -189,10 +221,12 @@ impl Spaces {
         forget(&mut self.directories, pid);
     }
 
-    /// Takes away a process's space: its pages leave their groups, and the frames of its pages that
-    /// nobody else holds, its tables and its directory come free.
-    pub fn drop_space(&mut self, pid: Pid)
+    /// Takes away a process's space: its pages leave their groups, and the frames of its pages that nobody else holds,
+    /// its tables and its directory come free. The process is charged for `used`, and no more words are read than that
+    /// takes.
+    pub fn drop_space(&mut self, pid: Pid, used: u32)
         requires live { is_some (directory_of self.old.directories pid) ≡ true }
+        requires used { used ≡ cost self.old.spaces pid }
         ensures spaces { self.new.spaces ≡ without self.old.spaces (is_of pid) }
         ensures stay { FramesStay (of_process pid) (image_of self.old) (image_of self.new) }
         ensures loose { LooseStay (image_of self.old) (image_of self.new) }
@@ -202,7 +236,7 @@ impl Spaces {
         ensures frames { length self.new.roles ≡ length self.old.roles }
     {
         let directory = home(&self.directories, pid);
-        self.drop_pages(pid, directory);
+        self.drop_pages(pid, directory, used);
         self.drop_directory(pid, directory);
     }
 }

@@ -1,5 +1,5 @@
 -- The ledger of the frames whose role is Free, made from the last frame down.
-use Rattle.std.proofs.Common.{◌≡◌, ℕ, ◌+◌, ◌<◌, false, cond, List, [], ◌∷◌, length, drop, map, sym, ap, Some, unwrap_or, arith}
+use Rattle.std.proofs.Common.{◌≡◌, ℕ, ◌<◌, false, List, [], ◌∷◌, length, drop, map, Some, arith}
 use Rattle.std.specs.Prelude.{slice_get}
 use Rattle.page_words.specs.FiniteSet as set
 use Rattle.page_words.specs.Marked.{marked_from, marked_numbers}
@@ -22,7 +22,4 @@ free_above-before q first roles h = contains-below first (map is_free (drop firs
 pub free_above-all : (roles : List Role) → slice_get roles 0 ≡ Some Reserved → free_above 1 roles ≡ free_by roles
 unfolding marked_numbers
 free_above-all [] h = cc
-free_above-all (r ∷ roles) h =
-    let is : is_free r ≡ false = ap (λ o. is_free (unwrap_or o r)) h in
-    let one : 0 + 1 ≡ 1 = omega arith in
-    λ i. record { free = cond (sym is i) (set.insert (marked_from 1 (map is_free roles)) 0) (marked_from 1 (map is_free roles)); frames = length (r ∷ roles) }
+free_above-all (r ∷ roles) h = grind arith

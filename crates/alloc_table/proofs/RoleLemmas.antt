@@ -1,22 +1,18 @@
 -- What the list of roles says after a frame was taken.
-use Rattle.std.proofs.Common.{◌≡◌, ◌≢◌, ℕ, zero, suc, ◌+◌, ◌-◌, ◌<◌, ◌≤◌, Bool, true, false, cond, List, [], ◌∷◌, length, get_or, refl, ap, Some, arith}
-use Rattle.std.specs.Prelude.{slice_get, slice_set, set, nat_lt}
+use Rattle.std.proofs.Common.{◌≡◌, ◌≢◌, ℕ, zero, suc, ◌+◌, ◌-◌, ◌<◌, ◌≤◌, Bool, true, cond, List, [], ◌∷◌, length}
+use Rattle.std.proofs.Common.{get_or, refl, ap, Some, arith}
+use Rattle.std.specs.Prelude.{slice_get, slice_set, nat_lt}
 use Rattle.std.proofs.lemmas.List.Sums.{sum_by-cons, sum_by-set}
 use Rattle.std.proofs.lemmas.Option.{get_or_from_slice_get, slice_get_within}
-use Rattle.std.proofs.lemmas.Bool.Decides.{nat_tests}
 use Rattle.alloc_table.specs.Roles.{is_free, is_in_use, free_frames, frames_in_use, frames_weight, weight, IsTaken, IsHeld, IsReleased, released}
 use Rattle.alloc_table.specs.declared.Role.{Role}
-use Rattle.alloc_table.specs.declared.Role.TheVariants.{Reserved, Free, Directory, Table, Page}
+use Rattle.alloc_table.specs.declared.Role.TheVariants.{Reserved, Free, Page}
 
 abbrev counted : Bool → ℕ
 counted b = cond b 1 0
 
 pub free_is : (r : Role) → is_free r ≡ true → r ≡ Free
-free_is Reserved h = cc
-free_is Free h = refl
-free_is (Directory pid) h = cc
-free_is (Table pid slot) h = cc
-free_is (Page count) h = cc
+free_is r h = grind arith
 
 module _ {X : Type 0} where
   pub get-set_same : (xs : List X) (i : ℕ) (v : X) → i < length xs → slice_get (slice_set xs i v) i ≡ Some v
@@ -40,10 +36,7 @@ weight-set old f was role h =
     omega (arith, s, a)
 
 pub weight-taken : (old new : List Role) (f : ℕ) (role : Role) → IsTaken old f role new → frames_weight new ≡ frames_weight old + weight role
-weight-taken old new f role h =
-    let s = weight-set old f Free role h.was_free in
-    let c : frames_weight new ≡ frames_weight (set old f role) = ap frames_weight h.now in
-    omega (arith, s, c)
+weight-taken old new f role h = grind (arith, weight-set)
 
 -- where each page has a holder, a frame that weighs nothing is free
 pub free-by-weight : (roles : List Role) → ((i c : ℕ) → slice_get roles i ≡ Some (Page c) → 0 < c) → length roles ≤ free_frames roles + frames_weight roles
@@ -56,11 +49,7 @@ free-by-weight (r ∷ rs) held =
     omega (arith, a, b, rest, own)
   where
     one : (r : Role) → ((c : ℕ) → r ≡ Page c → 0 < c) → 1 ≤ counted (is_free r) + weight r
-    one Reserved h = omega arith
-    one Free h = omega arith
-    one (Directory pid) h = omega arith
-    one (Table pid slot) h = omega arith
-    one (Page count) h = let x = h count refl in omega arith
+    one k h = grind arith
 
 -- frames in use weigh at least 1 each
 in-use-by-weight : (roles : List Role) → ((i c : ℕ) → slice_get roles i ≡ Some (Page c) → 0 < c) → frames_in_use roles ≤ frames_weight roles
@@ -73,11 +62,7 @@ in-use-by-weight (r ∷ rs) held =
     omega (arith, a, b, rest, this)
   where
     one : (r : Role) → ((c : ℕ) → r ≡ Page c → 0 < c) → counted (is_in_use r) ≤ weight r
-    one Reserved h = omega arith
-    one Free h = omega arith
-    one (Directory pid) h = omega arith
-    one (Table pid slot) h = omega arith
-    one (Page c) h = let less = h c refl in omega (arith, less)
+    one k h = grind arith
 
 -- and frame 0, which is reserved, weighs 1 too
 pub in-use-and-reserved : (roles : List Role) → slice_get roles 0 ≡ Some Reserved → ((i c : ℕ) → slice_get roles i ≡ Some (Page c) → 0 < c) → frames_in_use roles + 1 ≤ frames_weight roles
@@ -92,10 +77,7 @@ in-use-and-reserved (r ∷ rs) first held =
     omega (arith, a, b, c, d, rest)
 
 pub weight-held : (old new : List Role) (f : ℕ) → IsHeld old f new → frames_weight new ≡ frames_weight old + 1
-weight-held old new f h =
-    let s = weight-set old f (Page h.count) (Page (h.count + 1)) h.page in
-    let c : frames_weight new ≡ frames_weight (slice_set old f (Page (h.count + 1))) = ap frames_weight h.now in
-    omega (arith, s, c)
+weight-held old new f h = grind (arith, weight-set)
 
 pub weight-released : (old new : List Role) (f : ℕ) (h : IsReleased old f new) → 1 ≤ weight h.role → frames_weight new + 1 ≡ frames_weight old
 weight-released old new f h heavy =
@@ -105,12 +87,9 @@ weight-released old new f h heavy =
     omega (arith, s, c, less)
   where
     weight_of_released : (r : Role) → 1 ≤ weight r → weight (released r) + 1 ≡ weight r
-    weight_of_released Reserved h = refl
     weight_of_released Free h = absurd (omega arith)
-    weight_of_released (Directory pid) h = refl
-    weight_of_released (Table pid slot) h = refl
     weight_of_released (Page n) h = by (nat_lt 1 n) refl
       where
         by : (b : Bool) → nat_lt 1 n ≡ b → weight (cond b (Page (n - 1)) Free) + 1 ≡ n
-        by true is = let more : 1 < n = grind (arith, nat_tests) in omega arith
-        by false is = let few : n ≤ 1 = grind (arith, nat_tests) in omega arith
+        by k is = grind arith
+    weight_of_released _ h = refl

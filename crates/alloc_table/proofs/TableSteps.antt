@@ -1,19 +1,17 @@
 -- What a frame table keeps, where it opens and after each change of a role.
-use Rattle.std.proofs.Common.{◌≡◌, ◌≢◌, ℕ, zero, suc, ◌+◌, ◌-◌, ◌<◌, ◌≤◌, inl, inr, Bool, true, false, cond, List, [], ◌∷◌, length, replicate, map, get_or, refl, ap, sym, ◌∙◌, Some, unwrap_or, arith, length-set, count_by}
-use Rattle.std.specs.Prelude.{slice_get, slice_set, nat_lt}
-use Rattle.std.specs.List.{range_with_len}
+use Rattle.std.proofs.Common.{◌≡◌, ◌≢◌, ℕ, zero, suc, ◌+◌, ◌-◌, ◌<◌, ◌≤◌, true, false, cond, List, [], ◌∷◌, length}
+use Rattle.std.proofs.Common.{replicate, map, get_or, refl, ap, sym, ◌∙◌, Some, unwrap_or, arith, length-set, count_by}
+use Rattle.std.specs.Prelude.{slice_get, slice_set}
 use Rattle.std.proofs.lemmas.List.{map-set, set-get_or, length-replicate, length-map}
 use Rattle.std.proofs.lemmas.List.Sums.{sum_by-cons}
 use Rattle.std.proofs.lemmas.Option.{slice_get_within}
-use Rattle.std.proofs.lemmas.Bool.Decides.{nat_tests}
-use Rattle.page_words.specs.FiniteMap.{nat_order}
 use Rattle.page_words.specs.FiniteSet as set
 use Rattle.page_words.specs.Marked.{marked_numbers}
 use Rattle.page_words.proofs.SetLemmas.{same_cases}
 use Rattle.page_words.proofs.Marks.{contains-marked, len-marked, marked_from-replicate, marked-set_true, marked-set_false}
 use Rattle.frame_ledger.specs.FreeFrames.{FreeFrames, opening, with_free, without_free}
 use Rattle.alloc_table.specs.declared.Role.{Role}
-use Rattle.alloc_table.specs.declared.Role.TheVariants.{Reserved, Free, Directory, Table, Page}
+use Rattle.alloc_table.specs.declared.Role.TheVariants.{Reserved, Free, Page}
 use Rattle.alloc_table.specs.Roles.{is_free, is_in_use, free_frames, opening_roles, CanBeTaken, released}
 use Rattle.alloc_table.specs.Invariant.{IsFrameTable}
 use Rattle.alloc_table.specs.Weights.{EachPageHeld}
@@ -34,50 +32,23 @@ role_where_free (r ∷ roles) zero h = ap Some (free_is r h)
 role_where_free (r ∷ roles) (suc f) h = role_where_free roles f h
 
 in_use_not_free : (r : Role) → is_in_use r ≡ true → is_free r ≡ false
-in_use_not_free Reserved h = cc
-in_use_not_free Free h = cc
-in_use_not_free (Directory pid) h = refl
-in_use_not_free (Table pid slot) h = refl
-in_use_not_free (Page count) h = refl
+in_use_not_free r h = grind arith
 
 not_Reserved : (r : Role) → is_in_use r ≡ true → r ≢ Reserved
 not_Reserved r used e = let x : true ≡ false = sym used ∙ ap is_in_use e in cc
 
 taken_not_free : (r : Role) → CanBeTaken r → is_free r ≡ false
-taken_not_free Reserved can = absurd can
-taken_not_free Free can = absurd can
-taken_not_free (Directory pid) can = refl
-taken_not_free (Table pid slot) can = refl
-taken_not_free (Page count) can = refl
+taken_not_free r can = grind arith
 
 taken_held : (r : Role) → CanBeTaken r → (count : ℕ) → r ≡ Page count → 0 < count
-taken_held Reserved can count e = absurd can
-taken_held Free can count e = absurd can
-taken_held (Directory pid) can count e = cc
-taken_held (Table pid slot) can count e = cc
-taken_held (Page n) can count e = let is : n ≡ count = cc in omega arith
+taken_held r can count e = grind arith
 
 -- what is left of a role in use
 pub released_held : (r : Role) (count : ℕ) → released r ≡ Page count → 0 < count
-released_held Reserved count e = cc
-released_held Free count e = cc
-released_held (Directory pid) count e = cc
-released_held (Table pid slot) count e = cc
-released_held (Page n) count e = by (nat_lt 1 n) refl e
-  where
-    by : (b : Bool) → nat_lt 1 n ≡ b → cond b (Page (n - 1)) Free ≡ Page count → 0 < count
-    by true is e = let more : 1 < n = grind (arith, nat_tests) in let same : n - 1 ≡ count = cc in omega arith
-    by false is e = cc
+released_held r count e = grind arith
 
 pub released_not_free : (r : Role) → released r ≢ Free → is_free (released r) ≡ false
-released_not_free r n = by (released r) n
-  where
-    by : (x : Role) → x ≢ Free → is_free x ≡ false
-    by Reserved n = refl
-    by Free n = absurd (n refl)
-    by (Directory pid) n = refl
-    by (Table pid slot) n = refl
-    by (Page count) n = refl
+released_not_free r n = grind arith
 
 not_page_free : (n i count : ℕ) → slice_get (replicate n Free) i ≢ Some (Page count)
 not_page_free zero i count h = cc
@@ -90,19 +61,7 @@ all_free (suc n) = ap (λ marks. true ∷ marks) (all_free n)
 
 pub table-opening : (frames : ℕ) → 16 ≤ frames → IsFrameTable (opening frames) (opening_roles frames)
 unfolding opening opening_roles marked_numbers
-table-opening zero h = absurd (omega arith)
-table-opening (suc n) h = record {
-  frames = sym (length-set (replicate (suc n) Free) 0 Reserved ∙ length-replicate (suc n) Free);
-  free =
-      let e : suc n - 1 ≡ n = omega arith in
-      ap (λ k. set.from_list (range_with_len 1 k)) e ∙ sym (marked_from-replicate 1 n) ∙ ap (λ marks. marked_numbers (false ∷ marks)) (sym (all_free n));
-  reserved = refl;
-  held = each;
-}
-  where
-    each : EachPageHeld (slice_set (replicate (suc n) Free) 0 Reserved)
-    each zero count h = cc
-    each (suc i) count h = absurd (not_page_free n i count h)
+table-opening frames h = grind (arith, length-set, length-replicate, marked_from-replicate, all_free, not_page_free)
 
 module _ (l : FreeFrames) (roles : List Role) (kept : IsFrameTable l roles) where
   pub contains-role : (f : ℕ) (role : Role) → slice_get roles f ≡ Some role → set.contains l.free f ≡ is_free role
@@ -126,11 +85,7 @@ module _ (l : FreeFrames) (roles : List Role) (kept : IsFrameTable l roles) wher
   not_reserved f was h n e = n (role_is was Reserved (sym h ∙ ap (slice_get roles) e ∙ kept.reserved))
 
   held_after : (f : ℕ) (role : Role) → f < length roles → ((count : ℕ) → role ≡ Page count → 0 < count) → EachPageHeld (slice_set roles f role)
-  held_after f role within own i count h =
-      elim (same_cases nat_order i f) [
-        | inl is ↦ own count (role_is role (Page count) (sym (get-set_same roles f role within) ∙ ap (slice_get (slice_set roles f role)) (sym is.0) ∙ h))
-        | inr other ↦ kept.held i count (sym (get-set_other roles f i role other.0) ∙ h)
-      ]
+  held_after f role within own i count h = grind (arith, same_cases, role_is, get-set_same, get-set_other)
 
   module _ (f : ℕ) (was role : Role) (h : slice_get roles f ≡ Some was) (n : was ≢ Reserved) (own : (count : ℕ) → role ≡ Page count → 0 < count) where
     -- the table with a role changed, beside the ledger whose free frames follow
@@ -159,10 +114,7 @@ module _ (l : FreeFrames) (roles : List Role) (kept : IsFrameTable l roles) wher
   -- a frame in use may be put back
   pub put_back-may : (f : ℕ) (was : Role) → slice_get roles f ≡ Some was → is_in_use was ≡ true → (1 ≤ f) × (f < l.frames) × (set.contains l.free f ≡ false)
   put_back-may f was h used =
-      let within = slice_get_within roles f was h in
-      let other = not_reserved f was h (not_Reserved was used) in
-      let frames = kept.frames in
-      (omega arith, omega arith, contains-role f was h ∙ in_use_not_free was used)
+      grind (arith, slice_get_within, not_reserved, not_Reserved, contains-role, in_use_not_free)
 
   -- a free frame is in use
   pub table-taken : (f : ℕ) (role : Role) → set.contains l.free f ≡ true → CanBeTaken role → IsFrameTable (without_free l f) (slice_set roles f role)

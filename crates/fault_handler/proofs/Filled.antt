@@ -1,21 +1,17 @@
 -- What the pages that are filled for a write leave of the ways.
 use Rattle.fault_handler.proofs.Prelude.{page_number, second_page, Size}
-use Rattle.std.proofs.Common.{◌≡◌, ℕ, Bool, true, false, ◌||◌, refl, ap, sym, ◌∙◌, Some}
+use Rattle.std.proofs.Common.{◌≡◌, ℕ, Bool, false, ◌||◌, ap, sym, ◌∙◌, Some, arith}
 use Rattle.address_space.specs.Image.{Image}
 use Rattle.address_space.specs.Stays.{FramesStay, of_lazy}
 use Rattle.address_space.proofs.standing.FramesStand.{stays_then, stays_more}
 use Rattle.fault_handler.specs.Fills.{lazy_second, lazy_touched}
 
 pub neither : (a b : Bool) → (a || b) ≡ false → (a ≡ false) × (b ≡ false)
-neither false false h = (refl, refl)
-neither false true h = cc
-neither true b h = cc
+neither a b h = grind arith
 
 pub fills_one : (p address : ℕ) (size : Size) (page : ℕ) (a b : Image) → page ≡ page_number address
     → FramesStay (of_lazy p page) a b → FramesStay (lazy_touched p address size) a b
-fills_one p address size page a b is stay =
-    stays_more (λ slot f stays. ap (λ n. of_lazy p n slot f) is
-    ∙ (neither (of_lazy p (page_number address) slot f) (lazy_second p (second_page address size) slot f) stays).0) stay
+fills_one p address size page a b is stay = grind (arith, stays_more, neither)
 
 pub fills_two : (p address : ℕ) (size : Size) (page second : ℕ) (a b c : Image) → page ≡ page_number address
     → second_page address size ≡ Some second

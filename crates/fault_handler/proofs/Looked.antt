@@ -1,9 +1,9 @@
 -- One lookup of each page of an access gives its plan and its charge.
 use Rattle.fault_handler.proofs.Prelude
-use Prelude.{◌≡◌, ℕ, ◌+◌, nat_lt, arith, Bool, true, false, not, ◌&&◌, cond, refl, sym, ap, ◌∙◌, Option, Some, None}
-use Prelude.{unwrap_or, if◌then◌else◌, option_map, option_and_then, page_number, slot_number, start_number, second_page}
-use Prelude.{touched, Size, first_by_page, crosses, Spaces, at_page, cost, page_need, access_need, regions_of, pages_of}
-use Prelude.{Access, Read, Write, extra_touched, View, Quota, Plan, Planned, outside, is_read_only, forbidden, fault_or}
+use Prelude.{◌≡◌, ℕ, ◌+◌, nat_lt, arith, Bool, true, not, ◌&&◌, cond, refl, sym, ap, ◌∙◌, Option, Some, None, unwrap_or}
+use Prelude.{if◌then◌else◌, option_map, option_and_then, page_number, slot_number, start_number, second_page, touched}
+use Prelude.{Size, first_by_page, crosses, Spaces, at_page, cost, page_need, access_need, regions_of, pages_of, Access}
+use Prelude.{Read, Write, extra_touched, View, Quota, Plan, Planned, outside, is_read_only, forbidden, fault_or}
 use Prelude.{step_at, goes_on, look_of, planned_by_looks}
 use Rattle.std.proofs.Common.{◌-◌, ◌==◌}
 use Rattle.fault_handler.specs.Looks.{look_behind, barred, need_by, ready_by, fault_by, planned_at}
@@ -23,13 +23,7 @@ same_container : (s : State) (p : ℕ) (c : Container) (m : Member) → option_m
 same_container s p c m h = ap (λ o. unwrap_or o c) h
 
 room_is : (s : State) (p : ℕ) (c : Container) → container_of s p ≡ Some c → c.quota - c.used - c.given ≡ room s p
-room_is s p c is = by (map.get s.book p) refl is
-  where
-    by : (x : Option Member) → map.get s.book p ≡ x → option_map (λ member. as_container s p member) x ≡ Some c → c.quota - c.used - c.given ≡ room s p
-    by None has h = cc
-    by (Some m) has h =
-        sym (ap (λ (k : Container). k.quota - k.used - k.given) (same_container s p c m h))
-        ∙ sym (ap (λ (y : Option Member). unwrap_or (option_map (λ member. member.quota) y) 0 - cost s.spaces p - given s.book p) has)
+room_is s p c is = grind (arith, same_container)
 
 -- ---- The pages
 
@@ -62,28 +56,15 @@ module _ (v : View) (p address : ℕ) (size : Size) (access : Access) where
       by Read None is = refl
       by Read (Some second) is = refl
       by Write None is = sym (first_by_page test address size ∙ ap (λ y. cond (test page) (Some address) (option_and_then (λ n. cond (test n) (Some (start_number n)) None) y)) is)
-      by Write (Some second) is =
-          ap (λ n. cond (test page) (Some address) (cond (test n) (Some (start_number second)) None)) (start second)
-          ∙ sym (first_by_page test address size ∙ ap (λ y. cond (test page) (Some address) (option_and_then (λ n. cond (test n) (Some (start_number n)) None) y)) is)
+      by Write (Some second) is = grind (arith, test, start, first_by_page)
 
   steps_are : ready_by first (look_behind v p access address size) ≡ plan.Ready (step_at v p access page) (option_map (step_at v p access) (second_page address size))
-  steps_are = by (second_page address size)
-    where
-      by : (x : Option ℕ) → ready_by first (behind x) ≡ plan.Ready (step_at v p access page) (option_map (step_at v p access) x)
-      by None = refl
-      by (Some second) = ap (λ n. plan.Ready (step_at v p access page) (Some (step_at v p access n))) (start second)
+  steps_are = grind (arith, start)
 
   -- two pages need what the first does, and what the second does beside it
   beside : (m n r t same : Bool)
       → ◌≡◌ {A = ℕ} (if nat_lt 0 (if m then 0 else (if r then 1 else 2)) && (nat_lt 0 (if n then 0 else (if t then 1 else 2)) && same) then 1 else (if n then 0 else (if t then 1 else 2))) (if n then 0 else (if not m && same then 1 else (if t then 1 else 2)))
-  beside true true r t same = refl
-  beside true false r t same = refl
-  beside false true true t same = refl
-  beside false true false t same = refl
-  beside false false true true same = refl
-  beside false false true false same = refl
-  beside false false false true same = refl
-  beside false false false false same = refl
+  beside m n r t same = grind arith
 
   need_is : need_by first (look_behind v p access address size) ≡ extra_cost s p (touched address size)
   need_is = by (second_page address size) refl ∙ sym (extra_touched s p address size)
@@ -103,24 +84,12 @@ module _ (v : View) (p address : ℕ) (size : Size) (access : Access) where
   joined : (byte : Option ℕ) (full : Bool) (ready : Plan) (c : Container) (frames : ℕ) → goes_on ready ≡ true
       → fault_by byte access true c (if full then record { plan = plan.Refused Quota; charge = c.used } else record { plan = ready; charge = c.used + frames })
       ≡ (let x : Plan = fault_or byte access true (if full then plan.Refused Quota else ready) in record { plan = x; charge = if goes_on x then c.used + frames else c.used })
-  joined (Some byte) full ready c frames goes = refl
-  joined None true ready c frames goes = refl
-  joined None false ready c frames goes = ap (λ b. record { plan = ready; charge = if b then c.used + frames else c.used }) (sym goes)
+  joined byte full ready c frames goes = grind arith
 
   pub looked : (c : Container) → container_of s p ≡ Some c → outside address size ≡ None
       → planned_by_looks access first (look_behind v p access address size) c ≡ planned_at v p address size access
-  looked c has within =
-      (λ i. fault_by (barred_is i) access true c (if nat_lt (room_is s p c has i) (need_is i) then record { plan = plan.Refused Quota; charge = c.used } else record { plan = steps_are i; charge = c.used + need_is i }))
-      ∙ joined (forbidden s p address size access) (nat_lt (room s p) (extra_cost s p (touched address size))) ready c (extra_cost s p (touched address size)) refl
-      ∙ (λ i. let x : Plan = fault_or (sym within i) access false (fault_or (forbidden s p address size access) access true (if nat_lt (room s p) (extra_cost s p (touched address size)) then plan.Refused Quota else ready)) in
-      record { plan = x; charge = if goes_on x then used-container s p c has i + extra_cost s p (touched address size) else used-container s p c has i })
-    where
-      ready : Plan
-      ready = plan.Ready (step_at v p access page) (option_map (step_at v p access) (second_page address size))
+  looked c has within = grind (arith, barred_is, nat_lt, room_is, need_is, steps_are, joined, used-container)
 
   -- what is planned goes on with the charge that its pages need
   pub charge_goes : (x : Planned) → x ≡ planned_at v p address size access → goes_on x.plan ≡ true → x.charge ≡ cost S p + access_need S p address size
-  charge_goes x is goes =
-      ap (λ (y : Planned). y.charge) is
-      ∙ ap (λ b. if b then cost S p + extra_cost s p (touched address size) else cost S p) (sym (ap (λ (y : Planned). goes_on y.plan) is) ∙ goes)
-      ∙ ap (λ n. cost S p + n) (extra_touched s p address size)
+  charge_goes x is goes = grind (arith, extra_touched)

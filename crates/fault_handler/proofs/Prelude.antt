@@ -16,14 +16,14 @@ pub use Rattle.fault_handler.specs.declared.plans.Plan.{Plan}
 pub use Rattle.fault_handler.specs.declared.plans.Planned.{Planned}
 pub use Rattle.page_words.proofs.Accesses.{crosses, first_by_page}
 pub use Rattle.page_words.proofs.OptionLemmas.{no_value}
-pub use Rattle.page_words.specs.Addresses.{EachTouched, IsUserPage, covered, is_user_page, page_number, second_page}
-pub use Rattle.page_words.specs.Addresses.{slot_number, start_number, touched}
+pub use Rattle.page_words.specs.Addresses.{EachTouched, IsUserPage, covered, page_number, second_page, slot_number}
+pub use Rattle.page_words.specs.Addresses.{start_number, touched}
 pub use Rattle.page_words.specs.declared.addresses.Size.{Size}
 pub use Rattle.process_table.proofs.Overdrawn.{extra_touched}
 pub use Rattle.process_table.proofs.Placed.{page_is_user}
 pub use Rattle.process_table.specs.Calls.{access_value, after_access}
 pub use Rattle.process_table.specs.Image.{memory_of}
-pub use Rattle.process_table.specs.State.{State, is_mapped, overdrawn, room}
+pub use Rattle.process_table.specs.State.{State, is_mapped, overdrawn}
 pub use Rattle.process_table.specs.View.{View}
 pub use Rattle.process_table.specs.declared.causes.Cause.TheVariants.{Quota}
 pub use Rattle.table_walk.specs.declared.Access.{Access}

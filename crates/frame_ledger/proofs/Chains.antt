@@ -1,16 +1,16 @@
 -- The chain of free frames: what it says of the free set, and that each write of a ledger keeps it.
-use Rattle.std.proofs.Common.{◌≡◌, ◌≢◌, ℕ, zero, suc, ◌+◌, ◌-◌, ◌<◌, ◌≤◌, inl, inr, Bool, true, false, cond, not, ◌&&◌, ◌||◌, List, [], ◌∷◌, length, map, get_or, refl, sym, ap, subst, ◌∙◌, arith, replicate}
+use Rattle.std.proofs.Common.{◌≡◌, ◌≢◌, ℕ, zero, suc, ◌+◌, ◌-◌, ◌<◌, ◌≤◌, inl, inr, true, false, cond, not, ◌&&◌, ◌||◌}
+use Rattle.std.proofs.Common.{List, [], ◌∷◌, length, map, get_or, refl, sym, ap, subst, ◌∙◌, arith, replicate}
 use Rattle.std.specs.Prelude.{slice_set, AllPairs}
 use Rattle.std.specs.List.{All, range_with_len}
 use Rattle.std.proofs.lemmas.List.{get_or-set_same, get_or-set_other, length-replicate, map-set, length-map, length-set}
 use Rattle.std.proofs.lemmas.List.Elements.{All-head, All-tail, All-cons}
 use Rattle.std.proofs.lemmas.List.Kept.{AllPairs-cons}
 use Rattle.std.proofs.lemmas.List.Sums.{count_by-le-length}
-use Rattle.std.proofs.lemmas.Bool.{ne_eqb}
+use Rattle.std.proofs.lemmas.Bool.{ne_eqb, or_parts}
 use Rattle.page_words.specs.FiniteMap.{nat_order, same}
 use Rattle.page_words.specs.FiniteSet as set
 use Rattle.page_words.specs.FiniteSet.{Set}
-use Rattle.page_words.specs.Marked.{marked_numbers}
 use Rattle.page_words.proofs.MapLemmas.{contains-insert, len-insert, same_itself, same_set}
 use Rattle.page_words.proofs.SetLemmas.{contains-remove, contains-no_members, same_cases}
 use Rattle.page_words.proofs.Marks.{contains-marked, contains-within, len-marked, marked-set_true, marked-set_false}
@@ -36,14 +36,10 @@ no_member f (x ∷ frames) none =
     ]
     ∙ no_member f frames (All-tail (λ q. f ≢ q) x frames none)
 
-either_false : (a b : Bool) → (a || b) ≡ false → (a ≡ false) × (b ≡ false)
-either_false true b h = absurd (let e : true ≡ false = h in cc)
-either_false false b h = (refl, h)
-
 none_is : (f : ℕ) (frames : List ℕ) → set.contains (members frames) f ≡ false → All (λ q. f ≢ q) frames
 none_is f [] none = λ k d h. absurd (omega arith)
 none_is f (x ∷ frames) none =
-    let both = either_false (same nat_order f x) (set.contains (members frames) f) (sym (contains-insert (members frames) x f) ∙ none) in
+    let both = or_parts (same nat_order f x) (set.contains (members frames) f) (sym (contains-insert (members frames) x f) ∙ none) in
     let other : f ≢ x = λ is. (let e : true ≡ false = sym (ap (λ k. same nat_order f k) (sym is) ∙ same_itself nat_order f) ∙ both.0 in cc) in
     All-cons (λ q. f ≢ q) x frames other (none_is f frames both.1)
 
@@ -98,22 +94,18 @@ module _ (places : List ℕ) (head count : ℕ) (ledger : IsLedger places head c
 
   -- a free frame is one of 1 to n - 1
   pub free_within : (f : ℕ) → set.contains (seen_as places).free f ≡ true → (1 ≤ f) × (f < length places)
-  free_within f free =
-      let h = contains-within (map is_link places) f unmarked_0 free in
-      (h.0, omega (arith, h.1, length-map places is_link))
+  free_within f free = grind (arith, contains-within, unmarked_0, length-map)
 
   pub count_is : count ≡ set.len (seen_as places).free
   count_is =
       ledger.chain.2 ∙ sym (len-members ledger.chain.0 ledger.chain.1.once) ∙ ap set.len ledger.chain.1.each
 
   pub count_within : count ≤ 1048576
-  count_within =
-      omega (arith, count_is, len-marked (map is_link places), count_by-le-length (λ mark. mark) (map is_link places), length-map places is_link, ledger.most)
+  count_within = grind (arith, count_is, len-marked, count_by-le-length, length-map)
 
   first_free : (frames : List ℕ) → IsFreeList places head frames → head ≢ END → set.contains (seen_as places).free head ≡ true
   first_free [] list more = absurd (more list.linked)
-  first_free (x ∷ frames) list more =
-      ap (λ s. set.contains s head) (sym list.each) ∙ ap (λ k. set.contains (members (x ∷ frames)) k) list.linked.0 ∙ head_is_member x frames
+  first_free (x ∷ frames) list more = grind (arith, head_is_member)
 
   pub head_is_free : head ≢ END → set.contains (seen_as places).free head ≡ true
   head_is_free more = first_free ledger.chain.0 ledger.chain.1 more
@@ -135,17 +127,11 @@ module _ (places : List ℕ) (head count : ℕ) (ledger : IsLedger places head c
   some_free more none = let e : true ≡ false = sym (head_is_free more) ∙ contains-no_members (seen_as places).free none head in cc
 
   head_number : head ≤ 1048576
-  head_number = elim (same_cases nat_order head END) [
-    | inl is ↦ omega (arith, is.0)
-    | inr other ↦ omega (arith, (head_within other.0).1, ledger.most)
-  ]
+  head_number = grind (arith, same_cases, head_within)
 
   -- a frame put back in front
   pub seen_as-put_back : (f : ℕ) → f < length places → seen_as (slice_set places f head) ≡ with_free (seen_as places) f
-  seen_as-put_back f h =
-      let m : map is_link (slice_set places f head) ≡ slice_set (map is_link places) f true = map-set is_link places f head ∙ ap (λ b. slice_set (map is_link places) f b) (unmarked head head_number) in
-      let within : f < length (map is_link places) = omega (arith, h, length-map places is_link) in
-      λ i. record { free = (ap marked_numbers m ∙ marked-set_true (map is_link places) f within) i; frames = length-set places f head i }
+  seen_as-put_back f h = grind (arith, map-set, unmarked, head_number, length-map, marked-set_true, length-set)
 
   pub IsLedger-put_back : (f : ℕ) → 1 ≤ f → f < length places → set.contains (seen_as places).free f ≡ false → IsLedger (slice_set places f head) f (count + 1)
   IsLedger-put_back f low h in_use =
@@ -171,10 +157,7 @@ module _ (places : List ℕ) (head count : ℕ) (ledger : IsLedger places head c
 
   -- the first frame taken
   pub seen_as-take : head ≢ END → seen_as (slice_set places head IN_USE) ≡ without_free (seen_as places) head
-  seen_as-take more =
-      let m : map is_link (slice_set places head IN_USE) ≡ slice_set (map is_link places) head false = map-set is_link places head IN_USE in
-      let within : head < length (map is_link places) = omega (arith, (head_within more).1, length-map places is_link) in
-      λ i. record { free = (ap marked_numbers m ∙ marked-set_false (map is_link places) head within) i; frames = length-set places head IN_USE i }
+  seen_as-take more = grind (arith, map-set, head_within, length-map, marked-set_false, length-set)
 
   chain-take : (frames : List ℕ) → IsFreeList places head frames → (more : head ≢ END)
       → (rest : List ℕ) × IsFreeList (slice_set places head IN_USE) (number_at places head) rest × (length frames ≡ length rest + 1)
@@ -189,11 +172,7 @@ module _ (places : List ℕ) (head count : ℕ) (ledger : IsLedger places head c
         record {
           linked = IsChain-set places (number_at places head) head IN_USE frames new linked;
           once = once-tail x frames list.once;
-          each =
-              sym (remove-insert (members frames) head (no_member head frames new))
-              ∙ ap (λ k. set.remove (set.insert (members frames) k) head) list.linked.0
-              ∙ ap (λ s. set.remove s head) list.each
-              ∙ sym (ap (λ l. l.free) (seen_as-take more));
+          each = grind (arith, remove-insert, no_member, seen_as-take);
         },
         omega arith,
       )
@@ -224,12 +203,7 @@ seen_as-all_in_use n =
     }
 
 pub IsLedger-all_in_use : (n : ℕ) → 16 ≤ n → n ≤ 1048576 → IsLedger (replicate n IN_USE) END 0
-IsLedger-all_in_use n low high = record {
-  fewest = omega (arith, length-replicate n IN_USE);
-  most = omega (arith, length-replicate n IN_USE);
-  reserved = none_marked n 0;
-  chain = ([], record { linked = refl; once = λ i j d lt h. absurd (omega arith); each = sym (ap (λ l. l.free) (seen_as-all_in_use n)) }, refl);
-}
+IsLedger-all_in_use n low high = grind (arith, length-replicate, none_marked, seen_as-all_in_use)
 
 -- the frames from this one on, to the last
 abbrev pub free_from : ℕ → ℕ → FreeFrames

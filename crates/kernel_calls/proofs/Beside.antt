@@ -1,39 +1,16 @@
 -- Two slots of one group lead to one frame.
-use Rattle.std.proofs.Common.{◌≡◌, ◌<◌, ◌≤◌, ◌+◌, ◌*◌, ◌^◌, ℕ, [], length, Ok, Err, inl, inr, arith, Bool, true, false, not, ◌&&◌, ◌==◌, refl, sym, ap, subst, ◌∙◌, is_some, Option, Some, None, unwrap_or}
-use Rattle.std.specs.Prelude.{◌↔◌, IsTrue, MatchBool}
-use Rattle.std.specs.Option.{option_map, option_and_then}
-use Rattle.std.proofs.lemmas.Bool.{cases_lt}
-use Rattle.page_words.specs.Addresses.{page_number, start_number, IsUserPage}
-use Rattle.std.specs.Prelude.{◌⊎◌}
-use Rattle.phys_memory.specs.Bytes.{frame_bytes}
-use Rattle.phys_memory.proofs.Frames.{frame_past}
-use Rattle.table_walk.specs.Walk.{walk_of, not_present}
-use Rattle.table_walk.specs.declared.Access.TheVariants.{Read}
+use Rattle.kernel_calls.proofs.Prelude
+use Prelude.{◌≡◌, ◌<◌, ◌≤◌, ◌+◌, ◌*◌, ◌^◌, ℕ, [], length, Err, inl, inr, arith, Bool, true, false, not, ◌&&◌, ◌==◌}
+use Prelude.{refl, sym, ap, subst, ◌∙◌, is_some, Option, Some, None, unwrap_or, Ok, ◌↔◌, IsTrue, MatchBool, ◌⊎◌}
+use Prelude.{option_map, option_and_then, cases_lt, page_number, start_number, IsUserPage, frame_bytes, frame_past}
+use Prelude.{walk_of, Read, frame_number, is_lazy, is_lazy_at, directory_at, page_word, page_frame, CellStands}
+use Prelude.{own_frame, Slot, slot_order, Cell, cell_or_fresh, is_slot, at_page, slot_at, way_of, WaysAgree, WalksAgree}
+use Prelude.{WalkEndsBy, way_parts, from_map, owned, own_is, StandsFor, image_of, memory_of, State, is_mapped, View}
+use Prelude.{IsWellFormed, same_itself, shares, is_beside, eqb-true, eq-eqb}
 use Rattle.table_walk.specs.declared.WalkEnd.{WalkEnd}
+use Rattle.kernel_calls.proofs.Translated.{way_mapped}
 use Rattle.page_words.specs.FiniteMap as map
 use Rattle.page_words.specs.FiniteSet as set
-use Rattle.page_words.specs.Words.{frame_number, is_lazy}
-use Rattle.address_space.specs.Image.{is_lazy_at, directory_at, page_word, page_frame, CellStands, SlotStands}
-use Rattle.address_space.specs.ImageWords.{own_frame}
-use Rattle.address_space.specs.Spaces.{Slot, slot_order, Cell, fresh, cell_or_fresh, is_slot, at_page, slot_at}
-use Rattle.address_space.specs.Stays.{way_of, WaysAgree}
-use Rattle.address_space.specs.Walks.{WalksAgree, WalkEndsBy}
-use Rattle.address_space.proofs.standing.FramesStand.{way_parts}
-use Rattle.address_space.proofs.standing.Restored.{from_map}
-use Rattle.address_space.proofs.standing.TablesStand.{owned, own_is}
-use Rattle.process_table.specs.Image.{StandsFor, image_of, memory_of}
-use Rattle.process_table.specs.State.{State, is_mapped}
-use Rattle.process_table.specs.View.{View}
-use Rattle.process_table.specs.WellFormed.{IsWellFormed}
-use Rattle.page_words.proofs.MapLemmas.{same_itself}
-use Rattle.kernel_calls.specs.Authority.{shares}
-use Rattle.kernel_calls.specs.TakenBack.{is_beside}
-use Rattle.kernel_calls.proofs.Translated.{way_mapped}
-use borrow.Author.Tests.{eqb-true, eq-eqb}
-
-and_none : (b : Bool) → (b && false) ≡ false
-and_none true = refl
-and_none false = refl
 
 -- whom a slot shares its page with is mapped
 pub shares_there : (s : State) (slot other : Slot) → IsWellFormed s → shares s slot other ≡ true → is_mapped s other ≡ true
@@ -44,11 +21,7 @@ shares_there s slot other w h = by (map.get s.spaces slot) refl h
     by (Some c) is k = ap is_some ((w.cells slot c is).alike other k).1
 
 pub beside_there : (s : State) (slot other : Slot) → IsWellFormed s → is_mapped s other ≡ false → is_beside s slot other ≡ false
-beside_there s slot other w none = by (shares s slot other) refl
-  where
-    by : (b : Bool) → shares s slot other ≡ b → is_beside s slot other ≡ false
-    by false is = ap (λ b. not (is_slot slot.pid slot.page other) && b) is ∙ and_none (not (is_slot slot.pid slot.page other))
-    by true is = absurd (let k : is_mapped s other ≡ true = shares_there s slot other w is in cc)
+beside_there s slot other w none = grind (arith, shares_there)
 
 module _ (v : View) (stands : StandsFor (image_of v) v.state) (walks : WalksAgree (memory_of v) v.state.spaces)
     (ways : WaysAgree (memory_of v)) where
@@ -72,8 +45,7 @@ module _ (v : View) (stands : StandsFor (image_of v) v.state) (walks : WalksAgre
         lazy = sym (ap (λ (x : Option ℕ). unwrap_or (option_map is_lazy x) false) a.1) ∙ ways.lazy slot d f way;
         cell = c.0;
         mapped = c.1;
-        agrees = subst (λ (y : Option Cell). SlotStands (memory_of v) slot (Some a.0) y) c.1
-            (subst (λ (x : Option ℕ). SlotStands (memory_of v) slot x (map.get v.state.spaces slot)) a.1 (stands.memory.cells slot));
+        agrees = grind arith;
       }
 
   -- they share the page exactly where they lead to one frame other than frame 0
@@ -106,19 +78,7 @@ module _ (v : View) (stands : StandsFor (image_of v) v.state) (walks : WalksAgre
       framed = ap (option_and_then (own_frame 2)) b.there
 
       real_by : (f == 0) ≡ false → (k h : Bool) → (f == g) ≡ k → set.contains a.cell.holders other ≡ h → h ≡ k
-      real_by real true true one is = refl
-      real_by real true false one is = absurd (
-          let same : f ≡ g = eqb-true f g one in
-          let lazy : is_lazy b.word ≡ false = b.lazy ∙ ap (λ n. n == 0) (sym same) ∙ real in
-          let frame : page_frame (memory_of v) other ≡ Some (frame_number a.word) = framed ∙ own_is b.word lazy ∙ ap Some (b.names ∙ sym same ∙ sym a.names) in
-          let held : set.contains a.cell.holders other ≡ true = (group (a.lazy ∙ real)).1 frame in
-          cc)
-      real_by real false true one is = absurd (
-          let frame : own_frame 2 b.word ≡ Some (frame_number a.word) = sym framed ∙ (group (a.lazy ∙ real)).0 is in
-          let same : f ≡ g = sym a.names ∙ sym (owned b.word (frame_number a.word) frame).1 ∙ b.names in
-          let k : (f == g) ≡ true = eq-eqb f g same in
-          cc)
-      real_by real false false one is = refl
+      real_by real k h one is = grind (arith, eqb-true, b, a, framed, own_is, group, owned, eq-eqb)
 
       by : (z : Bool) → (f == 0) ≡ z → set.contains a.cell.holders other ≡ (not (f == 0) && (f == g))
       by true zero = alone (a.lazy ∙ zero) (set.contains a.cell.holders other) refl ∙ sym (ap (λ b. not b && (f == g)) zero)
@@ -167,16 +127,7 @@ module _ (v : View) (stands : StandsFor (image_of v) v.state) (walks : WalksAgre
           omega (arith, long, zero))
 
       by : (x : Option Cell) → x ≡ map.get v.state.spaces (at_page p page) → WalkEndsBy v.bytes d a Read (is_lazy_at (memory_of v) (slot_at p a)) x → Leads p page f
-      by None e h = absurd (let k : Ok f ≡ not_present a Read = sym walk ∙ h in cc)
-      by (Some c) e h =
-          let one : Ok h.frame ≡ Ok f = sym h.found ∙ walk in
-          let frame : h.frame ≡ f = cc in
-          let bytes : frame_bytes v.bytes f ≡ c.bytes = ap (frame_bytes v.bytes) (sym frame) ∙ h.same in
-          record {
-            mapped = ap is_some (sym e);
-            inside = held c (sym e) bytes (cases_lt f (length v.roles));
-            bytes = bytes ∙ ap (λ (x : Option Cell). (unwrap_or x (fresh (at_page p page) true)).bytes) e;
-          }
+      by x e h = grind (arith, same, held, cases_lt)
 
   -- and where it finds none, the page is not mapped
   pub page_bare : (p page d a : ℕ) (e : WalkEnd) → IsUserPage page → a ≡ start_number page → directory_at (memory_of v) p ≡ Some d
@@ -188,8 +139,7 @@ module _ (v : View) (stands : StandsFor (image_of v) v.state) (walks : WalksAgre
       sym (ap (λ n. is_mapped v.state (at_page p n)) same) ∙ by (map.get v.state.spaces (slot_at p a)) (walks p d a Read live small)
     where
       by : (x : Option Cell) → WalkEndsBy v.bytes d a Read (is_lazy_at (memory_of v) (slot_at p a)) x → is_some x ≡ false
-      by None h = refl
-      by (Some c) h = absurd (let k : Ok h.frame ≡ Err e = sym h.found ∙ walk in cc)
+      by x h = grind arith
 
 -- what is not mapped is beside nothing
 pub beside_none : (s : State) (own : Slot) (holder from at limit : ℕ) → IsWellFormed s
@@ -209,7 +159,5 @@ pub beside_up : (s : State) (own : Slot) (holder from at found : ℕ) → IsWell
     → (other : ℕ) → from ≤ other → other < found + 1 → is_beside s own (at_page holder other) ≡ false
 beside_up s own holder from at found w before bare none other up down = elim (cases_lt other found) [
   | inl below ↦ beside_none s own holder from at found w before bare other up below
-  | inr past ↦
-      let same : other ≡ found = omega (arith, past, down) in
-      ap (λ n. is_beside s own (at_page holder n)) same ∙ none
+  | inr past ↦ grind arith
 ]

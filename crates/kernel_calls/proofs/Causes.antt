@@ -1,38 +1,25 @@
 -- The first cause that applies to a call, and the first byte of an access that faults.
-use Rattle.std.proofs.Common.{◌≡◌, ℕ, zero, suc, ◌+◌, ◌<◌, ◌≤◌, ◌++◌, ◌==◌, ◌&&◌, Bool, true, false, not, List, [], ◌∷◌, refl, sym, ap, subst, ◌∙◌, Option, Some, None, is_some, is_none, unwrap_or, nat_lt, nat_le, arith, inl, inr}
-use Rattle.std.specs.Prelude.{◌⊎◌, ◌↔◌, if◌then◌else◌, find}
-use Rattle.std.specs.List.{All, range_with_len}
-use Rattle.std.specs.Option.{option_map}
-use Rattle.std.proofs.lemmas.Bool.{not-false, ltb-true, leb-true, eqb-true, lt-ltb, le-leb, eq-eqb, cases_eq, cases_lt}
-use Rattle.std.proofs.lemmas.Option.{same_Some}
-use Rattle.std.proofs.lemmas.List.Elements.{All-nil, All-cons, All-head, All-tail}
-use Rattle.page_words.specs.Addresses.{byte_count, covered, page_number, second_page, is_user_page, IsUserPage}
-use Rattle.page_words.specs.declared.addresses.Size.{Size}
-use Rattle.page_words.specs.FiniteMap as map
-use Rattle.address_space.specs.Spaces.{Slot, Cell, cell_or_fresh, fresh, cost, at_page, slot_at}
-use Rattle.quota_tree.specs.Book.{Book, given, quota_of, next_number, number_of_children}
-use Rattle.page_sharing.specs.Offers.{offer_key, pending}
-use Rattle.table_walk.specs.declared.Access.{Access}
-use Rattle.table_walk.specs.declared.Access.TheVariants.{Read, Write}
-use Rattle.table_walk.specs.Walk.{error_code}
-use Rattle.process_table.specs.State.{State, is_live, is_mapped, room, extra_cost, overdrawn, child_of}
-use Rattle.process_table.specs.Calls.{map_refusal, unmap_refusal, protect_refusal, offer_refusal, withdraw_refusal, accept_refusal, spawn_refusal, fork_refusal, exit_refusal, loaded}
-use Rattle.process_table.specs.declared.causes.Cause.{Cause}
-use Rattle.process_table.specs.declared.causes.Cause.TheVariants as cause
-use Rattle.process_table.proofs.Placed.{page_is_user}
-use Rattle.process_table.proofs.SpaceLaws.{user_page}
-use Rattle.fault_handler.specs.Plans.{outside, is_read_only, read_only, fault_or, step_of}
+use Rattle.kernel_calls.proofs.Prelude
+use Prelude.{◌≡◌, ℕ, zero, suc, ◌+◌, ◌<◌, ◌≤◌, ◌++◌, ◌==◌, ◌&&◌, Bool, true, false, not, List, [], ◌∷◌, refl, sym, ap}
+use Prelude.{subst, ◌∙◌, Option, Some, None, is_some, is_none, unwrap_or, arith, inl, inr, nat_lt, nat_le, ◌⊎◌, ◌↔◌}
+use Prelude.{if◌then◌else◌, All, range_with_len, option_map, not-false, ltb-true, leb-true, lt-ltb, le-leb, cases_eq}
+use Prelude.{cases_lt, eqb-true, eq-eqb, same_Some, All-nil, All-cons, All-tail, covered, page_number, second_page}
+use Prelude.{is_user_page, IsUserPage, Size, Slot, Cell, cell_or_fresh, fresh, cost, at_page, slot_at, Book, given}
+use Prelude.{quota_of, next_number, number_of_children, offer_key, pending, Access, Read, Write, error_code, State}
+use Prelude.{is_live, is_mapped, room, extra_cost, overdrawn, child_of, map_refusal, unmap_refusal, protect_refusal}
+use Prelude.{offer_refusal, withdraw_refusal, accept_refusal, spawn_refusal, fork_refusal, exit_refusal, loaded, Cause}
+use Prelude.{page_is_user, user_page, outside, is_read_only, read_only, fault_or, step_of, Flags, flags_of, flags_at}
+use Prelude.{IsCovered, answer, completes, refused_or, planned_or, info_of, Call, Event, Reply}
+use Rattle.std.specs.Prelude.{find}
 use Rattle.fault_handler.specs.declared.plans.PageStep.{PageStep}
+use Rattle.kernel_calls.specs.Causes.{frames_asked, causes_of, Applies, IsOutside, IsReadOnly, IsLowest, Faults}
+use Rattle.kernel_calls.specs.Causes.{CompletesUnless, RefusedByTheFirst, FaultsAtTheFirstByte}
+use Rattle.page_words.specs.FiniteMap as map
+use Rattle.process_table.specs.declared.causes.Cause.TheVariants as cause
 use Rattle.fault_handler.specs.declared.plans.Plan.TheVariants as plan
-use Rattle.kernel_calls.specs.Authority.{Flags, flags_of, flags_at}
-use Rattle.kernel_calls.specs.Causes.{frames_asked, causes_of, Applies, IsOutside, IsReadOnly, IsLowest, Faults, CompletesUnless, RefusedByTheFirst, FaultsAtTheFirstByte}
-use Rattle.kernel_calls.specs.Effects.{IsCovered}
-use Rattle.kernel_calls.specs.Machine.{answer, completes, refused_or, planned_or, info_of}
-use Rattle.kernel_calls.specs.declared.calls.Call.{Call}
 use Rattle.kernel_calls.specs.declared.calls.Call.TheVariants as call
-use Rattle.kernel_calls.specs.declared.calls.Event.{Event}
-use Rattle.kernel_calls.specs.declared.calls.Reply.{Reply}
 use Rattle.kernel_calls.specs.declared.calls.Reply.TheVariants as reply
+use Rattle.kernel_calls.proofs.UntouchedSlots.{none_in}
 
 -- ---- The first of some tests that is true
 
@@ -80,16 +67,14 @@ module _ (P : Cause → Type 0) where
   none_first (t ∷ ts) a h = by t.holds refl h (none_first ts a.rest)
     where
       by : (b : Bool) → t.holds ≡ b → (if b then Some t.names else first_of ts) ≡ None → (first_of ts ≡ None → All Fails (names_in ts)) → All Fails (t.names ∷ names_in ts)
-      by true is k later = cc
-      by false is k later = All-cons Fails t.names (names_in ts) (λ p. let x = a.first.1 p in cc) (later k)
+      by b is k later = grind arith
 
   no_first : (ts : List Test) → Agree P ts → All Fails (names_in ts) → first_of ts ≡ None
   no_first [] a h = refl
   no_first (t ∷ ts) a h = by t.holds refl (no_first ts a.rest (All-tail Fails t.names (names_in ts) h))
     where
       by : (b : Bool) → t.holds ≡ b → first_of ts ≡ None → (if b then Some t.names else first_of ts) ≡ None
-      by true is later = absurd (All-head Fails t.names (names_in ts) h (a.first.0 is))
-      by false is later = later
+      by b is later = grind arith
 
   some_first : (ts : List Test) (c : Cause) → Agree P ts → first_of ts ≡ Some c → FirstIn P (names_in ts) c
   some_first [] c a h = cc
@@ -113,11 +98,6 @@ module _ (P : Cause → Type 0) where
 
 -- ---- Calls that are no accesses
 
--- the cause of a refusal
-abbrev cause_in : Reply → Cause
-cause_in (reply.Refused c) = c
-cause_in _ = cause.NoProcess
-
 -- what is to be shown of each event
 record Settled (s : State) (e : Event) : Type 0 where
   completes : (completes (answer s e) ≡ true)
@@ -134,27 +114,20 @@ module _ (s : State) (e : Event) (ts : List Test) (r : Reply)
   P c = Applies s e.pid e.call c
 
   went : (x : Option Cause) → completes (refused_or x r) ≡ true → x ≡ None
-  went None h = refl
-  went (Some c) h = cc
+  went x h = grind arith
 
   goes : (x : Option Cause) → x ≡ None → completes (refused_or x r) ≡ true
-  goes None h = good
-  goes (Some c) h = cc
+  goes x h = grind arith
 
   stops : (x : Option Cause) (c : Cause) → refused_or x r ≡ reply.Refused c → x ≡ Some c
-  stops None c h = let a = ap completes h in cc
-  stops (Some d) c h = ap (λ y. Some (cause_in y)) h
+  stops x c h = grind arith
 
   no_fault : (x : Option Cause) (byte code : ℕ) → refused_or x r ≡ reply.Fault byte code → ⊥
-  no_fault None byte code h = let a = ap completes h in cc
-  no_fault (Some d) byte code h = cc
+  no_fault x byte code h = grind arith
 
   settled : Settled s e
   settled = record {
-    completes = (
-      λ h. (subst (All (λ c. P c → ⊥)) all (none_first P ts agree (went (first_of ts) (sym (ap completes is) ∙ h))), never),
-      λ h. ap completes is ∙ goes (first_of ts) (no_first P ts agree (subst (All (λ c. P c → ⊥)) (sym all) h.0)),
-    );
+    completes = grind (arith, none_first, went, goes, no_first);
     refused = λ c h. subst (λ cs. FirstIn P cs c) all (some_first P ts c agree (stops (first_of ts) c (sym is ∙ h)));
     faults = λ byte code. (λ h. absurd (no_fault (first_of ts) byte code (sym is ∙ h)), λ h. absurd (never byte code h.1));
   }
@@ -163,21 +136,13 @@ module _ (s : State) (e : Event) (ts : List Test) (r : Reply)
 
 -- a test turned round
 turned : (b : Bool) → (not b ≡ true) ↔ (b ≡ false)
-turned true = (λ h. cc, λ h. cc)
-turned false = (λ h. refl, λ h. refl)
+turned b = grind arith
 
 itself : (b : Bool) → (b ≡ true) ↔ (b ≡ true)
 itself b = (λ h. h, λ h. h)
 
 outside_user : (page : ℕ) → (not (is_user_page page) ≡ true) ↔ (IsUserPage page → ⊥)
-outside_user page = (
-  λ h user. let a = page_is_user page user in let b = (turned (is_user_page page)).0 h in cc,
-  λ h. by (is_user_page page) refl h,
-)
-  where
-    by : (b : Bool) → is_user_page page ≡ b → (IsUserPage page → ⊥) → not b ≡ true
-    by true is h = absurd (h (user_page page is))
-    by false is h = refl
+outside_user page = grind (arith, page_is_user, turned, user_page)
 
 less : (a b : ℕ) → (nat_lt a b ≡ true) ↔ (a < b)
 less a b = (ltb-true a b, lt-ltb a b)
@@ -206,18 +171,6 @@ withheld s slot true = by (map.get s.spaces slot)
       λ h. let f = h.1 in let same = same_Some (flags_of c) f.0 f.1 in (turned c.may).1 (ap (λ (g : Flags). g.may) same ∙ f.2),
     )
 
-first_number : (t : ℕ → Bool) (a n : ℕ) → find t (range_with_len a n) ≡ None → (k : ℕ) → a ≤ k → k < a + n → t k ≡ false
-first_number t a zero h k low high = absurd (omega (arith, low, high))
-first_number t a (suc n) h k low high = by (t a) refl h (first_number t (a + 1) n)
-  where
-    by : (b : Bool) → t a ≡ b → (if b then Some a else find t (range_with_len (a + 1) n)) ≡ None
-        → (find t (range_with_len (a + 1) n) ≡ None → (k : ℕ) → a + 1 ≤ k → k < a + 1 + n → t k ≡ false) → t k ≡ false
-    by true is none later = cc
-    by false is none later = elim (cases_eq k a) [
-      | inl same ↦ ap t same ∙ is
-      | inr apart ↦ later none k (omega (arith, low, apart)) (omega (arith, high))
-    ]
-
 record Found (t : ℕ → Bool) (a n k : ℕ) : Type 0 where
   low : a ≤ k
   high : k < a + n
@@ -230,21 +183,7 @@ found_number t a (suc n) k h = by (t a) refl h (found_number t (a + 1) n k)
   where
     by : (b : Bool) → t a ≡ b → (if b then Some a else find t (range_with_len (a + 1) n)) ≡ Some k
         → (find t (range_with_len (a + 1) n) ≡ Some k → Found t (a + 1) n k) → Found t a (suc n) k
-    by true is some later = let same = same_Some a k some in record {
-      low = omega (arith, same);
-      high = omega (arith, same);
-      passes = ap t (sym same) ∙ is;
-      first = λ j l m. absurd (omega (arith, same, l, m));
-    }
-    by false is some later = let r = later some in let x = r.low in let y = r.high in record {
-      low = omega (arith, x);
-      high = omega (arith, y);
-      passes = r.passes;
-      first = λ j l m. elim (cases_eq j a) [
-        | inl same ↦ ap t same ∙ is
-        | inr apart ↦ r.first j (omega (arith, l, apart)) m
-      ];
-    }
+    by b is some later = grind (arith, same_Some, cases_eq)
 
 no_number : (book : Book) → (is_none (next_number book) ≡ true) ↔ ((k : ℕ) → k < 64 → map.contains_key book k ≡ true)
 no_number book = by (next_number book) refl
@@ -253,38 +192,19 @@ no_number book = by (next_number book) refl
     free k = not (map.contains_key book k)
 
     by : (x : Option ℕ) → next_number book ≡ x → (is_none x ≡ true) ↔ ((k : ℕ) → k < 64 → map.contains_key book k ≡ true)
-    by None is = (λ _ k low. not-false (map.contains_key book k) (first_number free 0 64 is k (omega arith) (omega (arith, low))), λ _. refl)
-    by (Some k) is = (
-      λ h. cc,
-      λ h.
-          let r = found_number free 0 64 k is in
-          let m = r.high in
-          let there = h k (omega (arith, m)) in
-          let dead = r.passes in
-          absurd (let x = ap not there in cc),
-    )
+    by None is = (λ _ k low. not-false (map.contains_key book k) (none_in free 0 64 is k (omega arith) (omega (arith, low))), λ _. refl)
+    by (Some k) is = grind (arith, found_number, free)
 
 -- ---- Each call
 
 refused_as : (live : Bool) (x : Option Cause) (r : Reply) → (if live then refused_or x r else reply.Refused cause.NoProcess)
     ≡ refused_or (if not live then Some cause.NoProcess else x) r
-refused_as true x r = refl
-refused_as false x r = refl
+refused_as live x r = grind arith
 
 abbrev event_of : ℕ → ℕ → Call → Event
 event_of cpu p c = record { cpu = cpu; pid = p; call = c }
 
 -- ---- Accesses
-
--- the byte of a fault
-abbrev fault_byte : Reply → ℕ
-fault_byte (reply.Fault byte code) = byte
-fault_byte _ = 0
-
--- the code of a fault
-abbrev fault_code : Reply → ℕ
-fault_code (reply.Fault byte code) = code
-fault_code _ = 0
 
 module _ (access : Access) (first : PageStep) (second : Option PageStep) (r : Reply) (good : completes r ≡ true) where
   abbrev told : Bool → Option ℕ → Option ℕ → Bool → Reply
@@ -298,81 +218,15 @@ module _ (access : Access) (first : PageStep) (second : Option PageStep) (r : Re
         ↔ ((l ≡ true) × (((o ≡ Some byte) × (code ≡ error_code access false)) ⊎ ((o ≡ None) × (f ≡ Some byte) × (code ≡ error_code access true))))
 
   outcome : (l : Bool) (o f : Option ℕ) (q : Bool) → Outcome l o f q
-  outcome false o f q = record {
-    completes = (λ h. cc, λ h. let a = h.0 in cc);
-    refused = λ c h. inl (refl, sym (ap cause_in h));
-    faults = λ byte code. (λ h. cc, λ h. let a = h.0 in cc);
-  }
-  outcome true (Some a) f q = record {
-    completes = (λ h. cc, λ h. let b = h.1 in cc);
-    refused = λ c h. cc;
-    faults = λ byte code. (
-      λ h. (refl, inl (ap (λ x. Some (fault_byte x)) h, sym (ap fault_code h))),
-      λ h. elim h.1 [
-        | inl k ↦ (let b = same_Some a byte k.0 in let d = k.1 in λ i. reply.Fault (b i) (sym d i))
-        | inr k ↦ (let b = k.0 in cc)
-      ],
-    );
-  }
-  outcome true None (Some a) q = record {
-    completes = (λ h. cc, λ h. let b = h.2 in cc);
-    refused = λ c h. cc;
-    faults = λ byte code. (
-      λ h. (refl, inr (refl, ap (λ x. Some (fault_byte x)) h, sym (ap fault_code h))),
-      λ h. elim h.1 [
-        | inl k ↦ (let b = k.0 in cc)
-        | inr k ↦ (let b = same_Some a byte k.1 in let d = k.2 in λ i. reply.Fault (b i) (sym d i))
-      ],
-    );
-  }
-  outcome true None None true = record {
-    completes = (λ h. cc, λ h. let b = h.3 in cc);
-    refused = λ c h. inr (refl, refl, sym (ap cause_in h));
-    faults = λ byte code. (
-      λ h. cc,
-      λ h. elim h.1 [
-        | inl k ↦ (let b = k.0 in cc)
-        | inr k ↦ (let b = k.1 in cc)
-      ],
-    );
-  }
-  outcome true None None false = record {
-    completes = (λ h. (refl, refl, refl, refl), λ h. good);
-    refused = λ c h. (let a = sym good ∙ ap completes h in cc);
-    faults = λ byte code. (
-      λ h. (let a = sym good ∙ ap completes h in cc),
-      λ h. elim h.1 [
-        | inl k ↦ (let b = k.0 in cc)
-        | inr k ↦ (let b = k.1 in cc)
-      ],
-    );
-  }
+  outcome l o f q = grind (arith, same_Some)
 
 -- the first byte that a test finds is the first for which what it tells holds
 module _ (t : ℕ → Bool) (Q : ℕ → Type 0) (tells : (a : ℕ) → (t a ≡ true) ↔ Q a) (address : ℕ) (size : Size) where
   first_is : (byte : ℕ) → find t (covered address size) ≡ Some byte → IsLowest address size Q byte
-  first_is byte h =
-      let r = found_number t address (byte_count size) byte h in (
-        (r.low, r.high),
-        (tells byte).0 r.passes,
-        λ other inside q. elim (cases_lt other byte) [
-          | inl below ↦ absurd (let a = r.first other inside.0 below in let b = (tells other).1 q in cc)
-          | inr least ↦ least
-        ],
-      )
+  first_is byte h = grind (arith, found_number, cases_lt)
 
   is_first : (byte : ℕ) → IsLowest address size Q byte → find t (covered address size) ≡ Some byte
-  is_first byte h = by (find t (covered address size)) refl
-    where
-      by : (x : Option ℕ) → find t (covered address size) ≡ x → x ≡ Some byte
-      by None is = absurd (let a = first_number t address (byte_count size) is byte h.0.0 h.0.1 in let b = (tells byte).1 h.1 in cc)
-      by (Some a) is =
-          let r = found_number t address (byte_count size) a is in
-          let least = h.2 a (r.low, r.high) ((tells a).0 r.passes) in
-          elim (cases_lt byte a) [
-            | inl below ↦ absurd (let x = r.first byte h.0.0 below in let y = (tells byte).1 h.1 in cc)
-            | inr above ↦ ap Some (omega (arith, least, above))
-          ]
+  is_first byte h = grind (arith, none_in, found_number, cases_lt)
 
 -- a slot is mapped without the right to write
 read_only_at : (s : State) (slot : Slot) → (is_read_only s slot ≡ true) ↔ ((f : Flags) × (flags_at s slot ≡ Some f) × (f.write ≡ false))
@@ -397,17 +251,10 @@ module _ (address : ℕ) (size : Size) where
   outside_tells byte = outside_user (page_number byte)
 
   all_inside : outside address size ≡ None → AllInside
-  all_inside none other inside = user_page (page_number other)
-      (not-false (is_user_page (page_number other)) (first_number is_outside address (byte_count size) none other inside.0 inside.1))
+  all_inside none other inside = grind (arith, user_page, not-false, none_in)
 
   none_outside : AllInside → outside address size ≡ None
-  none_outside all = by (outside address size) refl
-    where
-      by : (x : Option ℕ) → outside address size ≡ x → x ≡ None
-      by None is = refl
-      by (Some a) is =
-          let r = found_number is_outside address (byte_count size) a is in
-          absurd ((outside_tells a).0 r.passes (all a (r.low, r.high)))
+  none_outside all = grind (arith, found_number, outside_tells)
 
 -- what is to be shown of an access
 module _ (s : State) (e : Event) (access : Access) (o f : Option ℕ) (r : Reply) (good : completes r ≡ true)
@@ -435,14 +282,10 @@ module _ (s : State) (e : Event) (access : Access) (o f : Option ℕ) (r : Reply
   Clear = All (λ c. A c → ⊥) (cause.NoProcess ∷ cause.Quota ∷ [])
 
   clear : l ≡ true → q ≡ false → Clear
-  clear live enough = All-cons (λ c. A c → ⊥) cause.NoProcess (cause.Quota ∷ []) (λ dead. cc)
-      (All-cons (λ c. A c → ⊥) cause.Quota [] (λ more. let a = asks_more.1 more in cc) (All-nil (λ c. A c → ⊥)))
+  clear live enough = grind (arith, asks_more)
 
   goes_on : (o ≡ None) × (f ≡ None) → (byte code : ℕ) → Faults s e.pid e.call byte code → ⊥
-  goes_on none byte code h = elim ((faulting byte code).0 h) [
-    | inl k ↦ (let a = none.0 in let b = k.0 in cc)
-    | inr k ↦ (let a = none.1 in let b = k.1 in cc)
-  ]
+  goes_on none byte code h = grind arith
 
   no_byte : ((byte code : ℕ) → Faults s e.pid e.call byte code → ⊥) → (o ≡ None) × (f ≡ None)
   no_byte never = by o refl f refl
@@ -453,18 +296,10 @@ module _ (s : State) (e : Event) (access : Access) (o f : Option ℕ) (r : Reply
       by None i None j = (refl, refl)
 
   live_by : Clear → l ≡ true
-  live_by clear = by l refl
-    where
-      by : (b : Bool) → l ≡ b → b ≡ true
-      by true i = refl
-      by false i = absurd (All-head (λ c. A c → ⊥) cause.NoProcess (cause.Quota ∷ []) clear i)
+  live_by clear = grind arith
 
   room_by : Clear → q ≡ false
-  room_by clear = by q refl
-    where
-      by : (b : Bool) → q ≡ b → b ≡ false
-      by false i = refl
-      by true i = absurd (All-head (λ c. A c → ⊥) cause.Quota [] (All-tail (λ c. A c → ⊥) cause.NoProcess (cause.Quota ∷ []) clear) (asks_more.0 i))
+  room_by clear = grind (arith, asks_more)
 
   settled_access : Settled s e
   settled_access = record {

@@ -1,39 +1,23 @@
 -- What clearing accessed and dirty of a slot leaves and breaks.
-use Rattle.std.proofs.Common.{◌≡◌, ◌≢◌, ℕ, ◌^◌, ◌<◌, not, Bool, true, false, [], ◌∷◌, refl, sym, ap, ◌∙◌, is_some, Option, Some, None, unwrap_or, arith, inl, inr}
-use Rattle.std.specs.Prelude.{if◌then◌else◌}
-use Rattle.std.specs.Option.{option_map}
-use Rattle.page_words.specs.FiniteMap as map
-use Rattle.page_words.specs.FiniteSet as set
-use Rattle.page_words.specs.Addresses.{page_number, start_number}
-use Rattle.page_words.proofs.OptionLemmas.{some_value}
-use Rattle.page_words.proofs.MapLemmas.{same_itself}
-use Rattle.page_words.proofs.SetLemmas.{same_cases}
-use Rattle.std.proofs.lemmas.Option.{same_Some}
-use Rattle.table_walk.specs.Walk.{walk_of}
-use Rattle.address_space.specs.Stays.{FramesStay, none_goes}
-use Rattle.address_space.proofs.costs.AccessCosts.{kept}
-use Rattle.process_table.specs.Image.{memory_of}
-use Rattle.table_walk.specs.declared.Access.TheVariants.{Read, Write}
-use Rattle.address_space.specs.Spaces.{Slot, slot_order, Cell, fresh, cell_or_fresh, is_slot, at_page, slot_at}
-use Rattle.process_table.specs.State.{State, is_live, is_mapped}
-use Rattle.process_table.specs.View.{View}
-use Rattle.process_table.specs.declared.causes.Cause.TheVariants as cause
-use Rattle.process_table.proofs.CellLaws.{get-inserted, get-inserted_other}
-use Rattle.process_table.proofs.Placed.{page_is_user}
+use Rattle.kernel_calls.proofs.Prelude
+use Prelude.{◌≡◌, ◌≢◌, ℕ, ◌^◌, ◌<◌, not, Bool, true, false, [], ◌∷◌, refl, sym, ap, ◌∙◌, is_some, Option, Some, None}
+use Prelude.{unwrap_or, arith, if◌then◌else◌, option_map, page_number, start_number, some_value, same_itself}
+use Prelude.{same_cases, same_Some, walk_of, FramesStay, none_goes, kept, memory_of, Read, Write, Slot, slot_order}
+use Prelude.{Cell, fresh, cell_or_fresh, is_slot, at_page, slot_at, State, is_live, is_mapped, View, get-inserted}
+use Prelude.{get-inserted_other, page_is_user, cleaned, EndsMarks, answer, refused_or, info_of, info_of_page, is_ended}
+use Prelude.{Translation, IsGiven, Kept, translation, directory_entry, IsRead, AreRead, is_invalidated, left_by, Reply}
+use Prelude.{Ended}
+use Rattle.kernel_calls.specs.Cleaned.{CleaningKeepsStates, CleaningIsUnseen, EventsEndMarks, KeptThroughMarks}
+use Rattle.kernel_calls.specs.Cleaned.{KeptAmongMarks, CleaningIsNoEvent, CleaningShows}
 use Rattle.process_table.proofs.SpaceLaws.{well_formed-cleaned}
-use Rattle.kernel_calls.specs.Authority.{flags_of, shown_of}
-use Rattle.kernel_calls.specs.Cleaned.{cleaned, CleaningKeepsStates, CleaningIsUnseen, EndsMarks, EventsEndMarks, KeptThroughMarks, KeptAmongMarks, CleaningIsNoEvent, CleaningShows}
-use Rattle.kernel_calls.specs.Machine.{answer, refused_or, info_of}
-use Rattle.kernel_calls.specs.TakenBack.{info_of_page}
-use Rattle.kernel_calls.specs.Translations.{is_ended, Translation, IsGiven, Kept, translation, directory_entry, IsRead, AreRead, is_invalidated, left_by}
-use Rattle.kernel_calls.specs.declared.calls.Reply.{Reply}
-use Rattle.kernel_calls.specs.declared.calls.Reply.TheVariants as reply
-use Rattle.kernel_calls.specs.declared.translations.Ended.{Ended}
-use Rattle.kernel_calls.specs.declared.translations.Ended.TheVariants as end
 use Rattle.kernel_calls.proofs.Flags.{has}
 use Rattle.kernel_calls.proofs.Leaving.{Standing, entry_left, through}
 use Rattle.kernel_calls.proofs.Linked.{mapped_way, tables_map}
 use Rattle.kernel_calls.proofs.Translated.{walk_takes, walk_finds, has_right}
+use Rattle.page_words.specs.FiniteMap as map
+use Rattle.process_table.specs.declared.causes.Cause.TheVariants as cause
+use Rattle.kernel_calls.specs.declared.calls.Reply.TheVariants as reply
+use Rattle.kernel_calls.specs.declared.translations.Ended.TheVariants as end
 
 -- the cell without its marks
 abbrev clean : Cell → Cell
@@ -48,44 +32,19 @@ module _ (s : State) (slot : Slot) (c : Cell) (at : map.get s.spaces slot ≡ So
 
   -- what does not tell of the marks is the same at each slot
   same_at : {A : Type 0} (f : Cell → A) → f (clean c) ≡ f c → (q : Slot) → option_map f (map.get s.spaces q) ≡ option_map f (map.get (cleaned s slot).spaces q)
-  same_at f same q = elim (same_cases slot_order q slot) [
-    | inl is ↦ ap (λ x. option_map f (map.get s.spaces x)) is.0 ∙ ap (option_map f) at ∙ ap Some (sym same) ∙ sym (ap (option_map f) get_clean)
-        ∙ ap (λ x. option_map f (map.get (cleaned s slot).spaces x)) (sym is.0)
-    | inr other ↦ sym (ap (option_map f) (get-inserted_other s.spaces slot (clean (cell_or_fresh s.spaces slot)) q other.0))
-  ]
+  same_at f same q = grind (arith, same_cases, get_clean, get-inserted_other)
 
 pub cleaning_keeps_states : CleaningKeepsStates
 cleaning_keeps_states = well_formed-cleaned
 
 pub cleaning_is_unseen : CleaningIsUnseen
-cleaning_is_unseen s slot Q mapped none = record {
-  standing = λ q h. refl;
-  families = λ p q h k n. refl;
-  flags = λ q h. sym (ap (option_map flags_of) (get-inserted_other s.spaces slot (clean (cell_or_fresh s.spaces slot)) q (λ e. let f : Q q.pid ≡ false = ap (λ (x : Slot). Q x.pid) e ∙ none in cc)));
-  offers = λ key h. refl;
-  pages = λ q h. same_at s slot c.0 c.1 shown_of refl q;
-  same_page = λ q other h k. ap (λ (x : Option Bool). unwrap_or x false) (same_at s slot c.0 c.1 (λ (x : Cell). set.contains x.holders other) refl q);
-}
-  where
-    c : (d : Cell) × (map.get s.spaces slot ≡ Some d)
-    c = some_value (map.get s.spaces slot) mapped
+cleaning_is_unseen s slot h mapped none = grind (arith, get-inserted_other, same_at, some_value)
 
 pub events_end_marks : EventsEndMarks
-events_end_marks ended v w ends = record {
-  translations = ends.translations;
-  slots = ends.slots;
-  flags = λ slot c d spared. ends.flags slot c d;
-  directories = ends.directories;
-  tables = ends.tables;
-  linked = ends.linked;
-}
+events_end_marks ended v w ends = grind arith
 
 pub cleaning_is_no_event : CleaningIsNoEvent
-cleaning_is_no_event s slot c ended v w at marked before after ends =
-    let was : map.get v.state.spaces slot ≡ Some c = ap (λ (x : State). map.get x.spaces slot) before ∙ at in
-    let is : map.get w.state.spaces slot ≡ Some (clean c) = ap (λ (x : State). map.get x.spaces slot) after ∙ get_clean s slot c at in
-    let k : false ≡ true = (ends.flags slot c (clean c) was is).0 marked in
-    cc
+cleaning_is_no_event s slot c ended v w at marked before after ends = grind (arith, get_clean)
 
 pub cleaning_shows : CleaningShows
 cleaning_shows s p page c w at marked same =
@@ -168,13 +127,8 @@ cleaning_ends v w p page now later mapped state stay = record {
             let right = has_right v now.image now.walks now.ways slot (walk_takes v now.image now.walks now.ways q d a f live small (ap (walk_of v.bytes d a) (sym is) ∙ walk)) in
             (sym (writes slot) ∙ right.0, later.ways.lazy slot d f way' ∙ sym (now.ways.lazy slot d f way) ∙ right.1)),
       );
-  slots = λ slot spared there. ap (λ (t : State). is_mapped t slot) state
-      ∙ kept v.state.spaces (at_page p page) (clean (cell_or_fresh v.state.spaces (at_page p page))) mapped slot ∙ there;
-  flags = λ slot c d spared was is.
-      let same : map.get w.state.spaces slot ≡ map.get v.state.spaces slot = ap (λ (t : State). map.get t.spaces slot) state
-      ∙ get-inserted_other v.state.spaces (at_page p page) (clean (cell_or_fresh v.state.spaces (at_page p page))) slot (apart slot spared) in
-      let one : c ≡ d = same_Some c d (sym was ∙ sym same ∙ is) in
-      (λ h. ap (λ (x : Cell). x.accessed) (sym one) ∙ h, λ h. ap (λ (x : Cell). x.dirty) (sym one) ∙ h);
+  slots = grind (arith, there, kept);
+  flags = grind (arith, get-inserted_other, apart, same_Some);
   directories = λ q d some live. stay.directories q d (record { page = 0; frame = 1; stays = refl }) live;
   tables = λ slot t spared there linked.
       let way = mapped_way v now.image slot there in
@@ -186,8 +140,7 @@ cleaning_ends v w p page now later mapped state stay = record {
     c0 = some_value (map.get v.state.spaces (at_page p page)) mapped
 
     told : (x : Option Cell) → has (λ c. c.write) x ≡ unwrap_or (option_map (λ (c : Cell). c.write) x) false
-    told None = refl
-    told (Some c) = refl
+    told x = grind arith
 
     writes : (slot : Slot) → has (λ c. c.write) (map.get v.state.spaces slot) ≡ has (λ c. c.write) (map.get w.state.spaces slot)
     writes slot = told (map.get v.state.spaces slot)

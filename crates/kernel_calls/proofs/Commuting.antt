@@ -1,33 +1,24 @@
 -- Changes of slots of one process and accesses of another, in either order.
-use Rattle.std.proofs.Common.{◌≡◌, ◌≢◌, ℕ, suc, ◌+◌, ◌<◌, Bool, true, false, cond, List, [], ◌∷◌, length, refl, ap, sym, ◌∙◌, subst, arith, inl, inr, Option, Some, None, unwrap_or}
-use Rattle.std.specs.Prelude.{◌⊎◌, if◌then◌else◌, is_some}
-use Rattle.std.specs.Option.{option_map}
-use Rattle.page_words.specs.Addresses.{page_number, offset_number}
-use Rattle.page_words.specs.FiniteMap as map
-use Rattle.page_words.specs.FiniteMap.{same}
-use Rattle.page_words.specs.FiniteSet as set
-use Rattle.page_words.specs.FiniteSet.{Set}
-use Rattle.page_words.proofs.MapLemmas.{same-true, same_or_not, same_map, get-insert, get-map_values}
-use Rattle.page_words.proofs.SetLemmas.{same_cases}
-use Rattle.address_space.specs.Spaces.{Slot, slot_order, Cell, Spaces, at_page, slot_at, cell_or_fresh, fresh, with_bytes, set_bytes, write_at, store_in, stored, all_stored, accessed, all_accessed, with_page, with_pages}
-use Rattle.address_space.proofs.entries.Refinement.{insert_there}
-use Rattle.process_table.proofs.CellLaws.{get-inserted, get-inserted_other}
+use Rattle.kernel_calls.proofs.Prelude
+use Prelude.{◌≡◌, ◌≢◌, ℕ, suc, ◌+◌, ◌<◌, Bool, true, false, cond, List, [], ◌∷◌, length, refl, ap, sym, ◌∙◌, subst}
+use Prelude.{arith, Option, Some, None, unwrap_or, is_some, ◌⊎◌, if◌then◌else◌, option_map, page_number, offset_number}
+use Prelude.{same, Set, same-true, same_or_not, same_map, get-insert, get-map_values, same_cases, Slot, slot_order}
+use Prelude.{Cell, Spaces, at_page, slot_at, cell_or_fresh, fresh, with_bytes, set_bytes, write_at, store_in, stored}
+use Prelude.{all_stored, accessed, all_accessed, with_page, with_pages, insert_there, get-inserted, get-inserted_other}
 use Rattle.kernel_calls.proofs.UntouchedSlots.{holders_stored}
+use Rattle.page_words.specs.FiniteMap as map
+use Rattle.page_words.specs.FiniteSet as set
 
 -- one slot changes, by what stands there
 abbrev pub at_slot : Slot → (Option Cell → Cell) → Spaces → Spaces
 at_slot a f S = map.insert S a (f (map.get S a))
 
 swap_cond : {X : Type 0} (A B : Bool) (x y g : X) → (A ≡ true → B ≡ true → ⊥) → cond A x (cond B y g) ≡ cond B y (cond A x g)
-swap_cond true true x y g not = absurd (not refl refl)
-swap_cond true false x y g not = refl
-swap_cond false true x y g not = refl
-swap_cond false false x y g not = refl
+swap_cond A B x y g not = grind arith
 
 pub unchanged : (g : Option Cell) (bytes : List ℕ) (b : Bool) → b ≡ false
     → option_map (λ (c : Cell). if b then with_bytes c bytes else c) g ≡ g
-unchanged None bytes b h = refl
-unchanged (Some c) bytes b h = ap (λ k. Some (if k then with_bytes c bytes else c)) h
+unchanged g bytes b h = grind arith
 
 module _ (a b : Slot) (apart : a ≢ b) where
   back : b ≢ a
@@ -43,12 +34,7 @@ module _ (a b : Slot) (apart : a ≢ b) where
 
   -- two slots change
   pub two_slots : (f g : Option Cell → Cell) (S : Spaces) → at_slot a f (at_slot b g S) ≡ at_slot b g (at_slot a f S)
-  two_slots f g S =
-      ap (λ (z : Option Cell). map.insert (map.insert S b (g (map.get S b))) a (f z))
-      (get-inserted_other S b (g (map.get S b)) a apart)
-      ∙ swap S (f (map.get S a)) (g (map.get S b))
-      ∙ sym (ap (λ (z : Option Cell). map.insert (map.insert S a (f (map.get S a))) b (g z))
-      (get-inserted_other S a (f (map.get S a)) b back))
+  two_slots f g S = grind (arith, get-inserted_other, swap, back)
 
   -- a slot changes that is in no group that is written
   pub group_apart : (S : Spaces) (h : Set slot_order) (bytes : List ℕ) (x : Cell) → set.contains h a ≡ false
@@ -66,13 +52,7 @@ module _ (a b : Slot) (apart : a ≢ b) where
       middle : (r : Slot) → ((r ≡ a) × (same slot_order r a ≡ true)) ⊎ (same slot_order r a ≡ false)
           → option_map (change r) (cond (same slot_order r a) (Some x) (map.get S r))
           ≡ cond (same slot_order r a) (Some x) (option_map (change r) (map.get S r))
-      middle r (inl is) =
-          ap (λ k. option_map (change r) (cond k (Some x) (map.get S r))) is.1
-          ∙ unchanged (Some x) bytes (set.contains h r) (ap (set.contains h) is.0 ∙ none)
-          ∙ sym (ap (λ k. cond k (Some x) (option_map (change r) (map.get S r))) is.1)
-      middle r (inr other) =
-          ap (λ k. option_map (change r) (cond k (Some x) (map.get S r))) other
-          ∙ sym (ap (λ k. cond k (Some x) (option_map (change r) (map.get S r))) other)
+      middle r h = grind (arith, change, unchanged)
 
   pub stored_apart : (f : Option Cell → Cell) (S : Spaces) (at : ℕ) (ys : List ℕ)
       → set.contains (cell_or_fresh S b).holders a ≡ false → stored (at_slot a f S) b at ys ≡ at_slot a f (stored S b at ys)
@@ -112,23 +92,11 @@ page_is S q page = by (map.get S (at_page q page)) refl
     by None is =
         ap (λ (z : Option Cell). if is_some z then S else map.insert S (at_page q page) (fresh (at_page q page) true)) is
         ∙ sym (ap (λ (z : Option Cell). map.insert S (at_page q page) (unwrap_or z (fresh (at_page q page) true))) is)
-    by (Some c) is =
-        ap (λ (z : Option Cell). if is_some z then S else map.insert S (at_page q page) (fresh (at_page q page) true)) is
-        ∙ sym (insert_there S (at_page q page) c is)
-        ∙ sym (ap (λ (z : Option Cell). map.insert S (at_page q page) (unwrap_or z (fresh (at_page q page) true))) is)
+    by (Some c) is = grind (arith, insert_there)
 
 -- and leaves each cell, or what would be there
 pub cell_paged : (S : Spaces) (q page : ℕ) (x : Slot) → cell_or_fresh (with_page S q page) x ≡ cell_or_fresh S x
-cell_paged S q page x =
-    ap (λ (T : Spaces). cell_or_fresh T x) (page_is S q page)
-    ∙ elim (same_cases slot_order x (at_page q page)) [
-      | inl here ↦ ap (cell_or_fresh (at_slot (at_page q page) (λ x. unwrap_or x (fresh (at_page q page) true)) S)) here.0
-          ∙ ap (λ (z : Option Cell). unwrap_or z (fresh (at_page q page) true))
-          (get-inserted S (at_page q page) (cell_or_fresh S (at_page q page)))
-          ∙ sym (ap (cell_or_fresh S) here.0)
-      | inr other ↦ ap (λ (z : Option Cell). unwrap_or z (fresh x true))
-          (get-inserted_other S (at_page q page) (cell_or_fresh S (at_page q page)) x other.0)
-    ]
+cell_paged S q page x = grind (arith, page_is, same_cases, get-inserted, get-inserted_other)
 
 pub cell_pages : (pages : List ℕ) (S : Spaces) (q : ℕ) (x : Slot) → cell_or_fresh (with_pages S q pages) x ≡ cell_or_fresh S x
 cell_pages [] S q x = refl

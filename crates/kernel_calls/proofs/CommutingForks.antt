@@ -1,18 +1,14 @@
 -- Pages that are copied to a new process, and accesses of another, in either order.
-use Rattle.std.proofs.Common.{◌≡◌, ◌≢◌, ℕ, suc, ◌+◌, ◌<◌, Bool, true, false, cond, List, [], ◌∷◌, length, refl, ap, sym, ◌∙◌, subst, arith, inl, inr, Option, Some, unwrap_or, ne_eqb, eqb-true}
-use Rattle.std.specs.Prelude.{◌⊎◌, if◌then◌else◌}
-use Rattle.std.specs.Option.{option_map}
-use Rattle.page_words.specs.Addresses.{offset_number}
-use Rattle.page_words.specs.FiniteMap as map
-use Rattle.page_words.specs.FiniteMap.{same}
-use Rattle.page_words.specs.FiniteSet as set
-use Rattle.page_words.specs.FiniteSet.{Set}
-use Rattle.page_words.proofs.MapLemmas.{same_map, same_or_not, get-insert, get-map_values}
-use Rattle.address_space.specs.Spaces.{Slot, slot_order, Cell, Spaces, at_page, slot_at, cell_or_fresh, fresh, with_bytes, set_bytes, write_at, store_in, stored, all_stored, accessed, all_accessed, with_page, with_pages, copy_of, copied, is_of}
-use Rattle.address_space.proofs.costs.Copied.{get-copied, copied-other}
-use Rattle.process_table.proofs.CellLaws.{get-inserted_other}
+use Rattle.kernel_calls.proofs.Prelude
+use Prelude.{◌≡◌, ◌≢◌, ℕ, suc, ◌+◌, ◌<◌, Bool, true, false, cond, List, [], ◌∷◌, length, refl, ap, sym, ◌∙◌, subst}
+use Prelude.{arith, Option, Some, unwrap_or, ne_eqb, eqb-true, ◌⊎◌, if◌then◌else◌, option_map, offset_number, same, Set}
+use Prelude.{same_map, same_or_not, get-insert, get-map_values, Slot, slot_order, Cell, Spaces, at_page, slot_at}
+use Prelude.{cell_or_fresh, fresh, with_bytes, set_bytes, write_at, store_in, stored, all_stored, accessed}
+use Prelude.{all_accessed, with_page, with_pages, copy_of, copied, is_of, get-copied, copied-other, get-inserted_other}
 use Rattle.kernel_calls.proofs.Commuting.{at_slot, unchanged, page_is, cell_pages}
 use Rattle.kernel_calls.proofs.CommutingStores.{group_at, group_stored}
+use Rattle.page_words.specs.FiniteMap as map
+use Rattle.page_words.specs.FiniteSet as set
 
 module _ (p k : ℕ) (b : Slot) (other : b.pid ≢ p) (old : b.pid ≢ k) where
   copy_beside : (g : Option Cell → Cell) (S : Spaces) → copied (at_slot b g S) p k ≡ at_slot b g (copied S p k)
@@ -29,24 +25,7 @@ module _ (p k : ℕ) (b : Slot) (other : b.pid ≢ p) (old : b.pid ≢ k) where
       by : (r : Slot) (j : Bool) → is_of k r ≡ j → ((r ≡ b) × (same slot_order r b ≡ true)) ⊎ (same slot_order r b ≡ false)
           → (if is_of k r then option_map (copy_of r) (map.get (at_slot b g S) (at_page p r.page)) else map.get (at_slot b g S) r)
           ≡ cond (same slot_order r b) (Some y) (if is_of k r then option_map (copy_of r) (map.get S (at_page p r.page)) else map.get S r)
-      by r true is (inl here) = absurd (
-          let no : is_of k r ≡ false = ap (is_of k) here.0 ∙ ne_eqb b.pid k old in
-          let e : true ≡ false = sym is ∙ no in
-          cc)
-      by r true is (inr apart) =
-          ap (λ c. if c then option_map (copy_of r) (map.get (at_slot b g S) (at_page p r.page)) else map.get (at_slot b g S) r) is
-          ∙ ap (option_map (copy_of r)) (get-inserted_other S b y (at_page p r.page) (λ e. other (sym (ap (λ (x : Slot). x.pid) e))))
-          ∙ sym (ap (λ c. if c then option_map (copy_of r) (map.get S (at_page p r.page)) else map.get S r) is)
-          ∙ sym (ap (λ c. cond c (Some y) (if is_of k r then option_map (copy_of r) (map.get S (at_page p r.page)) else map.get S r)) apart)
-      by r false is (inl here) =
-          ap (λ c. if c then option_map (copy_of r) (map.get (at_slot b g S) (at_page p r.page)) else map.get (at_slot b g S) r) is
-          ∙ get-insert S b y r ∙ ap (λ c. cond c (Some y) (map.get S r)) here.1
-          ∙ sym (ap (λ c. cond c (Some y) (if is_of k r then option_map (copy_of r) (map.get S (at_page p r.page)) else map.get S r)) here.1)
-      by r false is (inr apart) =
-          ap (λ c. if c then option_map (copy_of r) (map.get (at_slot b g S) (at_page p r.page)) else map.get (at_slot b g S) r) is
-          ∙ get-insert S b y r ∙ ap (λ c. cond c (Some y) (map.get S r)) apart
-          ∙ sym (ap (λ c. if c then option_map (copy_of r) (map.get S (at_page p r.page)) else map.get S r) is)
-          ∙ sym (ap (λ c. cond c (Some y) (if is_of k r then option_map (copy_of r) (map.get S (at_page p r.page)) else map.get S r)) apart)
+      by r j is h = grind (arith, ne_eqb, at_slot, get-inserted_other, y, get-insert)
 
 -- bytes of a group that has none of the two processes
 abbrev pub Without : Set slot_order → ℕ → ℕ → Type 0
@@ -74,11 +53,7 @@ copy_bytes S p k h ys none = same_map _ _ (λ r.
         (ap (λ n. set.contains h (at_page n r.page)) (eqb-true r.pid k is) ∙ none.1 r.page))
         ∙ sym (ap (λ c. option_map (λ (c : Cell). if set.contains h r then with_bytes c ys else c)
         (if c then option_map (copy_of r) (map.get S (at_page p r.page)) else map.get S r)) is)
-    by r false is =
-        ap (λ c. if c then option_map (copy_of r) (map.get (set_bytes S h ys) (at_page p r.page)) else map.get (set_bytes S h ys) r) is
-        ∙ read r
-        ∙ sym (ap (λ c. option_map (λ (c : Cell). if set.contains h r then with_bytes c ys else c)
-        (if c then option_map (copy_of r) (map.get S (at_page p r.page)) else map.get S r)) is)
+    by r false is = grind (arith, read)
 
 copy_stored : (p k : ℕ) (b : Slot) → b.pid ≢ p → b.pid ≢ k → (S : Spaces) (at : ℕ) (ys : List ℕ) → Without (group_at S b) p k
     → copied (stored S b at ys) p k ≡ stored (copied S p k) b at ys

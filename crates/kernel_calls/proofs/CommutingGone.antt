@@ -1,16 +1,14 @@
 -- Slots of one process that go, and accesses of another, in either order.
-use Rattle.std.proofs.Common.{◌≡◌, ℕ, ◌+◌, Bool, true, false, not, cond, ◌&&◌, List, [], ◌∷◌, refl, ap, sym, ◌∙◌, subst, inl, inr, Option, Some, None, unwrap_or}
-use Rattle.std.specs.Prelude.{◌⊎◌, if◌then◌else◌}
-use Rattle.std.specs.Option.{option_map}
-use Rattle.page_words.specs.Addresses.{page_number, offset_number}
-use Rattle.page_words.specs.FiniteMap as map
-use Rattle.page_words.specs.FiniteMap.{same}
-use Rattle.page_words.specs.FiniteSet as set
-use Rattle.page_words.specs.FiniteSet.{Set}
-use Rattle.page_words.proofs.MapLemmas.{same_map, same_set, same_or_not, get-insert, get-retain_keys, get-map_values, contains-retain}
-use Rattle.address_space.specs.Spaces.{Slot, slot_order, Cell, Spaces, at_page, slot_at, cell_or_fresh, fresh, with_bytes, with_holders, set_bytes, write_at, stored, all_stored, accessed, all_accessed, with_page, with_pages, without}
+use Rattle.kernel_calls.proofs.Prelude
+use Prelude.{◌≡◌, ℕ, ◌+◌, Bool, true, false, not, cond, ◌&&◌, List, [], ◌∷◌, refl, ap, sym, ◌∙◌, subst, Option, Some}
+use Prelude.{None, unwrap_or, arith, ◌⊎◌, if◌then◌else◌, option_map, page_number, offset_number, same, Set, same_map}
+use Prelude.{same_set, same_or_not, get-insert, get-retain_keys, get-map_values, contains-retain, Slot, slot_order}
+use Prelude.{Cell, Spaces, at_page, slot_at, cell_or_fresh, fresh, with_bytes, with_holders, set_bytes, write_at}
+use Prelude.{stored, all_stored, accessed, all_accessed, with_page, with_pages, without}
 use Rattle.kernel_calls.proofs.Commuting.{at_slot, page_is, cell_paged, cell_pages}
 use Rattle.kernel_calls.proofs.CommutingStores.{group_at, group_stored}
+use Rattle.page_words.specs.FiniteMap as map
+use Rattle.page_words.specs.FiniteSet as set
 
 -- none of the slots that go is in a group
 abbrev pub NoneOf : (Slot → Bool) → Set slot_order → Type 0
@@ -20,8 +18,7 @@ kept_all : (gone : Slot → Bool) (g : Set slot_order) → NoneOf gone g → set
 kept_all gone g none = same_set _ _ (λ x. contains-retain g (λ y. not (gone y)) x ∙ by x (set.contains g x) refl)
   where
     by : (x : Slot) (b : Bool) → set.contains g x ≡ b → (b && not (gone x)) ≡ b
-    by x false is = refl
-    by x true is = ap not (none x is)
+    by x b is = grind arith
 
 -- a cell without them
 abbrev pub fewer : (Slot → Bool) → Cell → Cell
@@ -49,41 +46,15 @@ module _ (gone : Slot → Bool) (b : Slot) (stays : gone b ≡ false) where
       ∙ ap (cond (same slot_order r b) (Some (g (map.get S b)))) (get_gone S gone r)))
     where
       there : (z : Option Cell) → map.get S b ≡ z → map.get (without S gone) b ≡ map.get S b
-      there None is =
-          get_gone S gone b ∙ ap (λ k. option_map (fewer gone) (cond (not k) (map.get S b) None)) stays
-          ∙ ap (option_map (fewer gone)) is ∙ sym is
-      there (Some c) is =
-          get_gone S gone b ∙ ap (λ k. option_map (fewer gone) (cond (not k) (map.get S b) None)) stays
-          ∙ ap (option_map (fewer gone)) is
-          ∙ ap (λ (k : Cell). Some k) (fewer_same gone c
-          (subst (NoneOf gone) (ap (λ (z : Option Cell). (unwrap_or z (fresh b true)).holders) is) none))
-          ∙ sym is
+      there z is = grind (arith, get_gone, fewer_same)
 
       by : (r : Slot) → ((r ≡ b) × (same slot_order r b ≡ true)) ⊎ (same slot_order r b ≡ false)
           → option_map (fewer gone) (cond (not (gone r)) (cond (same slot_order r b) (Some (g (map.get S b))) (map.get S r)) None)
           ≡ cond (same slot_order r b) (Some (g (map.get S b))) (option_map (fewer gone) (cond (not (gone r)) (map.get S r) None))
-      by r (inl is) =
-          (λ i. option_map (fewer gone) (cond (not (gone (is.0 i))) (cond (is.1 i) (Some (g (map.get S b))) (map.get S r)) None))
-          ∙ ap (λ k. option_map (fewer gone) (cond (not k) (Some (g (map.get S b))) None)) stays
-          ∙ ap (λ (k : Cell). Some k) (fewer_same gone (g (map.get S b)) new)
-          ∙ sym (ap (λ k. cond k (Some (g (map.get S b))) (option_map (fewer gone) (cond (not (gone r)) (map.get S r) None))) is.1)
-      by r (inr other) =
-          ap (λ k. option_map (fewer gone) (cond (not (gone r)) (cond k (Some (g (map.get S b))) (map.get S r)) None)) other
-          ∙ sym (ap (λ k. cond k (Some (g (map.get S b))) (option_map (fewer gone) (cond (not (gone r)) (map.get S r) None))) other)
+      by r h = grind (arith, fewer_same)
 
   cell_beside : (S : Spaces) → NoneOf gone (group_at S b) → cell_or_fresh (without S gone) b ≡ cell_or_fresh S b
-  cell_beside S none = by (map.get S b) refl
-    where
-      by : (z : Option Cell) → map.get S b ≡ z → cell_or_fresh (without S gone) b ≡ cell_or_fresh S b
-      by None is = ap (λ (z : Option Cell). unwrap_or z (fresh b true))
-          (get_gone S gone b ∙ ap (λ k. option_map (fewer gone) (cond (not k) (map.get S b) None)) stays
-          ∙ ap (option_map (fewer gone)) is ∙ sym is)
-      by (Some c) is = ap (λ (z : Option Cell). unwrap_or z (fresh b true))
-          (get_gone S gone b ∙ ap (λ k. option_map (fewer gone) (cond (not k) (map.get S b) None)) stays
-          ∙ ap (option_map (fewer gone)) is
-          ∙ ap (λ (k : Cell). Some k) (fewer_same gone c
-          (subst (NoneOf gone) (ap (λ (z : Option Cell). (unwrap_or z (fresh b true)).holders) is) none))
-          ∙ sym is)
+  cell_beside S none = grind (arith, get_gone, fewer_same)
 
 -- bytes of a group
 pub bytes_gone : (S : Spaces) (gone : Slot → Bool) (h : Set slot_order) (ys : List ℕ)
@@ -99,10 +70,7 @@ bytes_gone S gone h ys = same_map _ _ (λ r.
     by : (j k : Bool) (z : Option Cell)
         → option_map (fewer gone) (cond j (option_map (λ (c : Cell). if k then with_bytes c ys else c) z) None)
         ≡ option_map (λ (c : Cell). if k then with_bytes c ys else c) (option_map (fewer gone) (cond j z None))
-    by false k z = refl
-    by true k None = refl
-    by true true (Some c) = refl
-    by true false (Some c) = refl
+    by j k z = grind arith
 
 group_set : (S : Spaces) (h : Set slot_order) (ys : List ℕ) (b : Slot) → group_at (set_bytes S h ys) b ≡ group_at S b
 group_set S h ys b =
@@ -113,9 +81,7 @@ group_set S h ys b =
     by : (k : Bool) (z : Option Cell)
         → (unwrap_or (option_map (λ (c : Cell). if k then with_bytes c ys else c) z) (fresh b true)).holders
         ≡ (unwrap_or z (fresh b true)).holders
-    by k None = refl
-    by true (Some c) = refl
-    by false (Some c) = refl
+    by k z = grind arith
 
 stored_gone : (gone : Slot → Bool) (b : Slot) → gone b ≡ false → (S : Spaces) (at : ℕ) (ys : List ℕ)
     → NoneOf gone (group_at S b) → without (stored S b at ys) gone ≡ stored (without S gone) b at ys
@@ -152,18 +118,7 @@ module _ (gone : Slot → Bool) (q : ℕ) (stays : (n : ℕ) → gone (at_page q
 
   -- a group stays where accessed is set
   group_accessed : (S : Spaces) (n m : ℕ) → group_at (accessed S (at_page q n)) (at_page q m) ≡ group_at S (at_page q m)
-  group_accessed S n m = elim (same_or_not slot_order (at_page q m) (at_page q n)) [
-    | inl here ↦
-        ap (λ (z : Option Cell). (unwrap_or z (fresh (at_page q m) true)).holders)
-        (get-insert S (at_page q n) new (at_page q m) ∙ ap (λ k. cond k (Some new) (map.get S (at_page q m))) here.1)
-        ∙ ap (group_at S) (sym here.0)
-    | inr other ↦
-        ap (λ (z : Option Cell). (unwrap_or z (fresh (at_page q m) true)).holders)
-        (get-insert S (at_page q n) new (at_page q m) ∙ ap (λ k. cond k (Some new) (map.get S (at_page q m))) other)
-  ]
-    where
-      new : Cell
-      new = record (cell_or_fresh S (at_page q n)) { accessed = true }
+  group_accessed S n m = grind (arith, same_or_not, get-insert, group_at)
 
   accessed_gone : (pages : List ℕ) (S : Spaces) → NoneWith gone q S
       → without (all_accessed S q pages) gone ≡ all_accessed (without S gone) q pages

@@ -1,22 +1,18 @@
 -- A slot that joins a group, and accesses of another process, in either order.
-use Rattle.std.proofs.Common.{◌≡◌, ◌≢◌, ℕ, suc, ◌+◌, ◌<◌, Bool, true, false, cond, List, [], ◌∷◌, length, refl, ap, sym, ◌∙◌, arith, inl, inr, Option, Some, None, unwrap_or}
-use Rattle.std.specs.Prelude.{◌⊎◌, if◌then◌else◌}
-use Rattle.std.specs.Option.{option_map}
-use Rattle.page_words.specs.Addresses.{page_number, offset_number}
-use Rattle.page_words.specs.FiniteMap as map
-use Rattle.page_words.specs.FiniteMap.{same}
-use Rattle.page_words.specs.FiniteSet as set
-use Rattle.page_words.specs.FiniteSet.{Set}
-use Rattle.page_words.proofs.MapLemmas.{same_map, same_or_not, get-insert, get-map_values}
-use Rattle.address_space.specs.Spaces.{Slot, slot_order, Cell, Spaces, at_page, slot_at, cell_or_fresh, fresh, with_bytes, with_holders, set_bytes, set_holders, write_at, store_in, stored, all_stored, accessed, all_accessed, with_page, with_pages, join_in, joined}
-use Rattle.process_table.proofs.CellLaws.{get-inserted_other}
+use Rattle.kernel_calls.proofs.Prelude
+use Prelude.{◌≡◌, ◌≢◌, ℕ, suc, ◌+◌, ◌<◌, Bool, true, false, cond, List, [], ◌∷◌, length, refl, ap, sym, ◌∙◌, arith}
+use Prelude.{Option, Some, unwrap_or, ◌⊎◌, if◌then◌else◌, option_map, page_number, offset_number, same, Set, same_map}
+use Prelude.{same_or_not, get-insert, get-map_values, Slot, slot_order, Cell, Spaces, at_page, slot_at, cell_or_fresh}
+use Prelude.{fresh, with_bytes, with_holders, set_bytes, set_holders, write_at, store_in, stored, all_stored, accessed}
+use Prelude.{all_accessed, with_page, with_pages, join_in, joined, get-inserted_other}
 use Rattle.kernel_calls.proofs.Commuting.{at_slot, swap, group_apart, unchanged, page_is, cell_paged, cell_pages}
 use Rattle.kernel_calls.proofs.CommutingStores.{group_at, group_stored}
+use Rattle.page_words.specs.FiniteMap as map
+use Rattle.page_words.specs.FiniteSet as set
 
 unheld : (g : Option Cell) (h : Set slot_order) (b : Bool) → b ≡ false
     → option_map (λ (c : Cell). if b then with_holders c h else c) g ≡ g
-unheld None h b k = refl
-unheld (Some c) h b k = ap (λ j. Some (if j then with_holders c h else c)) k
+unheld g h b k = grind arith
 
 -- a slot outside a group changes
 holders_apart : (S : Spaces) (b : Slot) (g h : Set slot_order) (y : Cell) → set.contains g b ≡ false
@@ -31,13 +27,7 @@ holders_apart S b g h y none = same_map _ _ (λ r.
     middle : (r : Slot) → ((r ≡ b) × (same slot_order r b ≡ true)) ⊎ (same slot_order r b ≡ false)
         → option_map (λ (c : Cell). if set.contains g r then with_holders c h else c) (cond (same slot_order r b) (Some y) (map.get S r))
         ≡ cond (same slot_order r b) (Some y) (option_map (λ (c : Cell). if set.contains g r then with_holders c h else c) (map.get S r))
-    middle r (inl is) =
-        ap (λ k. option_map (λ (c : Cell). if set.contains g r then with_holders c h else c) (cond k (Some y) (map.get S r))) is.1
-        ∙ unheld (Some y) h (set.contains g r) (ap (set.contains g) is.0 ∙ none)
-        ∙ sym (ap (λ k. cond k (Some y) (option_map (λ (c : Cell). if set.contains g r then with_holders c h else c) (map.get S r))) is.1)
-    middle r (inr other) =
-        ap (λ k. option_map (λ (c : Cell). if set.contains g r then with_holders c h else c) (cond k (Some y) (map.get S r))) other
-        ∙ sym (ap (λ k. cond k (Some y) (option_map (λ (c : Cell). if set.contains g r then with_holders c h else c) (map.get S r))) other)
+    middle r h = grind (arith, unheld)
 
 -- bytes and holders
 bytes_holders : (S : Spaces) (g h k : Set slot_order) (ys : List ℕ) → set_holders (set_bytes S k ys) g h ≡ set_bytes (set_holders S g h) k ys
@@ -53,11 +43,7 @@ bytes_holders S g h k ys = same_map _ _ (λ r.
     by : (i j : Bool) (z : Option Cell)
         → option_map (λ (c : Cell). if i then with_holders c h else c) (option_map (λ (c : Cell). if j then with_bytes c ys else c) z)
         ≡ option_map (λ (c : Cell). if j then with_bytes c ys else c) (option_map (λ (c : Cell). if i then with_holders c h else c) z)
-    by i j None = refl
-    by true true (Some c) = refl
-    by true false (Some c) = refl
-    by false true (Some c) = refl
-    by false false (Some c) = refl
+    by i j z = grind arith
 
 module _ (giver slot b : Slot) (right : Bool) (far : b ≢ giver) (apart : b ≢ slot) where
   turn : slot ≢ b
@@ -195,8 +181,4 @@ module _ (giver slot : Slot) (right : Bool) (q : ℕ) (far : giver.pid ≢ q) (a
       → IsOut S slot address bytes
       → joined (all_stored (with_pages S q pages) q address bytes) giver slot right
       ≡ all_stored (with_pages (joined S giver slot right) q pages) q address bytes
-  store_joined pages S address bytes none out new_out =
-      bytes_joined bytes (with_pages S q pages) address (paged_still pages S none)
-      (λ i l. ap (λ (c : Cell). set.contains c.holders giver) (cell_pages pages S q (slot_at q (address + i))) ∙ out i l)
-      (λ i l. ap (λ (c : Cell). set.contains c.holders slot) (cell_pages pages S q (slot_at q (address + i))) ∙ new_out i l)
-      ∙ ap (λ (T : Spaces). all_stored T q address bytes) (pages_joined pages S none)
+  store_joined pages S address bytes none out new_out = grind (arith, bytes_joined, cell_pages, pages_joined)

@@ -1,16 +1,12 @@
 -- Stores of two processes into groups that have nothing in common, in either order.
-use Rattle.std.proofs.Common.{◌≡◌, ◌≢◌, ℕ, suc, ◌+◌, ◌<◌, Bool, true, false, List, [], ◌∷◌, length, refl, ap, sym, ◌∙◌, subst, arith, inl, inr, Option, Some, None, unwrap_or}
-use Rattle.std.specs.Prelude.{if◌then◌else◌}
-use Rattle.std.specs.Option.{option_map}
-use Rattle.page_words.specs.Addresses.{offset_number}
+use Rattle.kernel_calls.proofs.Prelude
+use Prelude.{◌≡◌, ◌≢◌, ℕ, suc, ◌+◌, ◌<◌, Bool, true, false, List, [], ◌∷◌, length, refl, ap, sym, ◌∙◌, subst, arith}
+use Prelude.{inl, inr, Option, unwrap_or, if◌then◌else◌, option_map, offset_number, Set, same_map, get-map_values}
+use Prelude.{same_cases, Slot, slot_order, Cell, Spaces, at_page, slot_at, cell_or_fresh, fresh, with_bytes, set_bytes}
+use Prelude.{write_at, store_in, stored, all_stored, with_page, with_pages, get-inserted, get-inserted_other}
+use Rattle.kernel_calls.proofs.Commuting.{unchanged, swap, group_apart, stored_apart, page_is, cell_paged}
 use Rattle.page_words.specs.FiniteMap as map
 use Rattle.page_words.specs.FiniteSet as set
-use Rattle.page_words.specs.FiniteSet.{Set}
-use Rattle.page_words.proofs.MapLemmas.{same_map, get-map_values}
-use Rattle.page_words.proofs.SetLemmas.{same_cases}
-use Rattle.address_space.specs.Spaces.{Slot, slot_order, Cell, Spaces, at_page, slot_at, cell_or_fresh, fresh, with_bytes, set_bytes, write_at, store_in, stored, all_stored, with_page, with_pages}
-use Rattle.process_table.proofs.CellLaws.{get-inserted, get-inserted_other}
-use Rattle.kernel_calls.proofs.Commuting.{unchanged, swap, group_apart, stored_apart, page_is, cell_paged}
 
 -- the group of a slot, or its own where it isn't mapped
 abbrev pub group_at : Spaces → Slot → Set slot_order
@@ -40,14 +36,12 @@ group_stored S b x at ys = elim (same_cases slot_order x b) [
     written = record (cell_or_fresh S b) { bytes = bytes; accessed = true; dirty = true }
 
     either : (k : Bool) (c : Cell) → (if k then with_bytes c bytes else c).holders ≡ c.holders
-    either true c = refl
-    either false c = refl
+    either k c = grind arith
 
     by : (z : Option Cell)
         → (unwrap_or (option_map (λ (c : Cell). if set.contains (group_at S b) x then with_bytes c bytes else c) z) (fresh x true)).holders
         ≡ (unwrap_or z (fresh x true)).holders
-    by None = refl
-    by (Some c) = either (set.contains (group_at S b) x) c
+    by z = grind (arith, either)
 
 -- two slots are in groups that have nothing in common, neither the other's
 pub record AreApart (S : Spaces) (a b : Slot) : Type 0 where
@@ -61,8 +55,7 @@ apart_by S T a b same h = record {
   differ = h.differ;
   first = ap (λ (g : Set slot_order). set.contains g a) (same b) ∙ h.first;
   second = ap (λ (g : Set slot_order). set.contains g b) (same a) ∙ h.second;
-  none = λ x one two. h.none x (sym (ap (λ (g : Set slot_order). set.contains g x) (same a)) ∙ one)
-      (sym (ap (λ (g : Set slot_order). set.contains g x) (same b)) ∙ two);
+  none = grind arith;
 }
 
 -- bytes of two such groups
@@ -81,13 +74,7 @@ set_both S g h xs ys none = same_map _ _ (λ r.
     by : (j k : Bool) → (j ≡ true → k ≡ true → ⊥) → (z : Option Cell)
         → option_map (λ (c : Cell). if j then with_bytes c xs else c) (option_map (λ (c : Cell). if k then with_bytes c ys else c) z)
         ≡ option_map (λ (c : Cell). if k then with_bytes c ys else c) (option_map (λ (c : Cell). if j then with_bytes c xs else c) z)
-    by true true not z = absurd (not refl refl)
-    by true false not None = refl
-    by true false not (Some c) = refl
-    by false true not None = refl
-    by false true not (Some c) = refl
-    by false false not None = refl
-    by false false not (Some c) = refl
+    by j k not z = grind arith
 
 -- the cell of one stays at a store into the other
 cell_stays : (S : Spaces) (a b : Slot) (at : ℕ) (ys : List ℕ) → AreApart S a b → cell_or_fresh (stored S b at ys) a ≡ cell_or_fresh S a
@@ -101,12 +88,7 @@ cell_stays S a b at ys h =
     bytes = write_at (cell_or_fresh S b).bytes at ys
 
 turned : (S : Spaces) (a b : Slot) → AreApart S a b → AreApart S b a
-turned S a b h = record {
-  differ = λ is. h.differ (sym is);
-  first = h.second;
-  second = h.first;
-  none = λ x one two. h.none x two one;
-}
+turned S a b h = grind arith
 
 -- one store, and then the other
 one_then : (S : Spaces) (a b : Slot) (at at' : ℕ) (xs ys : List ℕ) → AreApart S a b

@@ -1,64 +1,17 @@
 -- A set of processes that has nothing in common with others stays so, and others leave what it has.
-use Rattle.std.proofs.Common.{
-  ◌≡◌,
-  ◌≢◌,
-  ℕ,
-  ◌&&◌,
-  Bool,
-  true,
-  false,
-  if◌then◌else◌,
-  List,
-  [],
-  ◌∷◌,
-  refl,
-  sym,
-  ap,
-  ◌∙◌,
-  Option,
-  Some,
-  None,
-  is_some,
-  unwrap_or,
-  inl,
-  inr,
-}
-use Rattle.std.specs.Prelude.{slice_index}
-use Rattle.std.specs.Option.{option_map}
-use Rattle.std.specs.List.{All}
-use Rattle.std.proofs.lemmas.Bool.{cases_eq}
-use Rattle.std.proofs.lemmas.List.{ext_get_or}
-use Rattle.std.proofs.lemmas.List.Elements.{All-head, All-tail}
-use Rattle.std.proofs.lemmas.Option.{same_Some}
-use Rattle.page_words.specs.FiniteMap as map
-use Rattle.page_words.specs.FiniteSet as set
-use Rattle.page_words.specs.FiniteSet.{Set}
-use Rattle.page_words.proofs.MapLemmas.{same_set}
-use Rattle.address_space.specs.Spaces.{Slot, slot_order, Cell, fresh, at_page, slot_at}
-use Rattle.page_sharing.specs.Offers.{OfferKey, offer_key}
-use Rattle.process_table.specs.State.{State, is_live}
-use Rattle.process_table.specs.WellFormed.{IsWellFormed}
-use Rattle.kernel_calls.specs.Authority.{
-  flags_of,
-  shares,
-  byte_in,
-  IsJoin,
-  IsConfined,
-  keeps_within,
-  KeepsWithin,
-  Along,
-  members_after,
-  members_at_end,
-  IsAsBefore,
-  RunsKeepBorders,
-}
-use Rattle.kernel_calls.specs.Machine.{next, end_of}
-use Rattle.kernel_calls.specs.declared.calls.Event.{Event}
-use Rattle.kernel_calls.specs.declared.calls.Call.TheVariants as call
+use Rattle.kernel_calls.proofs.Prelude
+use Prelude.{◌≡◌, ◌≢◌, ℕ, ◌&&◌, Bool, true, false, List, [], ◌∷◌, refl, sym, ap, ◌∙◌, Option, Some, None, is_some}
+use Prelude.{unwrap_or, inl, inr, arith, if◌then◌else◌, slice_index, option_map, All, cases_eq, ext_get_or, All-head}
+use Prelude.{All-tail, same_Some, Set, same_set, Slot, slot_order, Cell, fresh, at_page, slot_at, OfferKey, offer_key}
+use Prelude.{State, is_live, IsWellFormed, flags_of, shares, byte_in, IsJoin, IsConfined, keeps_within, KeepsWithin}
+use Prelude.{Along, members_after, members_at_end, IsAsBefore, RunsKeepBorders, next, end_of, Event}
 use Rattle.kernel_calls.proofs.Consent.{sharing_by_consent, offers_by_offerer}
 use Rattle.kernel_calls.proofs.Runs.{kept-next}
 use Rattle.kernel_calls.proofs.Stays.{makes_child, next_live}
-use Rattle.kernel_calls.proofs.Untouched.{LeavesAll, EndsOffer, leaves_all}
+use Rattle.kernel_calls.proofs.Untouched.{LeavesAll, leaves_all}
+use Rattle.page_words.specs.FiniteMap as map
+use Rattle.page_words.specs.FiniteSet as set
+use Rattle.kernel_calls.specs.declared.calls.Call.TheVariants as call
 
 -- ---- Slots that share a page
 
@@ -75,8 +28,7 @@ shared_cell s slot other = by (map.get s.spaces slot) refl
 
 pub shares_by : (s : State) (slot other : Slot) (c : Cell) → map.get s.spaces slot ≡ Some c
     → set.contains c.holders other ≡ true → shares s slot other ≡ true
-shares_by s slot other c at h = ap (λ (x : Option Cell).
-    unwrap_or (option_map (λ (c : Cell). set.contains c.holders other) x) false) at ∙ h
+shares_by s slot other c at h = grind arith
 
 -- both slots' processes are live
 pub shared_live : (s : State) (slot other : Slot) → IsWellFormed s → shares s slot other ≡ true
@@ -97,20 +49,12 @@ back s slot other w h =
 -- an offer's processes are both live
 offer_live : (s : State) (key : OfferKey) (right : Bool) → IsWellFormed s → map.get s.offers key ≡ Some right
     → (is_live s key.offerer ≡ true) × (is_live s key.target ≡ true)
-offer_live s key right w at =
-    let o = w.offers key right at in
-    (w.owners (at_page key.offerer key.page) o.offered.0 o.offered.1, o.target)
+offer_live s key right w at = grind arith
 
 -- an offer makes nobody and ends nobody
 offer_keeps : (s : State) (e : Event) (page target p : ℕ) (right : Bool) → e.call ≡ call.Offer page target right
     → is_live (next s e) p ≡ true → is_live s p ≡ true
-offer_keeps s e page target p right is live = elim (next_live s e p) [
-  | inl same ↦ sym same ∙ live
-  | inr differs ↦ elim differs [
-    | inl born ↦ absurd (let x : false ≡ true = sym (ap makes_child is) ∙ born.1 in cc)
-    | inr gone ↦ absurd (let x : call.Offer page target right ≡ call.Exit = sym is ∙ gone.1 in cc)
-  ]
-]
+offer_keeps s e page target p right is live = grind (arith, next_live, makes_child)
 
 -- ---- One event: who lives on is a member afterwards where it was one
 
@@ -123,11 +67,7 @@ module _ (s : State) (e : Event) (C D : ℕ → Bool) (w : IsWellFormed s) (conf
       → shares (next s e) slot other ≡ b → b ≡ false
   no_share slot other own apart false is = refl
   no_share slot other own apart true is = absurd (elim (sharing_by_consent s e slot other w differ is) [
-    | inl old ↦ (
-        let before = shared_live s slot other w old in
-        let f = confined.shares_none slot other (sym (same slot.pid before.0 after.0) ∙ own)
-        (sym (same other.pid before.1 after.1) ∙ apart) in
-        cc)
+    | inl old ↦ grind (arith, shared_live, after)
     | inr joined ↦ elim joined [
       | inl j ↦ mine j
       | inr j ↦ theirs j
@@ -164,10 +104,7 @@ module _ (s : State) (e : Event) (C D : ℕ → Bool) (w : IsWellFormed s) (conf
         where
           by : (j : IsJoin s e other slot) → shares s j.giver slot ≡ true → C e.pid ≡ false → C slot.pid ≡ true
               → (b : Bool) → C j.giver.pid ≡ b → ⊥
-          by j given outsider member true is = let t =
-              confined.offers_none (offer_key j.giver.pid j.giver.page e.pid) j.right j.offered is in cc
-          by j given outsider member false is = let t = back s j.giver slot w given in let f =
-              confined.shares_none slot j.giver member is in cc
+          by j given outsider member b is = grind (arith, back)
 
   next_offers : (key : OfferKey) (right : Bool) → map.get (next s e).offers key ≡ Some right → D key.offerer ≡ true
       → D key.target ≡ true
@@ -176,11 +113,7 @@ module _ (s : State) (e : Event) (C D : ℕ → Bool) (w : IsWellFormed s) (conf
         let before = offer_live s key right w old in
         same key.target before.1 after.1 ∙ confined.offers_none key right old
         (sym (same key.offerer before.0 after.0) ∙ own))
-    | inr new ↦ (
-        let lives = offer_keeps s e key.page key.target key.offerer right new.1 after.0 in
-        let member : C e.pid ≡ true = ap C new.0 ∙ sym (same key.offerer lives after.0) ∙ own in
-        same key.target (offer_keeps s e key.page key.target key.target right new.1 after.1) after.1
-        ∙ sym (ap (keeps_within C) new.1) ∙ keeps member)
+    | inr new ↦ grind (arith, offer_keeps, after)
   ]
     where
       after : (is_live (next s e) key.offerer ≡ true) × (is_live (next s e) key.target ≡ true)
@@ -290,19 +223,7 @@ module _ (s : State) (e : Event) (C : ℕ → Bool) (p : ℕ) (w : IsWellFormed 
 
   offers_same : (page target : ℕ) → map.get (next s e).offers (offer_key p page target) ≡ map.get s.offers
       (offer_key p page target)
-  offers_same page target = elim (u.offers (offer_key p page target) refl) [
-    | inl same_offer ↦ same_offer
-    | inr ended ↦ gone (map.get s.offers (offer_key p page target)) refl ended.0 ended.1
-  ]
-    where
-      gone : (x : Option Bool) → map.get s.offers (offer_key p page target) ≡ x
-          → map.get (next s e).offers (offer_key p page target) ≡ None → EndsOffer e (offer_key p page target)
-          → map.get (next s e).offers (offer_key p page target) ≡ x
-      gone None at none ends = none
-      gone (Some right) at none ends = absurd (
-          let inside : C target ≡ true = confined.offers_none (offer_key p page target) right at member in
-          let out : C target ≡ false = ap C ends.target ∙ outsider in
-          cc)
+  offers_same page target = grind (arith, u)
 
   pub one_leaves : IsAsBefore s (next s e) p
   one_leaves = record { member = u.member; pages = pages_same; offers = offers_same }

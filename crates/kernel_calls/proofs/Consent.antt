@@ -1,103 +1,21 @@
 -- How sharing, offers and rights spread: by consent.
-use Rattle.std.proofs.Common.{
-  ◌≡◌,
-  ◌≢◌,
-  ℕ,
-  ◌+◌,
-  ◌&&◌,
-  ◌||◌,
-  ◌==◌,
-  not,
-  Bool,
-  true,
-  false,
-  cond,
-  List,
-  [],
-  ◌∷◌,
-  refl,
-  sym,
-  ap,
-  subst,
-  ◌∙◌,
-  Option,
-  Some,
-  None,
-  unwrap_or,
-  inl,
-  inr,
-}
-use Rattle.std.specs.Prelude.{◌⊎◌, if◌then◌else◌, IsTrue}
-use Rattle.std.specs.Option.{option_map}
-use Rattle.std.proofs.lemmas.Bool.{cases_eq}
-use Rattle.std.proofs.lemmas.Option.{same_Some}
-use Rattle.page_words.specs.Addresses.{offset_number, byte_count, touched}
-use Rattle.page_words.specs.FiniteMap as map
-use Rattle.page_words.specs.FiniteMap.{same}
-use Rattle.page_words.specs.FiniteSet as set
-use Rattle.page_words.specs.FiniteSet.{Set}
-use Rattle.page_words.proofs.MapLemmas.{get-insert, get-map_values, contains-insert, contains-retain}
-use Rattle.page_words.proofs.OptionLemmas.{some_value}
-use Rattle.page_words.proofs.SetLemmas.{same_cases, same_apart}
-use Rattle.address_space.specs.Spaces.{
-  Slot,
-  slot_order,
-  Cell,
-  Spaces,
-  fresh,
-  cell_or_fresh,
-  with_bytes,
-  with_holders,
-  set_bytes,
-  set_holders,
-  write_at,
-  bytes_of,
-  without,
-  is_slot,
-  is_of,
-  at_page,
-  slot_at,
-  accessed,
-  stored,
-  with_page,
-  with_pages,
-  all_accessed,
-  all_stored,
-  copy_of,
-  joined,
-  copied,
-}
-use Rattle.address_space.proofs.costs.Copied.{copied-own, copied-other}
-use Rattle.address_space.proofs.steps.Departures.{left, get-without}
-use Rattle.page_sharing.specs.Offers.{OfferKey, offer_order, offer_key}
-use Rattle.process_table.specs.State.{State, is_live, child_of}
-use Rattle.process_table.specs.Calls.{
-  accept_refusal,
-  offered,
-  after_load,
-  after_store,
-  after_map,
-  after_unmap,
-  after_protect,
-  after_accept,
-  after_fork,
-  after_exit,
-}
-use Rattle.process_table.specs.WellFormed.{IsWellFormed}
-use Rattle.process_table.specs.Apart.{lone}
-use Rattle.process_table.proofs.Apart.{in_lone}
-use Rattle.process_table.proofs.BookLaws.{retained}
-use Rattle.process_table.proofs.CellLaws.{get-inserted, get-inserted_other}
-use Rattle.process_table.proofs.Refusals.{MayAccept, may_accept}
-use Rattle.kernel_calls.specs.Authority.{flags_of, flags_at, shares, IsJoin, SharingByConsent, OffersByOfferer}
-use Rattle.kernel_calls.specs.Machine.{answer, answer_of, after, next, completes}
-use Rattle.kernel_calls.specs.declared.calls.Call.{Call}
-use Rattle.kernel_calls.specs.declared.calls.Call.TheVariants as call
-use Rattle.kernel_calls.specs.declared.calls.Event.{Event}
+use Rattle.kernel_calls.proofs.Prelude
+use Prelude.{◌≡◌, ◌≢◌, ℕ, ◌+◌, ◌||◌, Bool, true, false, List, [], ◌∷◌, refl, sym, ap, subst, ◌∙◌, Option, Some, None}
+use Prelude.{unwrap_or, inl, inr, arith, ◌⊎◌, if◌then◌else◌, IsTrue, option_map, cases_eq, same_Some, offset_number}
+use Prelude.{Set, get-insert, get-map_values, contains-insert, contains-retain, some_value, same_cases, same_apart}
+use Prelude.{Slot, slot_order, Cell, Spaces, fresh, cell_or_fresh, with_bytes, with_holders, set_bytes, set_holders}
+use Prelude.{write_at, without, is_slot, is_of, at_page, slot_at, accessed, stored, with_page, with_pages, all_accessed}
+use Prelude.{all_stored, joined, copied, copied-own, copied-other, left, get-without, OfferKey, offer_key, State}
+use Prelude.{is_live, accept_refusal, offered, after_unmap, after_accept, after_exit, IsWellFormed, lone, retained}
+use Prelude.{get-inserted, get-inserted_other, MayAccept, may_accept, flags_of, flags_at, shares, IsJoin}
+use Prelude.{SharingByConsent, OffersByOfferer, answer, answer_of, after, next, completes, Call, Event, in_lone}
 use Rattle.kernel_calls.proofs.Decided.{next-stays, next-goes}
 use Rattle.kernel_calls.proofs.Runs.{not-refused}
 use Rattle.kernel_calls.proofs.UntouchedSlots.{kept_shares}
 use Rattle.kernel_calls.proofs.Untouched.{caller_live, get_joined, joined_kept}
+use Rattle.page_words.specs.FiniteMap as map
+use Rattle.page_words.specs.FiniteSet as set
+use Rattle.kernel_calls.specs.declared.calls.Call.TheVariants as call
 
 -- ---- Sharing
 
@@ -115,15 +33,7 @@ through S T U a b slot other d h = a slot other d (b slot other d h)
 insert_shares : (S : Spaces) (at : Slot) (c : Cell)
     → ((other : Slot) → at ≢ other → set.contains c.holders other ≡ true → shares_in S at other ≡ true)
     → NoNewShares S (map.insert S at c)
-insert_shares S at c own slot other d h = elim (same_cases slot_order slot at) [
-  | inl is ↦
-      ap (λ x. shares_in S x other) is.0
-      ∙ own other (λ e. d (is.0 ∙ e)) (sym (ap (λ (x : Option Cell).
-      unwrap_or (option_map (λ (c : Cell). set.contains c.holders other) x) false)
-      (ap (map.get (map.insert S at c)) is.0 ∙ get-inserted S at c)) ∙ h)
-  | inr differ ↦ sym (ap (λ (x : Option Cell). unwrap_or (option_map (λ (c : Cell). set.contains c.holders other) x)
-      false) (get-inserted_other S at c slot differ.0)) ∙ h
-]
+insert_shares S at c own slot other d h = grind (arith, same_cases, get-inserted, get-inserted_other)
 
 -- a group of one is shared by nobody
 lone_shares : (S : Spaces) (at other : Slot) → at ≢ other → set.contains (lone at) other ≡ true
@@ -136,21 +46,10 @@ fresh_shares S at write = insert_shares S at (fresh at write) (lone_shares S at)
 -- where a cell gets other flags
 flags_shares : (S : Spaces) (at : Slot) (c : Cell) → c.holders ≡ (cell_or_fresh S at).holders
     → NoNewShares S (map.insert S at c)
-flags_shares S at c group = insert_shares S at c
-    (λ other d h. by (map.get S at) refl other d (sym (ap (λ (g : Set slot_order). set.contains g other) group) ∙ h))
-  where
-    by : (x : Option Cell) → map.get S at ≡ x → (other : Slot) → at ≢ other
-        → set.contains (unwrap_or x (fresh at true)).holders other ≡ true → shares_in S at other ≡ true
-    by None none other d h = lone_shares S at other d h
-    by (Some o) some other d h = ap (λ (x : Option Cell).
-        unwrap_or (option_map (λ (c : Cell). set.contains c.holders other) x) false) some ∙ h
+flags_shares S at c group = grind (arith, insert_shares, lone_shares)
 
 page_shares : (S : Spaces) (q page : ℕ) → NoNewShares S (with_page S q page)
-page_shares S q page = by (map.contains_key S (at_page q page))
-  where
-    by : (b : Bool) → NoNewShares S (if b then S else map.insert S (at_page q page) (fresh (at_page q page) true))
-    by true = λ slot other d h. h
-    by false = fresh_shares S (at_page q page) true
+page_shares S q page = grind (arith, fresh_shares)
 
 pages_share : (S : Spaces) (q : ℕ) (pages : List ℕ) → NoNewShares S (with_pages S q pages)
 pages_share S q [] = λ slot other d h. h
@@ -173,14 +72,12 @@ bytes_share S group bytes slot other =
     ∙ by (map.get S slot)
   where
     either : (b : Bool) (c : Cell) → (if b then with_bytes c bytes else c).holders ≡ c.holders
-    either true c = refl
-    either false c = refl
+    either b c = grind arith
 
     by : (x : Option Cell) → unwrap_or (option_map (λ (c : Cell). set.contains c.holders other)
         (option_map (λ (c : Cell). if set.contains group slot then with_bytes c bytes else c) x)) false ≡ unwrap_or
         (option_map (λ (c : Cell). set.contains c.holders other) x) false
-    by None = refl
-    by (Some c) = ap (λ (g : Set slot_order). set.contains g other) (either (set.contains group slot) c)
+    by x = grind (arith, either)
 
 bytes_group : (S : Spaces) (group : Set slot_order) (bytes : List ℕ) (slot : Slot)
     → (cell_or_fresh (set_bytes S group bytes) slot).holders ≡ (cell_or_fresh S slot).holders
@@ -190,14 +87,12 @@ bytes_group S group bytes slot =
     ∙ by (map.get S slot)
   where
     either : (b : Bool) (c : Cell) → (if b then with_bytes c bytes else c).holders ≡ c.holders
-    either true c = refl
-    either false c = refl
+    either b c = grind arith
 
     by : (x : Option Cell) → (unwrap_or (option_map
         (λ (c : Cell). if set.contains group slot then with_bytes c bytes else c) x) (fresh slot true)).holders
         ≡ (unwrap_or x (fresh slot true)).holders
-    by None = refl
-    by (Some c) = either (set.contains group slot) c
+    by x = grind (arith, either)
 
 stored_shares : (S : Spaces) (slot : Slot) (at : ℕ) (new : List ℕ) → NoNewShares S (stored S slot at new)
 stored_shares S slot at new =
@@ -216,38 +111,10 @@ all_stored_share S q addr (byte ∷ bytes) =
     (all_stored_share (stored S (slot_at q addr) (offset_number addr) (byte ∷ [])) q (addr + 1) bytes)
 
 without_shares : (S : Spaces) (gone : Slot → Bool) → NoNewShares S (without S gone)
-without_shares S gone slot other d h = by (not (gone slot)) (map.get S slot)
-    (sym (ap (λ (x : Option Cell). unwrap_or (option_map (λ (c : Cell). set.contains c.holders other) x) false)
-    (get-without S gone slot)) ∙ h)
-  where
-    first : (a b : Bool) → (a && b) ≡ true → a ≡ true
-    first true b h = refl
-    first false b h = cc
-
-    by : (b : Bool) (x : Option Cell) → unwrap_or (option_map (λ (c : Cell). set.contains c.holders other)
-        (cond b (option_map (left gone) x) None)) false ≡ true
-        → unwrap_or (option_map (λ (c : Cell). set.contains c.holders other) x) false ≡ true
-    by false x h = cc
-    by true None h = cc
-    by true (Some c) h = first (set.contains c.holders other) (not (gone other))
-        (sym (contains-retain c.holders (λ s. not (gone s)) other) ∙ h)
+without_shares S gone slot other d h = grind (arith, get-without, left, contains-retain)
 
 copied_shares : (S : Spaces) (from to : ℕ) → NoNewShares S (copied S from to)
-copied_shares S from to slot other d h = elim (cases_eq slot.pid to) [
-  | inl own ↦ (
-      let here : slot ≡ at_page to slot.page = (λ i. record { pid = own i; page = slot.page }) in
-      absurd (copy here (map.get S (at_page from slot.page))
-      (sym (ap (λ (x : Option Cell). unwrap_or (option_map (λ (c : Cell). set.contains c.holders other) x) false)
-      (ap (map.get (copied S from to)) here ∙ copied-own S from to slot.page)) ∙ h)))
-  | inr differ ↦ sym (ap (λ (x : Option Cell). unwrap_or (option_map (λ (c : Cell). set.contains c.holders other) x)
-      false) (copied-other S from to slot differ)) ∙ h
-]
-  where
-    copy : slot ≡ at_page to slot.page → (x : Option Cell)
-        → unwrap_or (option_map (λ (c : Cell). set.contains c.holders other)
-        (option_map (copy_of (at_page to slot.page)) x)) false ≡ true → ⊥
-    copy here None h = cc
-    copy here (Some c) h = let f = in_lone (at_page to slot.page) other (λ e. d (here ∙ sym e)) in cc
+copied_shares S from to slot other d h = grind (arith, cases_eq, copied-own, copied-other, in_lone)
 
 abbrev Consents : State → State → Event → Type 0
 Consents s t e = (slot other : Slot) → slot ≢ other → shares t slot other ≡ true
@@ -317,8 +184,7 @@ module _ (s : State) (e : Event) (giver giver_page page : ℕ) (w : IsWellFormed
   }
 
   either : (a b : Bool) → (a || b) ≡ true → (a ≡ true) ⊎ (b ≡ true)
-  either true b h = inl refl
-  either false b h = inr h
+  either a b h = grind arith
 
   giver_is : cell_or_fresh s.spaces (at_page giver giver_page) ≡ given.0
   giver_is = ap (λ (x : Option Cell). unwrap_or x (fresh (at_page giver giver_page) true)) given.1
@@ -371,51 +237,30 @@ module _ (s : State) (e : Event) (giver giver_page page : ℕ) (w : IsWellFormed
           inside : (b : Bool) → set.contains given.0.holders slot ≡ b
               → set.contains (if b then with_holders o (set.insert given.0.holders new) else o).holders other ≡ true
               → (shares s slot other ≡ true) ⊎ (IsJoin s e slot other ⊎ IsJoin s e other slot)
-          inside true among k = inr (inr (subst (λ x. IsJoin s e x slot) (sym there) (joins slot among)))
-          inside false out k = inl (ap (λ (x : Option Cell).
-              unwrap_or (option_map (λ (c : Cell). set.contains c.holders other) x) false) at ∙ k)
+          inside b among k = grind (arith, joins, c)
 
 module _ (s : State) (e : Event) (w : IsWellFormed s) (live : is_live s e.pid ≡ true) where
   after_consents : (c : Call) → e.call ≡ c → next s e ≡ after s e.pid c → completes (answer_of s e.pid c) ≡ true
       → Consents s (after s e.pid c) e
-  after_consents (call.Load addr size) is goes h =
-      let pages = touched addr size in
-      let T : Spaces = with_pages s.spaces e.pid pages in
-      quiet s (after_load s e.pid addr size) e (through s.spaces T (all_accessed T e.pid pages)
-      (pages_share s.spaces e.pid pages) (accessed_share T e.pid pages))
-  after_consents (call.Store addr size value) is goes h =
-      let T : Spaces = with_pages s.spaces e.pid (touched addr size) in
-      let bytes = bytes_of (byte_count size) value in
-      quiet s (after_store s e.pid addr size value) e
-      (through s.spaces T (all_stored T e.pid addr bytes) (pages_share s.spaces e.pid (touched addr size))
-      (all_stored_share T e.pid addr bytes))
-  after_consents (call.Map page write) is goes h =
-      quiet s (after_map s e.pid page write) e (fresh_shares s.spaces (at_page e.pid page) write)
+  after_consents (call.Load addr size) is goes h = grind (arith, quiet, through, pages_share, accessed_share)
+  after_consents (call.Store addr size value) is goes h = grind (arith, quiet, through, pages_share, all_stored_share)
+  after_consents (call.Map page write) is goes h = grind (arith, quiet, fresh_shares)
   after_consents (call.Unmap page) is goes h = quiet s (after_unmap s e.pid page) e
       (without_shares s.spaces (is_slot e.pid page))
-  after_consents (call.Protect page write) is goes h =
-      quiet s (after_protect s e.pid page write) e (flags_shares s.spaces (at_page e.pid page)
-      (record (cell_or_fresh s.spaces (at_page e.pid page)) { write = write }) refl)
-  after_consents (call.Info page) is goes h = λ slot other d k. inl k
-  after_consents (call.Offer page target write) is goes h = λ slot other d k. inl k
-  after_consents (call.Withdraw page target) is goes h = λ slot other d k. inl k
+  after_consents (call.Protect page write) is goes h = grind (arith, quiet, flags_shares)
   after_consents (call.Accept giver giver_page page) is goes h =
       accept_consents s e giver giver_page page w is goes
       (not-refused (accept_refusal s e.pid giver giver_page page) _ h)
-  after_consents (call.Spawn quota) is goes h = λ slot other d k. inl k
-  after_consents (call.Fork quota) is goes h = quiet s (after_fork s e.pid quota) e
-      (copied_shares s.spaces e.pid (child_of s))
+  after_consents (call.Fork quota) is goes h = grind (arith, quiet, copied_shares)
   after_consents call.Exit is goes h = quiet s (after_exit s e.pid) e (without_shares s.spaces (is_of e.pid))
-  after_consents call.Quota is goes h = λ slot other d k. inl k
+  after_consents _ is goes h = λ slot other d k. inl k
 
 pub sharing_by_consent : SharingByConsent
 sharing_by_consent s e slot other w d shared = by (completes (answer s e)) refl
   where
     by : (b : Bool) → completes (answer s e) ≡ b → (shares s slot other ≡ true)
         ⊎ (IsJoin s e slot other ⊎ IsJoin s e other slot)
-    by true h = let l = caller_live s e h in let goes = next-goes s e h in
-        after_consents s e w l.0 e.call refl goes l.1 slot other d
-        (sym (ap (λ (t : State). shares t slot other) goes) ∙ shared)
+    by true h = grind (arith, caller_live, next-goes, after_consents)
     by false h = inl (sym (ap (λ (t : State). shares t slot other) (next-stays s e h)) ∙ shared)
 
 -- ---- Offers
@@ -426,41 +271,11 @@ OfferedBefore s t e key right = (map.get s.offers key ≡ Some right)
 
 after_offers : (s : State) (e : Event) (key : OfferKey) (right : Bool) (c : Call) → e.call ≡ c
     → map.get (after s e.pid c).offers key ≡ Some right → OfferedBefore s s e key right
-after_offers s e key right (call.Load addr size) is h = inl h
-after_offers s e key right (call.Store addr size value) is h = inl h
-after_offers s e key right (call.Map page write) is h = inl h
-after_offers s e key right (call.Unmap page) is h =
-    inl (retained s.offers (λ (k : OfferKey). not ((k.offerer == e.pid) && (k.page == page))) key right h).1
-after_offers s e key right (call.Protect page write) is h = inl h
-after_offers s e key right (call.Info page) is h = inl h
-after_offers s e key right (call.Offer page target write) is h =
-    elim (same_cases offer_order key (offer_key e.pid page target)) [
-      | inl same ↦ (
-          let write_is : write ≡ right = same_Some write right
-          (sym (get-insert s.offers (offer_key e.pid page target) write key
-          ∙ ap (λ b. cond b (Some write) (map.get s.offers key)) same.1) ∙ h) in
-          inr (
-            sym (ap (λ (k : OfferKey). k.offerer) same.0),
-            is
-                ∙ (λ i. call.Offer (sym same.0 i).page (sym same.0 i).target (write_is i)),
-          ))
-      | inr other ↦ inl (sym (get-insert s.offers (offer_key e.pid page target) write key
-          ∙ ap (λ b. cond b (Some write) (map.get s.offers key)) other.1) ∙ h)
-    ]
-after_offers s e key right (call.Withdraw page target) is h =
-    inl (retained s.offers (λ k. not (same offer_order (offer_key e.pid page target) k)) key right h).1
-after_offers s e key right (call.Accept giver giver_page page) is h =
-    inl (retained s.offers (λ k. not (same offer_order (offer_key giver giver_page e.pid) k)) key right h).1
-after_offers s e key right (call.Spawn quota) is h = inl h
-after_offers s e key right (call.Fork quota) is h = inl h
-after_offers s e key right call.Exit is h = inl (retained s.offers
-    (λ (k : OfferKey). not ((k.offerer == e.pid) || (k.target == e.pid))) key right h).1
-after_offers s e key right call.Quota is h = inl h
+after_offers s e key right c is h = grind (arith, retained, same_cases, same_Some, get-insert)
 
 pub offers_by_offerer : OffersByOfferer
 offers_by_offerer s e key right pending = by (completes (answer s e)) refl
   where
     by : (b : Bool) → completes (answer s e) ≡ b → OfferedBefore s s e key right
-    by true h = after_offers s e key right e.call refl
-        (sym (ap (λ (t : State). map.get t.offers key) (next-goes s e h)) ∙ pending)
+    by true h = grind (arith, after_offers, next-goes)
     by false h = inl (sym (ap (λ (t : State). map.get t.offers key) (next-stays s e h)) ∙ pending)

@@ -1,65 +1,37 @@
 -- The decision of an event is carried out exactly if its reply is neither a refusal nor a fault.
-use Rattle.std.proofs.Common.{◌≡◌, ℕ, Bool, true, false, refl, ap, sym, ◌∙◌, Option, Some, None}
-use Rattle.std.specs.Prelude.{if◌then◌else◌, Result, Ok, Err}
-use Rattle.address_space.specs.Spaces.{cost, at_page}
-use Rattle.process_table.specs.State.{State, is_live, child_of}
-use Rattle.process_table.specs.Calls.{map_refusal, protect_refusal, offer_refusal, accept_refusal, spawn_refusal, fork_refusal, after_map, after_protect, after_accept, after_fork}
+use Rattle.kernel_calls.proofs.Prelude
+use Prelude.{◌≡◌, ℕ, Bool, true, false, refl, ap, ◌∙◌, Option, Some, None, if◌then◌else◌, Result, Ok, Err, cost}
+use Prelude.{at_page, State, is_live, child_of, protect_refusal, fork_refusal, after_protect, after_fork, may_protect}
+use Prelude.{Cause, View, plan_of, plan_at, step_of, step_at, goes_on, same_stops, Plan, Size, Access, Read, Write}
+use Prelude.{answer, answer_of, after, next, completes, refused_or, planned_or, judged_of, plan_of_call, plan_of_event}
+use Prelude.{refused_plan, charge_in, charge_after, tested, spawned, Call, Event, Reply, arith}
+use Rattle.process_table.specs.TestAnswers.{first_cause, number_unless, child_unless, map_answer, protect_answer, offer_answer}
+use Rattle.process_table.specs.TestAnswers.{accept_answer, spawn_answer, fork_answer}
 use Rattle.address_space.proofs.costs.Totals.{cost-protected_of}
-use Rattle.process_table.proofs.Refusals.{may_protect}
-use Rattle.process_table.specs.TestAnswers.{first_cause, number_unless, child_unless, map_answer, protect_answer, offer_answer, accept_answer, spawn_answer, fork_answer}
-use Rattle.process_table.specs.declared.causes.Cause.{Cause}
 use Rattle.process_table.specs.declared.causes.Cause.TheVariants as cause
-use Rattle.process_table.specs.View.{View}
-use Rattle.fault_handler.specs.Plans.{plan_of, plan_at, step_of, step_at, goes_on}
-use Rattle.fault_handler.proofs.Settled.{same_stops}
-use Rattle.fault_handler.specs.declared.plans.Plan.{Plan}
 use Rattle.fault_handler.specs.declared.plans.Plan.TheVariants as plan
-use Rattle.page_words.specs.declared.addresses.Size.{Size}
-use Rattle.table_walk.specs.declared.Access.{Access}
-use Rattle.table_walk.specs.declared.Access.TheVariants.{Read, Write}
-use Rattle.kernel_calls.specs.Machine.{answer, answer_of, after, next, completes, refused_or, planned_or}
-use Rattle.kernel_calls.specs.Decisions.{judged_of, plan_of_call, plan_of_event, refused_plan, charge_in, charge_after, tested, spawned}
 use Rattle.kernel_calls.proofs.Charges.{map_charge, spawn_lives, fork_lives, fork_charge}
-use Rattle.kernel_calls.specs.declared.calls.Call.{Call}
 use Rattle.kernel_calls.specs.declared.calls.Call.TheVariants as call
-use Rattle.kernel_calls.specs.declared.calls.Event.{Event}
-use Rattle.kernel_calls.specs.declared.calls.Reply.{Reply}
 use Rattle.kernel_calls.specs.declared.calls.Reply.TheVariants as reply
 
 goes-planned : (x : Plan) (r : Reply) → completes r ≡ true → goes_on x ≡ completes (planned_or x r)
-goes-planned (plan.Refused k) r h = refl
-goes-planned (plan.Fault f) r h = refl
-goes-planned (plan.Ready first second) r h = sym h
+goes-planned x r h = grind arith
 
 -- whether a page is lazy has no say in whether an access goes on
 goes-at : (v : View) (p address : ℕ) (size : Size) (access : Access) (r : Reply) → completes r ≡ true → goes_on (plan_at v p address size access) ≡ completes (planned_or (plan_of v.state p address size access) r)
 goes-at v p address size access r h = same_stops (step_at v p access) (step_of v.state p) v.state p address size access ∙ goes-planned (plan_of v.state p address size access) r h
 
 goes-refused : (x : Option Cause) (r : Reply) → completes r ≡ true → goes_on (refused_plan x) ≡ completes (refused_or x r)
-goes-refused (Some k) r h = refl
-goes-refused None r h = sym h
+goes-refused x r h = grind arith
 
 pub goes-call : (v : View) (p : ℕ) (c : Call) → goes_on (plan_of_call v p c) ≡ completes (answer_of v.state p c)
 goes-call v p (call.Load addr size) = goes-at v p addr size Read _ refl
 goes-call v p (call.Store addr size value) = goes-at v p addr size Write _ refl
-goes-call v p (call.Map page write) = goes-refused _ _ refl
-goes-call v p (call.Unmap page) = goes-refused _ _ refl
-goes-call v p (call.Protect page write) = goes-refused _ _ refl
-goes-call v p (call.Info page) = goes-refused _ _ refl
-goes-call v p (call.Offer page target write) = goes-refused _ _ refl
-goes-call v p (call.Withdraw page target) = goes-refused _ _ refl
-goes-call v p (call.Accept giver giver_page page) = goes-refused _ _ refl
-goes-call v p (call.Spawn quota) = goes-refused _ _ refl
-goes-call v p (call.Fork quota) = goes-refused _ _ refl
-goes-call v p call.Exit = goes-refused _ _ refl
 goes-call v p call.Quota = refl
+goes-call v p _ = goes-refused _ _ refl
 
 pub goes-event : (v : View) (e : Event) → goes_on (plan_of_event v e) ≡ completes (answer v.state e)
-goes-event v e = by (is_live v.state e.pid)
-  where
-    by : (b : Bool) → goes_on (if b then plan_of_call v e.pid e.call else plan.Refused cause.NoProcess) ≡ completes (if b then answer_of v.state e.pid e.call else reply.Refused cause.NoProcess)
-    by true = goes-call v e.pid e.call
-    by false = refl
+goes-event v e = grind (arith, goes-call)
 
 pub next-stays : (s : State) (e : Event) → completes (answer s e) ≡ false → next s e ≡ s
 next-stays s e h = ap (λ b. if b then after s e.pid e.call else s) h
@@ -73,14 +45,7 @@ done_by (Ok charge) = reply.Done
 done_by (Err cause) = reply.Refused cause
 
 pub accept-told : (v : View) (e : Event) (giver giver_page page : ℕ) → e.call ≡ call.Accept giver giver_page page → done_by (accept_answer v.state e.pid giver giver_page page) ≡ answer v.state e
-accept-told v e giver giver_page page is =
-    by (is_live v.state e.pid) (accept_refusal v.state e.pid giver giver_page page) (cost (after_accept v.state e.pid giver giver_page page).spaces e.pid)
-    ∙ sym (ap (λ c. if is_live v.state e.pid then answer_of v.state e.pid c else reply.Refused cause.NoProcess) is)
-  where
-    by : (b : Bool) (x : Option Cause) (n : ℕ) → done_by (number_unless (if b then x else Some cause.NoProcess) n) ≡ (if b then refused_or x reply.Done else reply.Refused cause.NoProcess)
-    by true None n = refl
-    by true (Some k) n = refl
-    by false x n = refl
+accept-told v e giver giver_page page is = grind arith
 
 -- ---- Decisions by the test of a call
 
@@ -98,8 +63,7 @@ module _ (v : View) (e : Event) (x : Option Cause) (r : Reply) (charge : ℕ) (l
   reply-live = ap (λ b. if b then answer_of v.state e.pid e.call else reply.Refused cause.NoProcess) live ∙ reply_is
 
   charge-live : (y : Option Cause) → x ≡ y → answer v.state e ≡ refused_or y r → charge_after v.state e ≡ used-by y (cost v.state.spaces e.pid) charge
-  charge-live (Some k) same is = ap (λ t. charge_in t e.pid) (next-stays v.state e (ap completes is)) ∙ ap (λ b. if b then cost v.state.spaces e.pid else 0) live
-  charge-live None same is = ap (λ t. charge_in t e.pid) (next-goes v.state e (ap completes is ∙ goes)) ∙ charged same
+  charge-live y same is = grind (arith, next-stays, next-goes)
 
   decided : judged_of v e ≡ record { plan = refused_plan x; reply = refused_or x r; used_after = used-by x (cost v.state.spaces e.pid) charge }
   decided = λ i. record { plan = plan-live i; reply = reply-live i; used_after = charge-live x refl reply-live i }
@@ -111,19 +75,11 @@ first-cause s p x live = ap (λ b. if b then x else Some cause.NoProcess) live
 decided-test : (v : View) (e : Event) (x : Option Cause) (charge used : ℕ) → is_live v.state e.pid ≡ true → used ≡ cost v.state.spaces e.pid
     → plan_of_call v e.pid e.call ≡ refused_plan x → answer_of v.state e.pid e.call ≡ refused_or x reply.Done → (x ≡ None → charge_in (after v.state e.pid e.call) e.pid ≡ charge)
     → tested (number_unless (first_cause v.state e.pid x) charge) used ≡ judged_of v e
-decided-test v e x charge used live used_is plan_is reply_is charged =
-    (λ i. tested (number_unless (first-cause v.state e.pid x live i) charge) (used_is i)) ∙ by x
-    ∙ sym (decided v e x reply.Done charge live refl plan_is reply_is charged)
-  where
-    by : (y : Option Cause) → tested (number_unless y charge) (cost v.state.spaces e.pid) ≡ record { plan = refused_plan y; reply = refused_or y reply.Done; used_after = used-by y (cost v.state.spaces e.pid) charge }
-    by (Some k) = refl
-    by None = refl
+decided-test v e x charge used live used_is plan_is reply_is charged = grind (arith, first-cause, decided)
 
 pub decided-map : (v : View) (e : Event) (page : ℕ) (write : Bool) (used : ℕ) → e.call ≡ call.Map page write → is_live v.state e.pid ≡ true → used ≡ cost v.state.spaces e.pid
     → tested (map_answer v.state e.pid page) used ≡ judged_of v e
-decided-map v e page write used is live used_is =
-    decided-test v e (map_refusal v.state e.pid page) (cost (after_map v.state e.pid page true).spaces e.pid) used live used_is (ap (plan_of_call v e.pid) is) (ap (answer_of v.state e.pid) is)
-    (λ _. ap (λ c. charge_in (after v.state e.pid c) e.pid) is ∙ ap (λ b. if b then cost (after_map v.state e.pid page write).spaces e.pid else 0) live ∙ map_charge v.state e.pid page write)
+decided-map v e page write used is live used_is = grind (arith, decided-test, map_charge)
 
 -- a page whose right is set is mapped, and so nothing is charged for it
 protect-charge : (s : State) (p page : ℕ) (write : Bool) → protect_refusal s p page write ≡ None → cost (after_protect s p page write).spaces p ≡ cost s.spaces p
@@ -131,34 +87,22 @@ protect-charge s p page write allowed = cost-protected_of s.spaces (at_page p pa
 
 pub decided-protect : (v : View) (e : Event) (page : ℕ) (write : Bool) (used : ℕ) → e.call ≡ call.Protect page write → is_live v.state e.pid ≡ true → used ≡ cost v.state.spaces e.pid
     → tested (protect_answer v.state e.pid page write) used ≡ judged_of v e
-decided-protect v e page write used is live used_is =
-    decided-test v e (protect_refusal v.state e.pid page write) (cost v.state.spaces e.pid) used live used_is (ap (plan_of_call v e.pid) is) (ap (answer_of v.state e.pid) is)
-    (λ allowed. ap (λ c. charge_in (after v.state e.pid c) e.pid) is ∙ ap (λ b. if b then cost (after_protect v.state e.pid page write).spaces e.pid else 0) live ∙ protect-charge v.state e.pid page write allowed)
+decided-protect v e page write used is live used_is = grind (arith, decided-test, protect-charge)
 
 pub decided-offer : (v : View) (e : Event) (page target : ℕ) (write : Bool) (used : ℕ) → e.call ≡ call.Offer page target write → is_live v.state e.pid ≡ true → used ≡ cost v.state.spaces e.pid
     → tested (offer_answer v.state e.pid page target write) used ≡ judged_of v e
-decided-offer v e page target write used is live used_is =
-    decided-test v e (offer_refusal v.state e.pid page target write) (cost v.state.spaces e.pid) used live used_is (ap (plan_of_call v e.pid) is) (ap (answer_of v.state e.pid) is)
-    (λ _. ap (λ c. charge_in (after v.state e.pid c) e.pid) is ∙ ap (λ b. if b then cost v.state.spaces e.pid else 0) live)
+decided-offer v e page target write used is live used_is = grind (arith, decided-test)
 
 -- the child or refused, as the test of the call answers
 decided-child : (v : View) (e : Event) (x : Option Cause) (used : ℕ) → is_live v.state e.pid ≡ true → used ≡ cost v.state.spaces e.pid
     → plan_of_call v e.pid e.call ≡ refused_plan x → answer_of v.state e.pid e.call ≡ refused_or x (reply.Child (child_of v.state))
     → (x ≡ None → charge_in (after v.state e.pid e.call) e.pid ≡ cost v.state.spaces e.pid)
     → spawned (child_unless (first_cause v.state e.pid x) (child_of v.state)) used ≡ judged_of v e
-decided-child v e x used live used_is plan_is reply_is charged =
-    (λ i. spawned (child_unless (first-cause v.state e.pid x live i) (child_of v.state)) (used_is i)) ∙ by x
-    ∙ sym (decided v e x (reply.Child (child_of v.state)) (cost v.state.spaces e.pid) live refl plan_is reply_is charged)
-  where
-    by : (y : Option Cause) → spawned (child_unless y (child_of v.state)) (cost v.state.spaces e.pid) ≡ record { plan = refused_plan y; reply = refused_or y (reply.Child (child_of v.state)); used_after = used-by y (cost v.state.spaces e.pid) (cost v.state.spaces e.pid) }
-    by (Some k) = refl
-    by None = refl
+decided-child v e x used live used_is plan_is reply_is charged = grind (arith, first-cause, decided)
 
 pub decided-spawn : (v : View) (e : Event) (quota used : ℕ) → e.call ≡ call.Spawn quota → is_live v.state e.pid ≡ true → used ≡ cost v.state.spaces e.pid
     → spawned (spawn_answer v.state e.pid quota) used ≡ judged_of v e
-decided-spawn v e quota used is live used_is =
-    decided-child v e (spawn_refusal v.state e.pid quota) used live used_is (ap (plan_of_call v e.pid) is) (ap (answer_of v.state e.pid) is)
-    (λ _. ap (λ c. charge_in (after v.state e.pid c) e.pid) is ∙ ap (λ b. if b then cost v.state.spaces e.pid else 0) (spawn_lives v.state e.pid quota live))
+decided-spawn v e quota used is live used_is = grind (arith, decided-child, spawn_lives)
 
 pub decided-fork : (v : View) (e : Event) (quota used : ℕ) → e.call ≡ call.Fork quota → is_live v.state e.pid ≡ true → used ≡ cost v.state.spaces e.pid
     → spawned (fork_answer v.state e.pid quota) used ≡ judged_of v e

@@ -1,44 +1,18 @@
 -- The effect of each call that completes, and the slots that become mapped or unmapped.
-use Rattle.std.proofs.Common.{◌≡◌, ◌≢◌, ℕ, zero, suc, ◌+◌, ◌-◌, ◌*◌, ◌<◌, ◌≤◌, ◌/◌, ◌%◌, not, ◌||◌, Bool, true, false, IsTrue, cond, List, [], ◌∷◌, length, replicate, refl, sym, ap, subst, ◌∙◌, Option, Some, None, is_some, unwrap_or, arith, inl, inr}
-use Rattle.std.specs.Prelude.{◌⊎◌, if◌then◌else◌, slice_index, IfSome, nat_le}
-use Rattle.std.specs.Option.{option_map}
-use Rattle.std.proofs.lemmas.Bool.{cases_eq}
-use Rattle.std.proofs.lemmas.Bool.Decides.{nat_tests}
-use Rattle.std.proofs.lemmas.Option.{same_Some}
-use Rattle.page_words.specs.Addresses.{page_number, offset_number, byte_count, second_page, page_and, touched, EachTouched}
-use Rattle.page_words.specs.declared.addresses.Size.{Size}
-use Rattle.page_words.specs.declared.addresses.Size.TheVariants.{One, Two, Four}
-use Rattle.page_words.specs.FiniteMap as map
-use Rattle.page_words.specs.FiniteMap.{same}
-use Rattle.page_words.specs.FiniteSet as set
-use Rattle.page_words.proofs.MapLemmas.{same_itself, get-insert, get-map_values, contains-insert}
-use Rattle.page_words.proofs.OptionLemmas.{some_value, no_value, is_some-map}
-use Rattle.page_words.proofs.SetLemmas.{same_cases}
-use Rattle.address_space.specs.Spaces.{Slot, slot_order, Cell, Spaces, at_page, slot_at, fresh, cell_or_fresh, bytes_of, with_page, with_pages, with_holders, set_holders, set_bytes, write_at, accessed, stored, all_accessed, all_stored, without, is_slot, is_of}
-use Rattle.address_space.proofs.costs.Copied.{copied-other}
-use Rattle.address_space.proofs.costs.MapFirst.{AreThere, IsThere, first_there, rest_there, touched-there, bytes_there, key-all_accessed, key-all_stored}
-use Rattle.address_space.proofs.steps.Bytes.{each_byte}
-use Rattle.address_space.proofs.steps.Departures.{left, get-without}
-use Rattle.page_sharing.specs.Offers.{offer_order, offer_key}
-use Rattle.table_walk.specs.declared.Access.TheVariants.{Write}
-use Rattle.process_table.specs.State.{State, is_live, is_mapped, child_of}
-use Rattle.process_table.specs.Calls.{map_refusal, accept_refusal, protect_refusal, fork_refusal, offered, after_load, after_store, after_accept}
-use Rattle.process_table.specs.WellFormed.{IsWellFormed}
-use Rattle.process_table.specs.declared.causes.Cause.{Cause}
-use Rattle.process_table.specs.declared.causes.Cause.TheVariants as cause
-use Rattle.process_table.proofs.Apart.{in_lone}
-use Rattle.process_table.proofs.CellLaws.{get-inserted, get-inserted_other}
-use Rattle.process_table.proofs.Refusals.{may_map, may_accept, may_protect}
-use Rattle.process_table.proofs.SpaceLaws.{well_formed-bytes, well_formed-touched}
-use Rattle.fault_handler.specs.Plans.{plan_of, step_of}
-use Rattle.fault_handler.proofs.Settled.{Goes, ready, all_user, same_cells}
-use Rattle.kernel_calls.specs.Authority.{flags_of, flags_at, byte_in, shares}
-use Rattle.kernel_calls.specs.Effects.{Tells, IsCovered, IsStoredAt, IsTogether, Does, DoneMeansDone, Maps, SlotsCome, SlotsGo}
-use Rattle.kernel_calls.specs.Machine.{answer, answer_of, after, next, completes, refused_or}
-use Rattle.kernel_calls.specs.declared.calls.Call.{Call}
-use Rattle.kernel_calls.specs.declared.calls.Call.TheVariants as call
-use Rattle.kernel_calls.specs.declared.calls.Event.{Event}
-use Rattle.kernel_calls.specs.declared.calls.Reply.TheVariants as reply
+use Rattle.kernel_calls.proofs.Prelude
+use Prelude.{◌≡◌, ◌≢◌, ℕ, zero, suc, ◌+◌, ◌-◌, ◌<◌, ◌≤◌, ◌/◌, ◌%◌, Bool, true, false, List, [], ◌∷◌, length, replicate}
+use Prelude.{refl, sym, ap, subst, ◌∙◌, Option, Some, None, is_some, unwrap_or, arith, inl, inr, IsTrue, ◌⊎◌}
+use Prelude.{if◌then◌else◌, slice_index, IfSome, option_map, cases_eq, same_Some, page_number, offset_number}
+use Prelude.{byte_count, second_page, page_and, touched, EachTouched, Size, same, same_itself, get-insert}
+use Prelude.{get-map_values, contains-insert, some_value, no_value, is_some-map, same_cases, Slot, slot_order, Cell}
+use Prelude.{Spaces, at_page, slot_at, fresh, cell_or_fresh, bytes_of, with_pages, with_holders, set_holders, set_bytes}
+use Prelude.{write_at, accessed, stored, all_accessed, all_stored, without, is_slot, is_of, copied-other, AreThere}
+use Prelude.{IsThere, first_there, rest_there, touched-there, bytes_there, key-all_accessed, key-all_stored, each_byte}
+use Prelude.{left, get-without, offer_key, Write, State, is_live, is_mapped, child_of, map_refusal, accept_refusal}
+use Prelude.{offered, after_load, after_store, after_accept, IsWellFormed, get-inserted, get-inserted_other, may_map}
+use Prelude.{may_accept, may_protect, well_formed-bytes, well_formed-touched, plan_of, step_of, Goes, ready, all_user}
+use Prelude.{same_cells, flags_of, flags_at, byte_in, shares, Tells, IsCovered, IsStoredAt, IsTogether, Does}
+use Prelude.{DoneMeansDone, Maps, SlotsCome, SlotsGo, answer, answer_of, after, next, completes, Call, Event, in_lone}
 use Rattle.kernel_calls.proofs.Consent.{sharing_by_consent}
 use Rattle.kernel_calls.proofs.Decided.{next-stays, next-goes}
 use Rattle.kernel_calls.proofs.GivenUp.{exits_end, unmaps_end, offers_end}
@@ -48,23 +22,19 @@ use Rattle.kernel_calls.proofs.Stays.{sharing_stays}
 use Rattle.kernel_calls.proofs.Tellings.{completes_by_kind}
 use Rattle.kernel_calls.proofs.Untouched.{caller_live}
 use Rattle.kernel_calls.proofs.UntouchedSlots.{own_byte, new_in, own_cell, still_there, many_bytes}
+use Rattle.page_words.specs.FiniteMap as map
+use Rattle.page_words.specs.FiniteSet as set
+use Rattle.kernel_calls.specs.declared.calls.Call.TheVariants as call
+use Rattle.kernel_calls.specs.declared.calls.Reply.TheVariants as reply
 
 -- ---- The bytes that an access covers
 
 covered_page : (address : ℕ) (size : Size) (P : ℕ → Type 0) → EachTouched address size P → (a : ℕ)
     → IsCovered address size a → P (page_number a)
-covered_page address size P h a c =
-    let low = c.0 in
-    let high = c.1 in
-    let is : address + (a - address) ≡ a = omega (arith, low) in
-    subst (λ n. P (page_number n)) is (each_byte address size P h (a - address) (omega (arith, low, high)))
+covered_page address size P h a c = grind (arith, each_byte)
 
 second_is : (address : ℕ) (size : Size) → IfSome (second_page address size) (λ page. page ≡ page_number address + 1)
-second_is address size = by (nat_le (offset_number address + byte_count size) 4096)
-  where
-    by : (b : Bool) → IfSome (if b then None else Some (page_number address + 1)) (λ page. page ≡ page_number address + 1)
-    by true = tt
-    by false = refl
+second_is address size = grind arith
 
 pages_apart : (q page other : ℕ) → other ≡ page + 1 → at_page q other ≢ at_page q page
 pages_apart q page other next e = let same = ap (λ (x : Slot). x.page) e in absurd (omega (arith, next, same))
@@ -187,9 +157,7 @@ stored_byte s q addr (suc k) v w there few i l = by (λ t. stored_byte t q (addr
         let next_cell = still_there s q addr v w first target cell at in
         elim (many_bytes (record s { spaces = T }) q (addr + 1) k (v / 256) well rest target next_cell.0
         (offset_number addr) next_cell.1) [
-          | inl same ↦ same
-              ∙ sym (ap (λ (x : Option Cell). slice_index (unwrap_or x (fresh target true)).bytes (offset_number addr))
-              next_cell.1) ∙ written
+          | inl same ↦ grind (arith, target, written)
           | inr r ↦ absurd (places_apart addr r.byte k (omega (arith, few)) r.first r.last r.there)
         ]
 
@@ -198,9 +166,7 @@ stored_byte s q addr (suc k) v w there few i l = by (λ t. stored_byte t q (addr
         (slice_index (bytes_of k (v / 256)) i)) → (i : ℕ) → i < suc k
         → Written (all_stored T q (addr + 1) (bytes_of k (v / 256))) q (addr + i)
         (slice_index (v % 256 ∷ bytes_of k (v / 256)) i)
-    by law zero l =
-        let here : addr ≡ addr + 0 = omega arith in
-        subst (λ a. Written (all_stored T q (addr + 1) (bytes_of k (v / 256))) q a (v % 256)) here head
+    by law zero l = grind (arith, T, head)
     by law (suc i) l =
         let here : addr + 1 + i ≡ addr + suc i = omega arith in
         subst (λ a. Written (all_stored T q (addr + 1) (bytes_of k (v / 256))) q a (slice_index (bytes_of k (v / 256)) i))
@@ -208,9 +174,7 @@ stored_byte s q addr (suc k) v w there few i l = by (λ t. stored_byte t q (addr
         (omega (arith, l)))
 
 four_at_most : (size : Size) → byte_count size ≤ 4
-four_at_most One = omega arith
-four_at_most Two = omega arith
-four_at_most Four = omega arith
+four_at_most size = grind arith
 
 -- a slot that no accept maps is in a group of its own at first
 alone : (s : State) (e : Event) (slot : Slot) → IsWellFormed s → map.get s.spaces slot ≡ None
@@ -219,11 +183,7 @@ alone : (s : State) (e : Event) (slot : Slot) → IsWellFormed s → map.get s.s
 alone s e slot w none no_accept other h = elim (same_cases slot_order other slot) [
   | inl same ↦ same.0
   | inr differ ↦ elim (sharing_by_consent s e slot other w (λ x. differ.0 (sym x)) h) [
-    | inl before ↦ absurd (
-        let a = ap (λ (x : Option Cell). unwrap_or (option_map (λ (c : Cell). set.contains c.holders other) x) false)
-        none in
-        let b = before in
-        cc)
+    | inl before ↦ grind arith
     | inr joins ↦ elim joins [
       | inl one ↦ absurd (no_accept one.giver.pid one.giver.page slot.page one.call)
       | inr two ↦ absurd (no_accept two.giver.pid two.giver.page other.page two.call)
@@ -234,16 +194,7 @@ alone s e slot w none no_accept other h = elim (same_cases slot_order other slot
 -- what holds a page of a cell, or of a new one, is in its group
 together : (s : State) (own slot : Slot) → set.contains (cell_or_fresh s.spaces own).holders slot ≡ true
     → IsTogether s own slot
-together s own slot = by (map.get s.spaces own) refl
-  where
-    by : (x : Option Cell) → map.get s.spaces own ≡ x
-        → set.contains (unwrap_or x (fresh own true)).holders slot ≡ true → IsTogether s own slot
-    by None none h = elim (same_cases slot_order slot own) [
-      | inl same ↦ inl (sym same.0)
-      | inr other ↦ absurd (let f = in_lone own slot other.0 in let x = h in cc)
-    ]
-    by (Some c) some h =
-        inr (ap (λ (x : Option Cell). unwrap_or (option_map (λ (c : Cell). set.contains c.holders slot) x) false) some ∙ h)
+together s own slot = grind (arith, same_cases, in_lone)
 
 -- ---- What each call does
 
@@ -251,23 +202,7 @@ module _ (s : State) (e : Event) (w : IsWellFormed s) (live : is_live s e.pid �
     (done : completes (answer s e) ≡ true) where
   load_does : (address : ℕ) (size : Size) → e.call ≡ call.Load address size
       → next s e ≡ after_load s e.pid address size → Does s (next s e) e.pid (call.Load address size)
-  load_does address size is goes a place c = (
-    record {
-      has = ap (option_map flags_of) at;
-      alone = λ free. alone s e slot w (no_value (map.get s.spaces slot) free)
-          (λ giver page own takes. let x = is in let y = takes in cc);
-    },
-    ap (λ (x : Option Cell). slice_index (unwrap_or x (fresh slot true)).bytes place) at,
-  )
-    where
-      slot : Slot
-      slot = slot_at e.pid a
-
-      cell : Cell
-      cell = record (cell_or_fresh s.spaces (slot_at e.pid a)) { accessed = true }
-
-      at : map.get (next s e).spaces (slot_at e.pid a) ≡ Some cell
-      at = ap (λ (t : State). map.get t.spaces (slot_at e.pid a)) goes ∙ loaded_at s e.pid address size a c
+  load_does address size is goes a place c = grind (arith, alone, no_value, loaded_at)
 
   store_does : (address : ℕ) (size : Size) (value : ℕ) → e.call ≡ call.Store address size value
       → completes (answer_of s e.pid (call.Store address size value)) ≡ true
@@ -285,9 +220,6 @@ module _ (s : State) (e : Event) (w : IsWellFormed s) (live : is_live s e.pid �
     where
       slot : Slot
       slot = slot_at e.pid a
-
-      n : ℕ
-      n = byte_count size
 
       T : Spaces
       T = with_pages s.spaces e.pid (touched address size)
@@ -355,17 +287,7 @@ module _ (s : State) (e : Event) (w : IsWellFormed s) (live : is_live s e.pid �
           (cell_or_fresh T slot) place at) [
             | inl same ↦ inl (ap (λ (t : State). byte_in t slot place) goes ∙ same
                 ∙ ap (λ (c : Cell). slice_index c.bytes place) cell_is)
-            | inr r ↦ inr (
-              r.byte,
-              (
-                (r.first, r.last),
-                r.there,
-                together s (slot_at e.pid r.byte) slot
-                    (ap (λ (c : Cell). set.contains c.holders slot)
-                    (sym (same_cells s.spaces e.pid (touched address size) (slot_at e.pid r.byte))) ∙ r.shared),
-              ),
-              ap (λ (t : State). byte_in t slot place) goes ∙ r.stored,
-            )
+            | inr r ↦ grind (arith, there, together, slot, same_cells)
           ]
 
   map_does : (page : ℕ) (write : Bool) → e.call ≡ call.Map page write → is_mapped s (at_page e.pid page) ≡ false
@@ -379,8 +301,7 @@ module _ (s : State) (e : Event) (w : IsWellFormed s) (live : is_live s e.pid �
   )
     where
       at : map.get (next s e).spaces (at_page e.pid page) ≡ Some (fresh (at_page e.pid page) write)
-      at = ap (λ (t : State). map.get t.spaces (at_page e.pid page)) goes
-          ∙ get-inserted s.spaces (at_page e.pid page) (fresh (at_page e.pid page) write)
+      at = grind (arith, get-inserted)
 
   accept_does : (giver giver_page page : ℕ) → e.call ≡ call.Accept giver giver_page page
       → accept_refusal s e.pid giver giver_page page ≡ None → answer s e ≡ reply.Done
@@ -389,18 +310,8 @@ module _ (s : State) (e : Event) (w : IsWellFormed s) (live : is_live s e.pid �
   accept_does giver giver_page page is allowed told goes = record {
     right = pending.0;
     offered = pending.1;
-    has = ap (option_map flags_of) at ∙ (λ i. Some (record {
-      write = right_is i;
-      may = right_is i;
-      accessed = false;
-      dirty = false;
-    }));
-    group = ap (λ (x : Option Cell). unwrap_or (option_map (λ (c : Cell). set.contains c.holders from) x) false) at
-        ∙ contains-insert c.holders slot from
-        ∙ ap (λ b. same slot_order from slot || b)
-        (ap (λ (x : Option Cell). set.contains (unwrap_or x (fresh from true)).holders from) given.1
-        ∙ (w.cells from given.0 given.1).own)
-        ∙ or_true (same slot_order from slot);
+    has = grind (arith, at, right_is);
+    group = grind (arith, c, from, at, contains-insert, slot, given);
     gone = offers_end s e (offer_key giver giver_page e.pid) (inr (refl, (page, is))) told;
   }
     where
@@ -439,10 +350,6 @@ module _ (s : State) (e : Event) (w : IsWellFormed s) (live : is_live s e.pid �
       at = ap (λ (t : State). map.get t.spaces slot) goes
           ∙ get-inserted (set_holders s.spaces c.holders (set.insert c.holders slot)) slot new
 
-      or_true : (b : Bool) → (b || true) ≡ true
-      or_true true = refl
-      or_true false = refl
-
   does : (c : Call) → e.call ≡ c → completes (answer_of s e.pid c) ≡ true → next s e ≡ after s e.pid c
       → Tells s e.pid c (answer s e) → Does s (next s e) e.pid c
   does (call.Load address size) is h goes told = load_does address size is goes
@@ -450,29 +357,15 @@ module _ (s : State) (e : Event) (w : IsWellFormed s) (live : is_live s e.pid �
   does (call.Map page write) is h goes told =
       map_does page write is (ap is_some (may_map s e.pid page (not-refused (map_refusal s e.pid page) _ h)).none) goes
   does (call.Unmap page) is h goes told = unmaps_end s e page is told
-  does (call.Protect page write) is h goes told =
-      ap (λ (t : State). flags_at t (at_page e.pid page)) goes
-      ∙ ap (option_map flags_of) (get-inserted s.spaces (at_page e.pid page)
-      (record (cell_or_fresh s.spaces (at_page e.pid page)) { write = write }))
-  does (call.Info page) is h goes told = tt
-  does (call.Offer page target write) is h goes told =
-      ap (λ (t : State). map.get t.offers (offer_key e.pid page target)) goes
-      ∙ get-insert s.offers (offer_key e.pid page target) write (offer_key e.pid page target)
-      ∙ ap (λ b. cond b (Some write) (map.get s.offers (offer_key e.pid page target)))
-      (same_itself offer_order (offer_key e.pid page target))
-  does (call.Withdraw page target) is h goes told =
-      offers_end s e (offer_key e.pid page target) (inl (refl, is)) told
-  does (call.Accept giver giver_page page) is h goes told =
-      accept_does giver giver_page page is (not-refused (accept_refusal s e.pid giver giver_page page) _ h) told goes
-  does (call.Spawn quota) is h goes told = tt
-  does (call.Fork quota) is h goes told = tt
+  does (call.Protect page write) is h goes told = grind (arith, get-inserted)
+  does (call.Offer page target write) is h goes told = grind (arith, get-insert, same_itself)
+  does (call.Withdraw page target) is h goes told = grind (arith, offers_end)
+  does (call.Accept giver giver_page page) is h goes told = grind (arith, accept_does, not-refused)
   does call.Exit is h goes told = exits_end s e is told
-  does call.Quota is h goes told = tt
+  does _ is h goes told = tt
 
 pub done_means_done : DoneMeansDone
-done_means_done s e w done =
-    let l = caller_live s e done in
-    does s e w l.0 done e.call refl l.1 (next-goes s e done) (completes_by_kind s e done)
+done_means_done s e w done = grind (arith, caller_live, does, next-goes, completes_by_kind)
 
 -- ---- Which slots come and go
 
@@ -483,11 +376,7 @@ slots_go s e slot w was now =
     ap (λ (x : Option Cell). unwrap_or (option_map (λ (c : Cell). set.contains c.holders slot) x) false) c.1
     ∙ (w.cells slot c.0 c.1).own in
     elim (sharing_stays s e slot slot w own) [
-      | inl still ↦ absurd (
-          let none = ap (λ (x : Option Cell). unwrap_or (option_map (λ (c : Cell). set.contains c.holders slot) x) false)
-          (no_value (map.get (next s e).spaces slot) now) in
-          let t = still in
-          cc)
+      | inl still ↦ grind (arith, no_value)
       | inr leaves ↦ elim leaves [
         | inl left ↦ left
         | inr left ↦ left
@@ -496,69 +385,21 @@ slots_go s e slot w was now =
 
 insert_comes : (S : Spaces) (at : Slot) (c : Cell) (slot : Slot) → map.contains_key (map.insert S at c) slot ≡ true
     → (map.contains_key S slot ≡ true) ⊎ (slot ≡ at)
-insert_comes S at c slot h = elim (same_cases slot_order slot at) [
-  | inl is ↦ inr is.0
-  | inr other ↦ inl (sym (ap is_some (get-inserted_other S at c slot other.0)) ∙ h)
-]
-
-page_comes : (S : Spaces) (q page : ℕ) (slot : Slot) → map.contains_key (with_page S q page) slot ≡ true
-    → (map.contains_key S slot ≡ true) ⊎ (slot ≡ at_page q page)
-page_comes S q page slot = by (map.contains_key S (at_page q page))
-  where
-    by : (b : Bool)
-        → map.contains_key (if b then S else map.insert S (at_page q page) (fresh (at_page q page) true)) slot ≡ true
-        → (map.contains_key S slot ≡ true) ⊎ (slot ≡ at_page q page)
-    by true h = inl h
-    by false h = insert_comes S (at_page q page) (fresh (at_page q page) true) slot h
+insert_comes S at c slot h = grind (arith, same_cases, get-inserted_other)
 
 abbrev pub Touches : ℕ → Size → ℕ → Type 0
 Touches address size page = (a : ℕ) × IsCovered address size a × (page_number a ≡ page)
 
 pub first_touched : (address : ℕ) (size : Size) → Touches address size (page_number address)
-first_touched address One = (address, (omega arith, omega arith), refl)
-first_touched address Two = (address, (omega arith, omega arith), refl)
-first_touched address Four = (address, (omega arith, omega arith), refl)
+first_touched address size = grind arith
 
 pub second_touched : (address : ℕ) (size : Size) → IfSome (second_page address size) (Touches address size)
-second_touched address size = by (nat_le (offset_number address + byte_count size) 4096) refl
-  where
-    over : (n : ℕ) → nat_le n 4096 ≡ false → 4096 < n
-    over n h = grind (arith, nat_tests)
-
-    by : (b : Bool) → nat_le (offset_number address + byte_count size) 4096 ≡ b
-        → IfSome (if b then None else Some (page_number address + 1)) (Touches address size)
-    by true h = tt
-    by false h =
-        let more = over (offset_number address + byte_count size) h in
-        (4096 * (page_number address + 1), (omega arith, omega (arith, more)), omega arith)
+second_touched address size = grind arith
 
 pages_come : (S : Spaces) (q address : ℕ) (size : Size) (slot : Slot)
     → map.contains_key (with_pages S q (touched address size)) slot ≡ true
     → (map.contains_key S slot ≡ true) ⊎ ((slot.pid ≡ q) × Touches address size slot.page)
-pages_come S q address size slot = by (second_page address size) (second_touched address size)
-  where
-    come : (page : ℕ) → Touches address size page → slot ≡ at_page q page
-        → (slot.pid ≡ q) × Touches address size slot.page
-    come page x is = (
-      ap (λ (y : Slot). y.pid) is,
-      subst (Touches address size) (sym (ap (λ (y : Slot). y.page) is)) x,
-    )
-
-    first : map.contains_key (with_page S q (page_number address)) slot ≡ true
-        → (map.contains_key S slot ≡ true) ⊎ ((slot.pid ≡ q) × Touches address size slot.page)
-    first h = elim (page_comes S q (page_number address) slot h) [
-      | inl before ↦ inl before
-      | inr is ↦ inr (come (page_number address) (first_touched address size) is)
-    ]
-
-    by : (x : Option ℕ) → IfSome x (Touches address size)
-        → map.contains_key (with_pages S q (page_and (page_number address) x)) slot ≡ true
-        → (map.contains_key S slot ≡ true) ⊎ ((slot.pid ≡ q) × Touches address size slot.page)
-    by None second h = first h
-    by (Some page) second h = elim (page_comes (with_page S q (page_number address)) q page slot h) [
-      | inl before ↦ first before
-      | inr is ↦ inr (come page second is)
-    ]
+pages_come S q address size slot = grind (arith, second_touched, insert_comes, first_touched)
 
 module _ (s : State) (e : Event) (slot : Slot) (was : is_mapped s slot ≡ false) where
   abbrev Comes : Call → Type 0
@@ -567,29 +408,15 @@ module _ (s : State) (e : Event) (slot : Slot) (was : is_mapped s slot ≡ false
   same_slots : (S : Spaces) → map.contains_key S slot ≡ map.contains_key s.spaces slot → map.contains_key S slot ≡ true → ⊥
   same_slots S same h = let a = same in let b = was in let c = h in cc
 
-  kept_out : (x : Bool) (c : Option Cell) → is_some (cond x c None) ≡ true → is_some c ≡ true
-  kept_out true c h = h
-  kept_out false c h = cc
-
   without_comes : (gone : Slot → Bool) → map.contains_key (without s.spaces gone) slot ≡ true → ⊥
-  without_comes gone h =
-      let a = kept_out (not (gone slot)) (option_map (left gone) (map.get s.spaces slot))
-      (sym (ap is_some (get-without s.spaces gone slot)) ∙ h) in
-      let b = sym (is_some-map (left gone) (map.get s.spaces slot)) ∙ a in
-      let c = was in
-      cc
+  without_comes gone h = grind (arith, left, get-without, is_some-map)
 
   own_page : (page : ℕ) → slot ≡ at_page e.pid page → (slot.pid ≡ e.pid) × (page ≡ slot.page)
   own_page page is = (ap (λ (x : Slot). x.pid) is, sym (ap (λ (x : Slot). x.page) is))
 
   comes : (c : Call) → completes (answer_of s e.pid c) ≡ true → Tells s e.pid c (answer s e)
       → (answer s e ≡ answer_of s e.pid c) → map.contains_key (after s e.pid c).spaces slot ≡ true → Comes c
-  comes (call.Load address size) h told is now = elim (pages_come s.spaces e.pid address size slot
-      (sym (key-all_accessed (with_pages s.spaces e.pid (touched address size)) e.pid address size
-      (touched-there s.spaces e.pid address size) slot) ∙ now)) [
-        | inl before ↦ absurd (same_slots s.spaces refl before)
-        | inr came ↦ inl came
-      ]
+  comes (call.Load address size) h told is now = grind (arith, pages_come, key-all_accessed, touched-there, same_slots)
   comes (call.Store address size value) h told is now = elim (pages_come s.spaces e.pid address size slot
       (sym (key-all_stored (with_pages s.spaces e.pid (touched address size)) e.pid address (byte_count size) value
       (bytes_there (with_pages s.spaces e.pid (touched address size)) e.pid address size
@@ -597,22 +424,9 @@ module _ (s : State) (e : Event) (slot : Slot) (was : is_mapped s slot ≡ false
         | inl before ↦ absurd (same_slots s.spaces refl before)
         | inr came ↦ inl came
       ]
-  comes (call.Map page write) h told is now =
-      elim (insert_comes s.spaces (at_page e.pid page) (fresh (at_page e.pid page) write) slot now) [
-        | inl before ↦ absurd (same_slots s.spaces refl before)
-        | inr here ↦ inl (own_page page here)
-      ]
+  comes (call.Map page write) h told is now = grind (arith, insert_comes, same_slots, own_page)
   comes (call.Unmap page) h told is now = absurd (without_comes (is_slot e.pid page) now)
-  comes (call.Protect page write) h told is now =
-      elim (insert_comes s.spaces (at_page e.pid page)
-      (record (cell_or_fresh s.spaces (at_page e.pid page)) { write = write }) slot now) [
-        | inl before ↦ absurd (same_slots s.spaces refl before)
-        | inr here ↦ absurd (same_slots s.spaces refl (ap (map.contains_key s.spaces) here
-            ∙ (may_protect s e.pid page write (not-refused (protect_refusal s e.pid page write) _ h)).mapped))
-      ]
-  comes (call.Info page) h told is now = absurd (same_slots s.spaces refl now)
-  comes (call.Offer page target write) h told is now = absurd (same_slots s.spaces refl now)
-  comes (call.Withdraw page target) h told is now = absurd (same_slots s.spaces refl now)
+  comes (call.Protect page write) h told is now = grind (arith, insert_comes, same_slots, may_protect, not-refused)
   comes (call.Accept giver giver_page page) h told is now =
       let c : Cell = cell_or_fresh s.spaces (at_page giver giver_page) in
       let holders = set.insert c.holders (at_page e.pid page) in
@@ -631,28 +445,12 @@ module _ (s : State) (e : Event) (slot : Slot) (was : is_mapped s slot ≡ false
             ∙ is_some-map (f slot) (map.get s.spaces slot)) ∙ before))
         | inr here ↦ inl (own_page page here)
       ]
-  comes (call.Spawn quota) h told is now = absurd (same_slots s.spaces refl now)
   comes (call.Fork quota) h told is now = elim (cases_eq slot.pid (child_of s)) [
-    | inl here ↦ inr (is ∙ ap (λ (x : Option Cause). refused_or x (reply.Child (child_of s)))
-        (not-refused (fork_refusal s e.pid quota) _ h) ∙ ap reply.Child (sym here))
-    | inr other ↦ absurd (same_slots s.spaces refl
-        (sym (ap is_some (copied-other s.spaces e.pid (child_of s) slot other)) ∙ now))
+    | inl here ↦ grind (arith, not-refused)
+    | inr other ↦ grind (arith, same_slots, copied-other)
   ]
   comes call.Exit h told is now = absurd (without_comes (is_of e.pid) now)
-  comes call.Quota h told is now = absurd (same_slots s.spaces refl now)
+  comes _ h told is now = absurd (same_slots s.spaces refl now)
 
 pub slots_come : SlotsCome
-slots_come s e slot was now = by (completes (answer s e)) refl
-  where
-    by : (b : Bool) → completes (answer s e) ≡ b
-        → ((slot.pid ≡ e.pid) × Maps e.call slot.page) ⊎ (answer s e ≡ reply.Child slot.pid)
-    by true h =
-        let l = caller_live s e h in
-        comes s e slot was e.call l.1 (completes_by_kind s e h)
-        (λ i. if l.0 i then answer_of s e.pid e.call else reply.Refused cause.NoProcess)
-        (sym (ap (λ (t : State). map.contains_key t.spaces slot) (next-goes s e h)) ∙ now)
-    by false h = absurd (
-        let a = ap (λ (t : State). map.contains_key t.spaces slot) (next-stays s e h) in
-        let b = was in
-        let c = now in
-        cc)
+slots_come s e slot was now = grind (arith, caller_live, comes, completes_by_kind, next-goes, next-stays)

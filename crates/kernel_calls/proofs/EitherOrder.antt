@@ -1,32 +1,13 @@
 -- An access and an event of another process, in either order.
-use Rattle.std.proofs.Common.{◌≡◌, ◌≢◌, ℕ, ◌+◌, ◌<◌, ◌≤◌, ◌||◌, Bool, true, false, refl, ap, sym, ◌∙◌, inl, inr, arith, Option, Some, None, unwrap_or, is_some, eq-eqb, eqb-true, ne_eqb, subst, List, length}
-use Rattle.std.specs.Prelude.{if◌then◌else◌}
-use Rattle.std.specs.Option.{option_map}
-use Rattle.page_words.specs.Addresses.{byte_count, touched}
-use Rattle.page_words.specs.declared.addresses.Size.{Size}
-use Rattle.page_words.specs.FiniteMap as map
-use Rattle.page_words.specs.FiniteSet as set
-use Rattle.page_words.specs.FiniteMap.{same}
-use Rattle.page_words.specs.FiniteSet.{Set}
-use Rattle.page_words.proofs.MapLemmas.{contains-insert, same-true}
-use Rattle.page_words.proofs.SetLemmas.{same_apart}
-use Rattle.address_space.specs.Spaces.{Slot, slot_order, Cell, Spaces, at_page, slot_at, cell_or_fresh, fresh, bytes_of, with_pages, all_accessed, all_stored, without, is_slot, is_of}
-use Rattle.address_space.proofs.steps.Stores.{length-bytes_of}
-use Rattle.quota_tree.specs.Book.{Book, next_number}
-use Rattle.page_sharing.specs.Offers.{offer_key}
-use Rattle.process_table.specs.State.{State, is_live, child_of}
-use Rattle.process_table.specs.WellFormed.{IsWellFormed}
-use Rattle.process_table.proofs.CellLaws.{get-inserted_other}
-use Rattle.kernel_calls.specs.Authority.{HaveTheSame, LooksSame, Sees, IsUnseen, IsQuietCall, is_offered, found}
+use Rattle.kernel_calls.proofs.Prelude
+use Prelude.{◌≡◌, ◌≢◌, ℕ, ◌+◌, ◌<◌, ◌≤◌, ◌||◌, Bool, true, false, refl, ap, sym, ◌∙◌, inr, arith, Option, Some, None}
+use Prelude.{unwrap_or, is_some, subst, List, length, eq-eqb, eqb-true, ne_eqb, option_map, byte_count, touched, Size}
+use Prelude.{same, Set, contains-insert, same-true, same_apart, Slot, slot_order, Cell, Spaces, at_page, slot_at}
+use Prelude.{cell_or_fresh, fresh, bytes_of, with_pages, all_accessed, all_stored, without, is_slot, is_of}
+use Prelude.{length-bytes_of, offer_key, State, is_live, child_of, IsWellFormed, get-inserted_other, HaveTheSame}
+use Prelude.{LooksSame, Sees, IsUnseen, IsQuietCall, is_offered, found, accept_refusal, offered, fork_refusal}
+use Prelude.{child_free, no_page, may_fork, may_accept, answer, answer_of, after, next, completes, Call, Event, or-true}
 use Rattle.kernel_calls.specs.Beside.{only, InEitherOrder, AccessesBeside, OrdersEndTheSame, is_access}
-use Rattle.process_table.specs.Calls.{accept_refusal, offered, fork_refusal}
-use Rattle.process_table.proofs.ApartOthers.{child_free, no_page}
-use Rattle.process_table.proofs.Forks.{may_fork}
-use Rattle.process_table.proofs.Refusals.{may_accept}
-use Rattle.kernel_calls.specs.Machine.{answer, answer_of, after, next, completes}
-use Rattle.kernel_calls.specs.declared.calls.Call.{Call}
-use Rattle.kernel_calls.specs.declared.calls.Call.TheVariants as call
-use Rattle.kernel_calls.specs.declared.calls.Event.{Event}
 use Rattle.kernel_calls.proofs.Commuting.{at_slot, IsFree, load_apart, store_apart, loads_commute, pages_commute}
 use Rattle.kernel_calls.proofs.CommutingForks.{load_copied, store_copied}
 use Rattle.kernel_calls.proofs.CommutingGone.{NoneWith, load_gone, store_gone}
@@ -37,76 +18,24 @@ use Rattle.kernel_calls.proofs.Outsiders.{outsiders_unseen}
 use Rattle.kernel_calls.proofs.Runs.{not-refused}
 use Rattle.kernel_calls.proofs.Untouched.{caller_live}
 use Rattle.kernel_calls.proofs.Views.{members_told_the_same}
+use Rattle.page_words.specs.FiniteMap as map
+use Rattle.page_words.specs.FiniteSet as set
+use Rattle.kernel_calls.specs.declared.calls.Call.TheVariants as call
 
 -- what looks the same to a process is the same of what it has
 looks_has : (s t : State) (p : ℕ) → LooksSame s t (only p) → HaveTheSame s t (only p)
-looks_has s t p l = record {
-  standing = l.standing;
-  families = l.families;
-  flags = l.flags;
-  offers = λ key own. l.offers key (inl own);
-  pages = λ slot own. l.pages slot (sees slot own);
-  same_page = λ slot other own also. l.same_page slot other (sees slot own) (sees other also);
-}
-  where
-    sees : (slot : Slot) → only p slot.pid ≡ true → Sees s (only p) slot
-    sees slot own = (p, eq-eqb p p refl, (λ i. own i || is_offered s p slot))
-
--- an access leaves the book
-access_book : (s : State) (p : ℕ) (c : Call) → is_access c ≡ true → (after s p c).book ≡ s.book
-access_book s p (call.Load addr size) h = refl
-access_book s p (call.Store addr size value) h = refl
-access_book s p (call.Map page write) h = cc
-access_book s p (call.Unmap page) h = cc
-access_book s p (call.Protect page write) h = cc
-access_book s p (call.Info page) h = cc
-access_book s p (call.Offer page target write) h = cc
-access_book s p (call.Withdraw page target) h = cc
-access_book s p (call.Accept giver giver_page page) h = cc
-access_book s p (call.Spawn quota) h = cc
-access_book s p (call.Fork quota) h = cc
-access_book s p call.Exit h = cc
-access_book s p call.Quota h = cc
+looks_has s t p l = grind (arith, eq-eqb)
 
 next_book : (s : State) (o : Event) → is_access o.call ≡ true → (next s o).book ≡ s.book
-next_book s o h = by (completes (answer s o)) refl
-  where
-    by : (b : Bool) → completes (answer s o) ≡ b → (next s o).book ≡ s.book
-    by false is = ap (λ (t : State). t.book) (next-stays s o is)
-    by true is = ap (λ (t : State). t.book) (next-goes s o is) ∙ access_book s o.pid o.call h
+next_book s o h = grind (arith, next-stays, next-goes)
 
 -- what a call finds of who is live is in the book
 found_book : (s t : State) (c : Call) → t.book ≡ s.book → found s c ≡ found t c
-found_book s t (call.Load addr size) same = refl
-found_book s t (call.Store addr size value) same = refl
-found_book s t (call.Map page write) same = refl
-found_book s t (call.Unmap page) same = refl
-found_book s t (call.Protect page write) same = refl
-found_book s t (call.Info page) same = refl
-found_book s t (call.Offer page target write) same =
-    ap (λ (b : Book). if map.contains_key b target then Some target else None) (sym same)
-found_book s t (call.Withdraw page target) same = refl
-found_book s t (call.Accept giver giver_page page) same = refl
-found_book s t (call.Spawn quota) same = ap next_number (sym same)
-found_book s t (call.Fork quota) same = ap next_number (sym same)
-found_book s t call.Exit same = refl
-found_book s t call.Quota same = refl
+found_book s t c same = grind arith
 
 -- an access finds nothing, and takes no offer
 found_access : (s t : State) (c : Call) → is_access c ≡ true → found s c ≡ found t c
-found_access s t (call.Load addr size) h = refl
-found_access s t (call.Store addr size value) h = refl
-found_access s t (call.Map page write) h = cc
-found_access s t (call.Unmap page) h = cc
-found_access s t (call.Protect page write) h = cc
-found_access s t (call.Info page) h = cc
-found_access s t (call.Offer page target write) h = cc
-found_access s t (call.Withdraw page target) h = cc
-found_access s t (call.Accept giver giver_page page) h = cc
-found_access s t (call.Spawn quota) h = cc
-found_access s t (call.Fork quota) h = cc
-found_access s t call.Exit h = cc
-found_access s t call.Quota h = cc
+found_access s t c h = grind arith
 
 -- where two states look the same to a process, and it finds the same, it is told the same
 told : (s t : State) (e : Event) → LooksSame s t (only e.pid) → found s e.call ≡ found t e.call → answer s e ≡ answer t e
@@ -187,12 +116,7 @@ free_unseen s p q addr size value differ unseen a own i l =
         (p, eq-eqb p p refl, (λ j. eq-eqb a.pid p own j || is_offered s p a)))
 
     by : (x : Option Cell) → map.get s.spaces slot ≡ x → set.contains (cell_or_fresh s.spaces slot).holders a ≡ false
-    by None is =
-        ap (λ (x : Option Cell). set.contains (unwrap_or x (fresh slot true)).holders a) is
-        ∙ contains-insert {o = slot_order} set.empty slot a ∙ ap (λ b. b || false) (same_apart slot_order a slot apart)
-    by (Some c) is =
-        ap (λ (x : Option Cell). set.contains (unwrap_or x (fresh slot true)).holders a) is
-        ∙ either c (set.contains c.holders a) refl is
+    by x is = grind (arith, slot, contains-insert, same_apart, apart, either)
 
 slot_calls_commute : (s : State) (p q : ℕ) (c d : Call) → p ≢ q → slots_only c ≡ true → is_access d ≡ true
     → IsQuietCall s (only p) q d → after (after s q d) p c ≡ after (after s p c) q d
@@ -208,17 +132,7 @@ slot_calls_commute s p q c (call.Store addr size value) differ keeps h quiet =
     (λ is. differ (sym own ∙ ap (λ (y : Slot). y.pid) (sym is))))) ∙ good x mine i l)
     (λ a own f S good. store_apart a q (λ is. differ (sym own ∙ is)) f (touched addr size) S addr (bytes_of (byte_count size) value) (good a own))
     (free_unseen s p q addr size value differ quiet) keeps
-slot_calls_commute s p q c (call.Map page write) differ keeps h quiet = cc
-slot_calls_commute s p q c (call.Unmap page) differ keeps h quiet = cc
-slot_calls_commute s p q c (call.Protect page write) differ keeps h quiet = cc
-slot_calls_commute s p q c (call.Info page) differ keeps h quiet = cc
-slot_calls_commute s p q c (call.Offer page target write) differ keeps h quiet = cc
-slot_calls_commute s p q c (call.Withdraw page target) differ keeps h quiet = cc
-slot_calls_commute s p q c (call.Accept giver giver_page page) differ keeps h quiet = cc
-slot_calls_commute s p q c (call.Spawn quota) differ keeps h quiet = cc
-slot_calls_commute s p q c (call.Fork quota) differ keeps h quiet = cc
-slot_calls_commute s p q c call.Exit differ keeps h quiet = cc
-slot_calls_commute s p q c call.Quota differ keeps h quiet = cc
+slot_calls_commute s p q c _ differ keeps h quiet = cc
 
 -- two stores into groups that have nothing in common
 stores_apart : (s : State) (p q from to : ℕ) (size n : Size) (value v : ℕ) → IsWellFormed s → p ≢ q
@@ -252,8 +166,7 @@ stores_apart s p q from to size n value v w differ quiet heard = record {
         ∙ sym (ap (λ (z : Option Cell). set.contains (unwrap_or z (fresh a true)).holders x) is) ∙ h)
       where
         by : (b : Bool) → same slot_order x a ≡ b → (b || false) ≡ true → x ≡ a
-        by true k e = same-true slot_order x a k
-        by false k e = cc
+        by b k e = grind (arith, same-true)
 
     none : (x : Slot) (i j : ℕ) → set.contains (group_at s.spaces (slot_at q (to + j))) (slot_at p (from + i)) ≡ false
         → set.contains (group_at s.spaces (slot_at p (from + i))) (slot_at q (to + j)) ≡ false
@@ -261,14 +174,8 @@ stores_apart s p q from to size n value v w differ quiet heard = record {
         → set.contains (group_at s.spaces (slot_at q (to + j))) x ≡ true
         → (y : Option Cell) → map.get s.spaces (slot_at p (from + i)) ≡ y
         → (z : Option Cell) → map.get s.spaces (slot_at q (to + j)) ≡ z → ⊥
-    none x i j no_a no_b one two None is z at =
-        let here = lone (slot_at p (from + i)) x is one in
-        let k : false ≡ true = sym no_a ∙ sym (ap (set.contains (group_at s.spaces (slot_at q (to + j)))) here) ∙ two in
-        cc
-    none x i j no_a no_b one two (Some c) is None at =
-        let here = lone (slot_at q (to + j)) x at two in
-        let k : false ≡ true = sym no_b ∙ sym (ap (set.contains (group_at s.spaces (slot_at p (from + i)))) here) ∙ one in
-        cc
+    none x i j no_a no_b one two None is z at = grind (arith, lone, group_at)
+    none x i j no_a no_b one two (Some c) is None at = grind (arith, lone, group_at)
     none x i j no_a no_b one two (Some c) is (Some d) at =
         let group_c = ap (λ (z : Option Cell). (unwrap_or z (fresh (slot_at p (from + i)) true)).holders) is in
         let group_d = ap (λ (z : Option Cell). (unwrap_or z (fresh (slot_at q (to + j)) true)).holders) at in
@@ -354,20 +261,7 @@ none_with s q gone w stays unseen n x held = by (gone x) refl (map.get s.spaces 
 -- slots go, and an access
 gone_commute : (s : State) (q : ℕ) (gone : Slot → Bool) (d : Call) → is_access d ≡ true → ((n : ℕ) → gone (at_page q n) ≡ false)
     → NoneWith gone q s.spaces → without (after s q d).spaces gone ≡ (after (record s { spaces = without s.spaces gone }) q d).spaces
-gone_commute s q gone (call.Load addr size) h stays none = load_gone gone q stays (touched addr size) s.spaces none
-gone_commute s q gone (call.Store addr size value) h stays none =
-    store_gone gone q stays (touched addr size) s.spaces addr (bytes_of (byte_count size) value) none
-gone_commute s q gone (call.Map page write) h stays none = cc
-gone_commute s q gone (call.Unmap page) h stays none = cc
-gone_commute s q gone (call.Protect page write) h stays none = cc
-gone_commute s q gone (call.Info page) h stays none = cc
-gone_commute s q gone (call.Offer page target write) h stays none = cc
-gone_commute s q gone (call.Withdraw page target) h stays none = cc
-gone_commute s q gone (call.Accept giver giver_page page) h stays none = cc
-gone_commute s q gone (call.Spawn quota) h stays none = cc
-gone_commute s q gone (call.Fork quota) h stays none = cc
-gone_commute s q gone call.Exit h stays none = cc
-gone_commute s q gone call.Quota h stays none = cc
+gone_commute s q gone d h stays none = grind (arith, load_gone, store_gone)
 
 unmap_commutes : (s : State) (p q page : ℕ) (d : Call) → IsWellFormed s → p ≢ q → is_access d ≡ true
     → IsUnseen s (only q) (at_page p page)
@@ -382,17 +276,7 @@ unmap_commutes s p q page (call.Store addr size value) w differ h heard =
     ap (λ (S : Spaces). record (after s p (call.Unmap page)) { spaces = S })
     (gone_commute s q (is_slot p page) (call.Store addr size value) refl stays
     (none_with s q (is_slot p page) w stays (λ x is. subst (IsUnseen s (only q)) (same-true slot_order (at_page p page) x is) heard)))
-unmap_commutes s p q page (call.Map n write) w differ h heard = cc
-unmap_commutes s p q page (call.Unmap n) w differ h heard = cc
-unmap_commutes s p q page (call.Protect n write) w differ h heard = cc
-unmap_commutes s p q page (call.Info n) w differ h heard = cc
-unmap_commutes s p q page (call.Offer n target write) w differ h heard = cc
-unmap_commutes s p q page (call.Withdraw n target) w differ h heard = cc
-unmap_commutes s p q page (call.Accept giver giver_page n) w differ h heard = cc
-unmap_commutes s p q page (call.Spawn quota) w differ h heard = cc
-unmap_commutes s p q page (call.Fork quota) w differ h heard = cc
-unmap_commutes s p q page call.Exit w differ h heard = cc
-unmap_commutes s p q page call.Quota w differ h heard = cc
+unmap_commutes s p q page _ w differ h heard = cc
 
 exit_commutes : (s : State) (p q : ℕ) (d : Call) → IsWellFormed s → p ≢ q → is_access d ≡ true
     → ((page : ℕ) → IsUnseen s (only q) (at_page p page)) → after (after s q d) p call.Exit ≡ after (after s p call.Exit) q d
@@ -406,17 +290,7 @@ exit_commutes s p q (call.Store addr size value) w differ h heard =
     ap (λ (S : Spaces). record (after s p call.Exit) { spaces = S })
     (gone_commute s q (is_of p) (call.Store addr size value) refl stays
     (none_with s q (is_of p) w stays (λ x is. subst (λ n. IsUnseen s (only q) (at_page n x.page)) (sym (eqb-true x.pid p is)) (heard x.page))))
-exit_commutes s p q (call.Map n write) w differ h heard = cc
-exit_commutes s p q (call.Unmap n) w differ h heard = cc
-exit_commutes s p q (call.Protect n write) w differ h heard = cc
-exit_commutes s p q (call.Info n) w differ h heard = cc
-exit_commutes s p q (call.Offer n target write) w differ h heard = cc
-exit_commutes s p q (call.Withdraw n target) w differ h heard = cc
-exit_commutes s p q (call.Accept giver giver_page n) w differ h heard = cc
-exit_commutes s p q (call.Spawn quota) w differ h heard = cc
-exit_commutes s p q (call.Fork quota) w differ h heard = cc
-exit_commutes s p q call.Exit w differ h heard = cc
-exit_commutes s p q call.Quota w differ h heard = cc
+exit_commutes s p q _ w differ h heard = cc
 
 -- what a set sees is in the group of no slot that is unseen by it
 unseen_none : (s : State) (Q : ℕ → Bool) (a x : Slot) → IsUnseen s Q a → Sees s Q x → a ≢ x
@@ -429,24 +303,15 @@ unseen_none s Q a x unseen sees apart = by (map.get s.spaces a) refl
         (ap (λ (z : Option Cell). unwrap_or (option_map (λ (k : Cell). set.contains k.holders x) z) false) there ∙ is) sees)
 
     by : (z : Option Cell) → map.get s.spaces a ≡ z → set.contains (group_at s.spaces a) x ≡ false
-    by None is =
-        ap (λ (z : Option Cell). set.contains (unwrap_or z (fresh a true)).holders x) is
-        ∙ contains-insert {o = slot_order} set.empty a x
-        ∙ ap (λ b. b || false) (same_apart slot_order x a (λ h. apart (sym h)))
-    by (Some c) is =
-        ap (λ (z : Option Cell). set.contains (unwrap_or z (fresh a true)).holders x) is ∙ either c (set.contains c.holders x) refl is
+    by z is = grind (arith, contains-insert, same_apart, either)
 
 own_seen_by : (s : State) (q : ℕ) (x : Slot) → x.pid ≡ q → Sees s (only q) x
 own_seen_by s q x own = (q, eq-eqb q q refl, (λ i. eq-eqb x.pid q own i || is_offered s q x))
 
-or_true : (b : Bool) → (b || true) ≡ true
-or_true true = refl
-or_true false = refl
-
 offered_seen : (s : State) (p giver giver_page : ℕ) → is_offered s p (at_page giver giver_page) ≡ true
     → Sees s (only p) (at_page giver giver_page)
 offered_seen s p giver giver_page offer =
-    (p, eq-eqb p p refl, ap (λ b. is_of p (at_page giver giver_page) || b) offer ∙ or_true (is_of p (at_page giver giver_page)))
+    (p, eq-eqb p p refl, ap (λ b. is_of p (at_page giver giver_page) || b) offer ∙ or-true (is_of p (at_page giver giver_page)))
 
 accept_commutes : (s : State) (p q giver giver_page page : ℕ) (d : Call) → IsWellFormed s → p ≢ q → is_access d ≡ true
     → completes (answer_of s p (call.Accept giver giver_page page)) ≡ true
@@ -475,9 +340,7 @@ accept_commutes s p q giver giver_page page d w differ h done quiet heard = by d
 
     by : (d : Call) → is_access d ≡ true → IsQuietCall s (only p) q d
         → after (after s q d) p (call.Accept giver giver_page page) ≡ after (after s p (call.Accept giver giver_page page)) q d
-    by (call.Load addr size) k quiet =
-        ap (λ (S : Spaces). record (after s p (call.Accept giver giver_page page)) { spaces = S })
-        (load_joined from to right q far differ (touched addr size) s.spaces none)
+    by (call.Load addr size) k quiet = grind (arith, load_joined, from, to, right, far, none)
     by (call.Store addr size value) k quiet =
         ap (λ (S : Spaces). record (after s p (call.Accept giver giver_page page)) { spaces = S })
         (store_joined from to right q far differ (touched addr size) s.spaces addr (bytes_of (byte_count size) value) none
@@ -486,17 +349,7 @@ accept_commutes s p q giver giver_page page d w differ h done quiet heard = by d
         unseen_none s (only p) (slot_at q (addr + i)) from (quiet (addr + i) (omega arith) (omega (arith, l, long)))
         (offered_seen s p giver giver_page offer) (λ is. far (sym (ap (λ (x : Slot). x.pid) is))))
         (free_unseen s p q addr size value differ quiet to refl))
-    by (call.Map n write) k quiet = cc
-    by (call.Unmap n) k quiet = cc
-    by (call.Protect n write) k quiet = cc
-    by (call.Info n) k quiet = cc
-    by (call.Offer n target write) k quiet = cc
-    by (call.Withdraw n target) k quiet = cc
-    by (call.Accept g m n) k quiet = cc
-    by (call.Spawn quota) k quiet = cc
-    by (call.Fork quota) k quiet = cc
-    by call.Exit k quiet = cc
-    by call.Quota k quiet = cc
+    by _ k quiet = cc
 
 fork_commutes : (s : State) (p q quota : ℕ) (d : Call) → IsWellFormed s → p ≢ q → is_access d ≡ true
     → completes (answer_of s p (call.Fork quota)) ≡ true → IsQuietCall s (only p) q d → only q (child_of s) ≡ false
@@ -533,9 +386,7 @@ fork_commutes s p q quota d w differ h done quiet heard = by d h quiet
 
     by : (d : Call) → is_access d ≡ true → IsQuietCall s (only p) q d
         → after (after s q d) p (call.Fork quota) ≡ after (after s p (call.Fork quota)) q d
-    by (call.Load addr size) h quiet =
-        ap (λ (S : Spaces). record (after s p (call.Fork quota)) { spaces = S })
-        (load_copied p k q other old (touched addr size) s.spaces)
+    by (call.Load addr size) h quiet = grind (arith, load_copied, k, other, old)
     by (call.Store addr size value) h quiet =
         ap (λ (S : Spaces). record (after s p (call.Fork quota)) { spaces = S })
         (store_copied p k q other old (touched addr size) s.spaces addr (bytes_of (byte_count size) value)
@@ -544,51 +395,12 @@ fork_commutes s p q quota d w differ h done quiet heard = by d h quiet
           λ n. new (slot_at q (addr + i)) n refl (map.get s.spaces (slot_at q (addr + i))) refl
               (set.contains (group_at s.spaces (slot_at q (addr + i))) (at_page k n)) refl,
         )))
-    by (call.Map n write) h quiet = cc
-    by (call.Unmap n) h quiet = cc
-    by (call.Protect n write) h quiet = cc
-    by (call.Info n) h quiet = cc
-    by (call.Offer n target write) h quiet = cc
-    by (call.Withdraw n target) h quiet = cc
-    by (call.Accept g m n) h quiet = cc
-    by (call.Spawn more) h quiet = cc
-    by (call.Fork more) h quiet = cc
-    by call.Exit h quiet = cc
-    by call.Quota h quiet = cc
+    by _ h quiet = cc
 
 calls_commute : (s : State) (p q : ℕ) (c d : Call) → IsWellFormed s → p ≢ q → completes (answer_of s p c) ≡ true → is_access d ≡ true
     → IsQuietCall s (only p) q d → IsQuietCall s (only q) p c → after (after s q d) p c ≡ after (after s p c) q d
-calls_commute s p q (call.Store from size value) d w differ done h quiet heard = by d h quiet
-  where
-    by : (d : Call) → is_access d ≡ true → IsQuietCall s (only p) q d
-        → after (after s q d) p (call.Store from size value) ≡ after (after s p (call.Store from size value)) q d
-    by (call.Load addr n) k quiet =
-        sym (slot_calls_commute s q p (call.Load addr n) (call.Store from size value) (λ is. differ (sym is)) refl refl heard)
-    by (call.Store to n v) k quiet = stores_commute s p q from to size n value v w differ quiet heard
-    by (call.Map page write) k quiet = cc
-    by (call.Unmap page) k quiet = cc
-    by (call.Protect page write) k quiet = cc
-    by (call.Info page) k quiet = cc
-    by (call.Offer page target write) k quiet = cc
-    by (call.Withdraw page target) k quiet = cc
-    by (call.Accept giver giver_page page) k quiet = cc
-    by (call.Spawn quota) k quiet = cc
-    by (call.Fork quota) k quiet = cc
-    by call.Exit k quiet = cc
-    by call.Quota k quiet = cc
-calls_commute s p q (call.Load addr size) d w differ done h quiet heard = slot_calls_commute s p q (call.Load addr size) d differ refl h quiet
-calls_commute s p q (call.Map page write) d w differ done h quiet heard = slot_calls_commute s p q (call.Map page write) d differ refl h quiet
-calls_commute s p q (call.Unmap page) d w differ done h quiet heard = unmap_commutes s p q page d w differ h heard
-calls_commute s p q (call.Protect page write) d w differ done h quiet heard = slot_calls_commute s p q (call.Protect page write) d differ refl h quiet
-calls_commute s p q (call.Info page) d w differ done h quiet heard = slot_calls_commute s p q (call.Info page) d differ refl h quiet
-calls_commute s p q (call.Offer page target write) d w differ done h quiet heard = slot_calls_commute s p q (call.Offer page target write) d differ refl h quiet
-calls_commute s p q (call.Withdraw page target) d w differ done h quiet heard = slot_calls_commute s p q (call.Withdraw page target) d differ refl h quiet
-calls_commute s p q (call.Accept giver giver_page page) d w differ done h quiet heard =
-    accept_commutes s p q giver giver_page page d w differ h done quiet heard
-calls_commute s p q (call.Spawn quota) d w differ done h quiet heard = slot_calls_commute s p q (call.Spawn quota) d differ refl h quiet
-calls_commute s p q (call.Fork quota) d w differ done h quiet heard = fork_commutes s p q quota d w differ h done quiet heard
-calls_commute s p q call.Exit d w differ done h quiet heard = exit_commutes s p q d w differ h heard.1
-calls_commute s p q call.Quota d w differ done h quiet heard = slot_calls_commute s p q call.Quota d differ refl h quiet
+calls_commute s p q c d w differ done h quiet heard =
+    grind (arith, slot_calls_commute, stores_commute, unmap_commutes, accept_commutes, fork_commutes, exit_commutes)
 
 pub orders_end_the_same : OrdersEndTheSame
 orders_end_the_same s e o w beside = by (completes (answer s e)) refl (completes (answer s o)) refl
@@ -598,17 +410,6 @@ orders_end_the_same s e o w beside = by (completes (answer s e)) refl (completes
 
     -- where one doesn't complete, it does nothing in either order
     by : (b : Bool) → completes (answer s e) ≡ b → (c : Bool) → completes (answer s o) ≡ c → next (next s o) e ≡ next (next s e) o
-    by false is c at =
-        next-stays (next s o) e (ap completes both.event ∙ is)
-        ∙ sym (ap (λ (t : State). next t o) (next-stays s e is))
-    by true is false at =
-        ap (λ (t : State). next t e) (next-stays s o at)
-        ∙ sym (next-stays (next s e) o (ap completes both.access ∙ at))
-    by true is true at =
-        next-goes (next s o) e (ap completes both.event ∙ is)
-        ∙ ap (λ (t : State). after t e.pid e.call) (next-goes s o at)
-        ∙ calls_commute s e.pid o.pid e.call o.call w (λ same. beside.another (sym same)) (caller_live s e is).1 beside.access
-        (beside.unseen (ne_eqb o.pid e.pid beside.another) at)
-        (beside.unheard (ne_eqb e.pid o.pid (λ same. beside.another (sym same))) is)
-        ∙ sym (ap (λ (t : State). after t o.pid o.call) (next-goes s e is))
-        ∙ sym (next-goes (next s e) o (ap completes both.access ∙ at))
+    by false is c at = grind (arith, next-stays, both)
+    by true is false at = grind (arith, next-stays, both)
+    by true is true at = grind (arith, next-goes, both, calls_commute, caller_live, ne_eqb)

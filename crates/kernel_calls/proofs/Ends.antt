@@ -1,115 +1,27 @@
 -- No translation is ended for nothing.
-use Rattle.std.proofs.Common.{
-  ◌≡◌,
-  ◌≢◌,
-  ◌<◌,
-  ◌^◌,
-  ℕ,
-  zero,
-  suc,
-  ◌+◌,
-  Bool,
-  true,
-  false,
-  not,
-  ◌&&◌,
-  ◌||◌,
-  ◌==◌,
-  List,
-  [],
-  ◌∷◌,
-  length,
-  refl,
-  ap,
-  sym,
-  ◌∙◌,
-  subst,
-  arith,
-  inl,
-  inr,
-  Option,
-  Some,
-  None,
-}
-use Rattle.std.specs.Prelude.{◌⊎◌, if◌then◌else◌, is_some, MatchBool, Ok}
-use Rattle.std.specs.Option.{option_map, unwrap_or}
-use Rattle.page_words.specs.Addresses.{page_number, offset_number, second_page, byte_count, touched}
-use Rattle.page_words.specs.declared.addresses.Size.{Size}
+use Rattle.kernel_calls.proofs.Prelude
+use Prelude.{◌≡◌, ◌≢◌, ◌<◌, ◌^◌, ℕ, zero, suc, ◌+◌, Bool, true, false, not, ◌&&◌, ◌||◌, ◌==◌, List, [], ◌∷◌, length}
+use Prelude.{refl, ap, sym, ◌∙◌, arith, inl, inr, Option, Some, None, is_some, unwrap_or, ◌⊎◌, if◌then◌else◌, Ok}
+use Prelude.{option_map, page_number, offset_number, second_page, byte_count, touched, Size, crosses, some_bytes}
+use Prelude.{same-true, same_itself, get-map_values, contains-insert, Access, Read, Write, walk_of, directory_at}
+use Prelude.{is_lazy_at, takes_stores, Slot, slot_order, Cell, Spaces, at_page, slot_at, is_slot, cell_or_fresh, fresh}
+use Prelude.{with_pages, with_holders, set_bytes, set_holders, write_at, stored, all_stored, bytes_of, protected}
+use Prelude.{joined, without, way_of, WaysAgree, WalksAgree, length-bytes_of, StandsFor, image_of, memory_of, offered}
+use Prelude.{State, is_mapped, View, IsWellFormed, get-inserted, get-inserted_other, without-was, may_accept}
+use Prelude.{giver_mapped, goes_on, plan_at, step_at, ready, plan_of_call, answer, answer_of, after, next, completes}
+use Prelude.{is_ended, page_filled, second_filled, of_pages, of_plan, of_call, ended_by, EndsNoMore, Call, Event}
+use Rattle.kernel_calls.proofs.Decided.{goes-event, next-goes}
+use Rattle.kernel_calls.proofs.Flags.{has, dirty_is_flag, keeps_all_stored}
+use Rattle.kernel_calls.proofs.Translated.{way_mapped, walk_takes, walk_finds, has_right}
 use Rattle.page_words.specs.FiniteMap as map
 use Rattle.page_words.specs.FiniteSet as set
-use Rattle.page_words.specs.Words.{frame_number, is_lazy, is_dirty}
-use Rattle.page_words.proofs.Accesses.{crosses, some_bytes}
-use Rattle.page_words.proofs.MapLemmas.{same-true, same_itself, get-map_values, contains-insert}
-use Rattle.table_walk.specs.declared.Access.{Access}
-use Rattle.table_walk.specs.declared.Access.TheVariants.{Read, Write}
-use Rattle.table_walk.specs.Walk.{walk_of}
-use Rattle.address_space.specs.Image.{
-  directory_at,
-  page_word,
-  page_frame,
-  is_lazy_at,
-  takes_stores,
-  SlotStands,
-  CellStands,
-}
-use Rattle.address_space.specs.Spaces.{
-  Slot,
-  slot_order,
-  Cell,
-  Spaces,
-  at_page,
-  slot_at,
-  is_slot,
-  is_of,
-  cell_or_fresh,
-  fresh,
-  with_pages,
-  with_holders,
-  set_bytes,
-  set_holders,
-  write_at,
-  stored,
-  all_stored,
-  bytes_of,
-  protected,
-  joined,
-  without,
-}
-use Rattle.address_space.specs.Stays.{way_of, WaysAgree}
-use Rattle.address_space.specs.Walks.{WalksAgree}
-use Rattle.address_space.proofs.steps.Stores.{length-bytes_of}
-use Rattle.process_table.specs.Image.{StandsFor, image_of, memory_of}
-use Rattle.process_table.specs.Calls.{offered}
-use Rattle.process_table.specs.State.{State, is_mapped}
-use Rattle.process_table.specs.View.{View}
-use Rattle.process_table.specs.WellFormed.{IsWellFormed}
-use Rattle.process_table.proofs.CellLaws.{get-inserted, get-inserted_other, without-was}
-use Rattle.process_table.proofs.Refusals.{may_accept}
-use Rattle.process_table.proofs.SharingLaws.{giver_mapped}
-use Rattle.fault_handler.specs.Plans.{goes_on, plan_at, step_at}
 use Rattle.fault_handler.specs.declared.plans.PageStep.TheVariants as step
 use Rattle.fault_handler.specs.declared.plans.Plan.TheVariants as plan
-use Rattle.fault_handler.proofs.Settled.{ready}
 use Rattle.process_table.specs.declared.causes.Cause.TheVariants as cause
-use Rattle.kernel_calls.specs.Decisions.{plan_of_call}
-use Rattle.kernel_calls.specs.Machine.{answer, answer_of, after, next, completes}
-use Rattle.kernel_calls.specs.Translations.{
-  is_ended,
-  page_filled,
-  second_filled,
-  of_pages,
-  of_plan,
-  of_call,
-  ended_by,
-  EndsNoMore,
-}
-use Rattle.kernel_calls.specs.declared.calls.Call.{Call}
 use Rattle.kernel_calls.specs.declared.calls.Call.TheVariants as call
-use Rattle.kernel_calls.specs.declared.calls.Event.{Event}
 use Rattle.kernel_calls.specs.declared.translations.Ended.TheVariants as end
-use Rattle.kernel_calls.proofs.Decided.{goes-event, next-goes}
-use Rattle.kernel_calls.proofs.Flags.{has, dirty_is_flag, keeps_all_stored, not_refused}
-use Rattle.kernel_calls.proofs.Translated.{live_answer, way_mapped, walk_takes, walk_finds, has_right}
+use Rattle.kernel_calls.proofs.Runs.{not-refused}
+use Rattle.kernel_calls.proofs.Untouched.{caller_live}
 
 -- ---- What a store leaves dirty
 
@@ -170,37 +82,12 @@ module _ (w : View) (stands : StandsFor (image_of w) w.state) (walks : WalksAgre
     (ways : WaysAgree (memory_of w)) where
   -- a dirty slot
   dirty_real : (slot : Slot) → has dirty (map.get w.state.spaces slot) ≡ true → is_lazy_at (memory_of w) slot ≡ false
-  dirty_real slot h = by (page_word (memory_of w) slot) refl (map.get w.state.spaces slot) (stands.memory.cells slot) h
-    where
-      real : (word : ℕ) (b : Bool) → page_word (memory_of w) slot ≡ Some word → is_lazy word ≡ b → is_dirty word ≡ true
-          → is_lazy word ≡ false
-      real word false is lazy h = lazy
-      real word true is lazy h = absurd (let k : false ≡ true = sym (ways.clean slot word is lazy) ∙ h in cc)
-
-      by : (x : Option ℕ) → page_word (memory_of w) slot ≡ x → (y : Option Cell) → SlotStands (memory_of w) slot x y
-          → has dirty y ≡ true → is_lazy_at (memory_of w) slot ≡ false
-      by x is None s h = cc
-      by None is (Some c) s h = absurd s
-      by (Some word) is (Some c) s h = ap (λ (x : Option ℕ). unwrap_or (option_map is_lazy x) false) is
-          ∙ real word (is_lazy word) is refl (sym s.dirty ∙ h)
+  dirty_real slot h = grind (arith, has)
 
   -- a slot with another in its group
   shared_real : (slot other : Slot) (c : Cell) → map.get w.state.spaces slot ≡ Some c
       → set.contains c.holders other ≡ true → other ≢ slot → is_lazy_at (memory_of w) slot ≡ false
-  shared_real slot other c there held differ = by (page_word (memory_of w) slot) refl
-      (subst (SlotStands (memory_of w) slot (page_word (memory_of w) slot)) there (stands.memory.cells slot))
-    where
-      real : (word : ℕ) (b : Bool) → is_lazy word ≡ b → CellStands (memory_of w) slot word c → is_lazy word ≡ false
-      real word false lazy s = lazy
-      real word true lazy s = absurd (differ (subst
-          (λ b. MatchBool b (other ≡ slot) (page_frame (memory_of w) other ≡ Some (frame_number word))) lazy
-          ((s.group other).0 held)))
-
-      by : (x : Option ℕ) → page_word (memory_of w) slot ≡ x → SlotStands (memory_of w) slot x (Some c)
-          → is_lazy_at (memory_of w) slot ≡ false
-      by None is s = absurd s
-      by (Some word) is s = ap (λ (x : Option ℕ). unwrap_or (option_map is_lazy x) false) is
-          ∙ real word (is_lazy word) refl s
+  shared_real slot other c there held differ = grind arith
 
   -- a walk to frame 0 is of a lazy slot
   walk_lazy : (p d a f : ℕ) → directory_at (memory_of w) p ≡ Some d → a < 2 ^ 32 → walk_of w.bytes d a Read ≡ Ok f
@@ -217,12 +104,7 @@ module _ (w : View) (stands : StandsFor (image_of w) w.state) (walks : WalksAgre
 
 pub without_gone : (S : Spaces) (gone : Slot → Bool) (q : Slot) → gone q ≡ true
     → is_some (map.get (without S gone) q) ≡ false
-without_gone S gone q is = by (map.get (without S gone) q) refl
-  where
-    by : (x : Option Cell) → map.get (without S gone) q ≡ x → is_some x ≡ false
-    by None h = refl
-    by (Some c) h = absurd (let was = without-was S gone q c h in let stays = was.2 in let k : true ≡ false = sym is
-        ∙ stays in cc)
+without_gone S gone q is = grind (arith, without-was)
 
 -- the giver's group has the slot that joined it
 giver_joined : (S : Spaces) (giver slot : Slot) (right : Bool) (c : Cell) → map.get S giver ≡ Some c
@@ -305,15 +187,7 @@ module _ (v w : View) (stands : StandsFor (image_of v) v.state) (walks : WalksAg
   named q (Some page) = is_slot q page slot
 
   some_page : (q : ℕ) (x y : Option ℕ) → is_ended (of_pages q x y) slot ≡ true → (named q x ≡ true) ⊎ (named q y ≡ true)
-  some_page q None None h = cc
-  some_page q (Some page) None h = inl h
-  some_page q None (Some page) h = inr h
-  some_page q (Some first) (Some second) h = by (is_slot q first slot) refl h
-    where
-      by : (b : Bool) → is_slot q first slot ≡ b → (b || is_slot q second slot) ≡ true
-          → (is_slot q first slot ≡ true) ⊎ (is_slot q second slot ≡ true)
-      by true is k = inl is
-      by false is k = inr k
+  some_page q x y h = grind arith
 
   -- a page that is filled is lazy
   filled : (q page : ℕ) → named q (page_filled page (step_at v q Write page)) ≡ true
@@ -332,7 +206,6 @@ module _ (v w : View) (stands : StandsFor (image_of v) v.state) (walks : WalksAg
       → ((addr : ℕ) (size : Size) (value : ℕ) → c ≡ call.Store addr size value
       → goes_on (plan_at v q addr size Write) ≡ true)
       → w.state ≡ after v.state q c → is_ended (of_call v q c) slot ≡ true → Lost
-  lost_call q (call.Load addr size) done goes state h = cc
   lost_call q (call.Store addr size value) done goes state h =
       let is = (ready (step_at v q Write) v.state q addr size Write (goes addr size value refl)).is in
       let pages = some_page q (page_filled (page_number addr) (step_at v q Write (page_number addr)))
@@ -360,10 +233,7 @@ module _ (v w : View) (stands : StandsFor (image_of v) v.state) (walks : WalksAg
           (ap (λ (t : State). has dirty (map.get t.spaces slot)) state
           ∙ sym (ap (λ s. has dirty (map.get (all_stored S q addr (bytes_of (byte_count size) value)) s)) there.0)
           ∙ dirty_second S q addr size value page is))
-  lost_call q (call.Map page write) done goes state h = cc
-  lost_call q (call.Unmap page) done goes state h =
-      lost_gone (ap (λ (t : State). is_some (map.get t.spaces slot)) state
-      ∙ without_gone v.state.spaces (is_slot q page) slot h)
+  lost_call q (call.Unmap page) done goes state h = grind (arith, lost_gone, without_gone)
   lost_call q (call.Protect page write) done goes state h =
       by write (takes_stores v.state.spaces (memory_of v) (at_page q page)) refl refl h
     where
@@ -378,9 +248,6 @@ module _ (v w : View) (stands : StandsFor (image_of v) v.state) (walks : WalksAg
           ∙ sym (ap (λ s. has (λ c. c.write) (map.get (protected v.state.spaces (at_page q page) write) s)) here)
           ∙ ap (has (λ c. c.write)) (get-inserted v.state.spaces (at_page q page)
           (record (cell_or_fresh v.state.spaces (at_page q page)) { write = write })) ∙ is)
-  lost_call q (call.Info page) done goes state h = cc
-  lost_call q (call.Offer page target write) done goes state h = cc
-  lost_call q (call.Withdraw page target) done goes state h = cc
   lost_call q (call.Accept giver giver_page page) done goes state h =
       by (is_lazy_at (memory_of v) (at_page giver giver_page)) refl h
     where
@@ -389,7 +256,7 @@ module _ (v w : View) (stands : StandsFor (image_of v) v.state) (walks : WalksAg
       by false lazy k = cc
       by true lazy k =
           let here = same-true slot_order (at_page giver giver_page) slot k in
-          let may = may_accept v.state q giver giver_page page (not_refused _ _ done) in
+          let may = may_accept v.state q giver giver_page page (not-refused _ _ done) in
           let g = giver_mapped v.state q giver giver_page well may.there in
           let differ : at_page giver giver_page ≢ at_page q page =
           (λ e. let n : Some g.0 ≡ None = sym g.1 ∙ ap (map.get v.state.spaces) e ∙ may.none in cc) in
@@ -401,11 +268,8 @@ module _ (v w : View) (stands : StandsFor (image_of v) v.state) (walks : WalksAg
           ∙ sym (ap (map.get (joined v.state.spaces (at_page giver giver_page) (at_page q page)
           (offered v.state giver giver_page q))) here) ∙ j.1) j.2
           (λ e. differ (here ∙ sym e)))
-  lost_call q (call.Spawn quota) done goes state h = cc
-  lost_call q (call.Fork quota) done goes state h = cc
-  lost_call q call.Exit done goes state h = lost_gone
-      (ap (λ (t : State). is_some (map.get t.spaces slot)) state ∙ without_gone v.state.spaces (is_of q) slot h)
-  lost_call q call.Quota done goes state h = cc
+  lost_call q call.Exit done goes state h = grind (arith, lost_gone, without_gone)
+  lost_call q _ done goes state h = cc
 
   pub lost : (e : Event) → w.state ≡ next v.state e → is_ended (ended_by v e) slot ≡ true → Lost
   lost e state h = by (completes (answer v.state e)) refl h
@@ -414,11 +278,11 @@ module _ (v w : View) (stands : StandsFor (image_of v) v.state) (walks : WalksAg
           → is_ended (if b then of_call v e.pid e.call else end.Nothing) slot ≡ true → Lost
       by false is k = cc
       by true is k =
-          lost_call e.pid e.call (live_answer v.state e is).1
+          lost_call e.pid e.call (caller_live v.state e is).1
           (λ addr size value store.
           sym (ap (λ c. goes_on (plan_of_call v e.pid c)) store)
           ∙ sym (ap (λ b. goes_on (if b then plan_of_call v e.pid e.call else plan.Refused cause.NoProcess))
-          (live_answer v.state e is).0) ∙ goes-event v e ∙ is)
+          (caller_live v.state e is).0) ∙ goes-event v e ∙ is)
           (state ∙ next-goes v.state e is) k
 
 pub ends_no_more : (v w : View) (e : Event) → StandsFor (image_of v) v.state → WalksAgree (memory_of v) v.state.spaces

@@ -1,51 +1,12 @@
 -- What a family that keeps within itself has, whatever others do, and what its members' events make of it.
-use Rattle.std.proofs.Common.{
-  ◌≡◌,
-  ◌≢◌,
-  ℕ,
-  ◌&&◌,
-  ◌||◌,
-  ◌==◌,
-  not,
-  Bool,
-  true,
-  false,
-  cond,
-  if◌then◌else◌,
-  refl,
-  sym,
-  ap,
-  subst,
-  ◌∙◌,
-  Option,
-  Some,
-  None,
-  is_some,
-  unwrap_or,
-  arith,
-  inl,
-  inr,
-}
-use Rattle.std.specs.Prelude.{◌⊎◌}
-use Rattle.std.specs.Option.{option_map}
-use Rattle.page_words.specs.FiniteMap as map
-use Rattle.page_words.specs.FiniteMap.{same}
-use Rattle.page_words.specs.FiniteSet as set
-use Rattle.page_words.proofs.MapLemmas.{get-insert, get-retain_keys}
-use Rattle.page_words.proofs.OptionLemmas.{some_value}
-use Rattle.address_space.specs.Spaces.{Slot, Cell, is_of, at_page, joined}
-use Rattle.quota_tree.specs.Book.{Book, Member, is_child, given, quota_of, number_of_children}
-use Rattle.page_sharing.specs.Offers.{OfferKey, offer_order, offer_key}
-use Rattle.process_table.specs.State.{State, is_live}
-use Rattle.process_table.specs.WellFormed.{IsWellFormed}
-use Rattle.process_table.proofs.BookLaws.{retained, parents_in}
+use Rattle.kernel_calls.proofs.Prelude
+use Prelude.{◌≡◌, ◌≢◌, ℕ, ◌&&◌, ◌||◌, ◌==◌, not, Bool, true, false, cond, refl, sym, ap, subst, ◌∙◌, Option, Some, None}
+use Prelude.{is_some, unwrap_or, arith, inl, inr, if◌then◌else◌, ◌⊎◌, option_map, same, get-insert, get-retain_keys}
+use Prelude.{some_value, Slot, Cell, at_page, joined, Book, Member, is_child, given, quota_of, number_of_children}
+use Prelude.{OfferKey, offer_order, offer_key, State, is_live, IsWellFormed, retained, parents_in, Standing, flags_of}
+use Prelude.{shown_of, is_child_of, HaveTheSame, Sees, LooksSame, found, members_after, keeps_within, KeepsWithin}
+use Prelude.{IsAsBefore, IsFamily, answer, after, next, Call, Event, eqb-true, eq-eqb, and_parts}
 use Rattle.process_table.proofs.Sizes.{len-retain}
-use Rattle.kernel_calls.specs.Authority.{Standing, flags_of, shown_of, is_offered, is_child_of, HaveTheSame, Sees, LooksSame, found, members_after, keeps_within, KeepsWithin, IsAsBefore}
-use Rattle.kernel_calls.specs.Families.{IsFamily}
-use Rattle.kernel_calls.specs.Machine.{answer, after, next, completes}
-use Rattle.kernel_calls.specs.declared.calls.Call.{Call}
-use Rattle.kernel_calls.specs.declared.calls.Call.TheVariants as call
-use Rattle.kernel_calls.specs.declared.calls.Event.{Event}
 use Rattle.kernel_calls.proofs.Births.{place_of, child_dead, maker_of, children_are_their_makers, no_offer_by}
 use Rattle.kernel_calls.proofs.Confined.{next_confined, one_leaves}
 use Rattle.kernel_calls.proofs.Decided.{next-stays, next-goes}
@@ -53,11 +14,9 @@ use Rattle.kernel_calls.proofs.Seen.{kept_offers}
 use Rattle.kernel_calls.proofs.SeenTogether.{members_see_the_same}
 use Rattle.kernel_calls.proofs.Untouched.{leaves_all}
 use Rattle.kernel_calls.proofs.Views.{HasTheSame, member_has, process_told}
-use borrow.Author.Tests.{eqb-true, eq-eqb}
-
-second : (a b : Bool) → (a && b) ≡ true → (a ≡ true) × (b ≡ true)
-second true b h = (refl, h)
-second false b h = cc
+use Rattle.page_words.specs.FiniteMap as map
+use Rattle.page_words.specs.FiniteSet as set
+use Rattle.kernel_calls.specs.declared.calls.Call.TheVariants as call
 
 -- ---- A child, by the book
 
@@ -66,8 +25,7 @@ child_in p q x = unwrap_or (option_map (λ (m : Member). is_child p (q, m)) x) f
 
 -- who is a child has a place, and its parent
 child_place : (p q : ℕ) (x : Option Member) → child_in p q x ≡ true → (m : Member) × (x ≡ Some m) × (m.parent ≡ p)
-child_place p q None h = cc
-child_place p q (Some m) h = (m, refl, eqb-true m.parent p (second (not (q == 0)) (m.parent == p) h).1)
+child_place p q x h = grind (arith, eqb-true, and_parts)
 
 -- ---- A family stays one
 
@@ -99,7 +57,7 @@ module _ (s : State) (e : Event) (C : ℕ → Bool) (w : IsWellFormed s) (family
     ]
       where
         was : (is_live (next s e) p ≡ true) × ((if is_live s p then C p else C e.pid) ≡ true)
-        was = second (is_live (next s e) p) (if is_live s p then C p else C e.pid) member
+        was = and_parts (is_live (next s e) p) (if is_live s p then C p else C e.pid) member
 
         now : is_live (next s e) q ≡ true
         now = ap is_some (child_place p q (map.get (next s e).book q) is).1
@@ -108,7 +66,7 @@ module _ (s : State) (e : Event) (C : ℕ → Bool) (w : IsWellFormed s) (family
     next_family = record {
       confined = next_confined s e C (members_after s C e) w family.confined keeps
           (λ p before after_it. (λ i. after_it i && (if before i then C p else C e.pid)));
-      live = λ p h. (second (is_live (next s e) p) (if is_live s p then C p else C e.pid) h).0;
+      live = λ p h. (and_parts (is_live (next s e) p) (if is_live s p then C p else C e.pid) h).0;
       children = child_member;
     }
 
@@ -185,26 +143,11 @@ none_within Q s key w dead =
 
 module _ (s t : State) (Q : ℕ → Bool) (l : HaveTheSame s t Q) where
   offers_within : (key : OfferKey) → map.get (within Q s).offers key ≡ map.get (within Q t).offers key
-  offers_within key =
-      get-retain_keys s.offers (by_member Q) key ∙ by (Q key.offerer) refl
-      ∙ sym (get-retain_keys t.offers (by_member Q) key)
-    where
-      by : (b : Bool) → Q key.offerer ≡ b → cond (Q key.offerer) (map.get s.offers key) None ≡ cond (Q key.offerer)
-          (map.get t.offers key) None
-      by true is = ap (cond (Q key.offerer) (map.get s.offers key)) refl
-          ∙ (λ i. cond (Q key.offerer) (l.offers key is i) None)
-      by false is = (λ i. cond (is i) (map.get s.offers key) None)
-          ∙ sym (λ i. cond (is i) (map.get t.offers key) None)
+  offers_within key = grind (arith, get-retain_keys)
 
   -- what is seen there is a member's own
   own_within : (slot : Slot) → Sees (within Q s) Q slot → Q slot.pid ≡ true
-  own_within slot v = by (is_of v.0 slot) refl v.2
-    where
-      by : (b : Bool) → is_of v.0 slot ≡ b → (b || is_offered (within Q s) v.0 slot) ≡ true → Q slot.pid ≡ true
-      by true is h = ap Q (eqb-true slot.pid v.0 is) ∙ v.1
-      by false is h =
-          let r = some_value (map.get (within Q s).offers (offer_key slot.pid slot.page v.0)) h in
-          (retained s.offers (by_member Q) (offer_key slot.pid slot.page v.0) r.0 r.1).0
+  own_within slot v = grind (arith, eqb-true, some_value, retained)
 
   looks_within : LooksSame (within Q s) (within Q t) Q
   looks_within = record {
@@ -253,17 +196,12 @@ module _ (s : State) (e : Event) (Q : ℕ → Bool) (mine : Q e.pid ≡ true) (k
       ∙ keeps)))
 
   after_within : (c : Call) → keeps_within Q c ≡ true → Follows s (after (within Q s) e.pid c) (after s e.pid c) Q
-  after_within (call.Load addr size) h = record { spaces = refl; book = refl; offers = λ key o. o }
-  after_within (call.Store addr size value) h = record { spaces = refl; book = refl; offers = λ key o. o }
-  after_within (call.Map page write) h = record { spaces = refl; book = refl; offers = λ key o. o }
   after_within (call.Unmap page) h = record {
     spaces = refl;
     book = refl;
     offers = λ key o. kept_offers (within Q s).offers s.offers
         (λ (k : OfferKey). not ((k.offerer == e.pid) && (k.page == page))) key o;
   }
-  after_within (call.Protect page write) h = record { spaces = refl; book = refl; offers = λ key o. o }
-  after_within (call.Info page) h = record { spaces = refl; book = refl; offers = λ key o. o }
   after_within (call.Offer page target write) h = record {
     spaces = refl;
     book = refl;
@@ -285,35 +223,22 @@ module _ (s : State) (e : Event) (Q : ℕ → Bool) (mine : Q e.pid ≡ true) (k
     offers = λ key o. kept_offers (within Q s).offers s.offers
         (λ k. not (same offer_order (offer_key giver giver_page e.pid) k)) key o;
   }
-  after_within (call.Spawn quota) h = record { spaces = refl; book = refl; offers = λ key o. o }
-  after_within (call.Fork quota) h = record { spaces = refl; book = refl; offers = λ key o. o }
   after_within call.Exit h = record {
     spaces = refl;
     book = refl;
     offers = λ key o. kept_offers (within Q s).offers s.offers
         (λ (k : OfferKey). not ((k.offerer == e.pid) || (k.target == e.pid))) key o;
   }
-  after_within call.Quota h = record { spaces = refl; book = refl; offers = λ key o. o }
+  after_within _ h = record { spaces = refl; book = refl; offers = λ key o. o }
 
   next_within : Follows s (next (within Q s) e) (next s e) Q
-  next_within = by (completes (answer s e)) refl
-    where
-      by : (b : Bool) → completes (answer s e) ≡ b → Follows s (next (within Q s) e) (next s e) Q
-      by true h =
-          subst (λ u. Follows s u (next s e) Q) (sym (next-goes (within Q s) e (ap completes told_within ∙ h)))
-          (subst (λ v. Follows s (after (within Q s) e.pid e.call) v Q) (sym (next-goes s e h))
-          (after_within e.call keeps))
-      by false h =
-          subst (λ u. Follows s u (next s e) Q) (sym (next-stays (within Q s) e (ap completes told_within ∙ h)))
-          (subst (λ v. Follows s (within Q s) v Q) (sym (next-stays s e h))
-          (record { spaces = refl; book = refl; offers = λ key o. o }))
+  next_within = grind (arith, next-goes, told_within, after_within, next-stays)
 
 -- ---- So members have the same after a member's event
 
 pub family_told : (s t : State) (e : Event) (Q : ℕ → Bool) → HaveTheSame s t Q → Q e.pid ≡ true
     → keeps_within Q e.call ≡ true → found s e.call ≡ found t e.call → answer s e ≡ answer t e
-family_told s t e Q l mine keeps finds = process_told s t e (member_has s t Q e.pid mine l) finds
-    (λ giver page own is. ap is_some (l.offers (offer_key giver page e.pid) (sym (ap (keeps_within Q) is) ∙ keeps)))
+family_told s t e Q l mine keeps finds = grind (arith, process_told, member_has)
 
 module _ (s t : State) (e : Event) (Q : ℕ → Bool) (w : IsWellFormed s) (v : IsWellFormed t) (l : HaveTheSame s t Q)
     (mine : Q e.pid ≡ true) (keeps : keeps_within Q e.call ≡ true) where
@@ -335,7 +260,7 @@ module _ (s t : State) (e : Event) (Q : ℕ → Bool) (w : IsWellFormed s) (v : 
   offerer_of finds p h = by (is_live s p) refl kept.1
     where
       kept : (is_live (next s e) p ≡ true) × ((if is_live s p then Q p else Q e.pid) ≡ true)
-      kept = second (is_live (next s e) p) (if is_live s p then Q p else Q e.pid) h
+      kept = and_parts (is_live (next s e) p) (if is_live s p then Q p else Q e.pid) h
 
       by : (b : Bool) → is_live s p ≡ b → (if b then Q p else Q e.pid) ≡ true
           → (Q p ≡ true) ⊎ ((is_live s p ≡ false) × (is_live t p ≡ false))
@@ -378,16 +303,10 @@ module _ (s t : State) (e : Event) (Q : ℕ → Bool) (w : IsWellFormed s) (v : 
       }
     where
       in_one : {A B C : Type 0} → A ⊎ (B × C) → A ⊎ B
-      in_one (inl a) = inl a
-      in_one (inr b) = inr b.0
+      in_one h = grind arith
 
       in_two : {A B C : Type 0} → A ⊎ (B × C) → A ⊎ C
-      in_two (inl a) = inl a
-      in_two (inr b) = inr b.1
+      in_two h = grind arith
 
       own : (slot : Slot) → D slot.pid ≡ true → Sees (next (within Q s) e) D slot
-      own slot h = (
-        slot.pid,
-        h,
-        ap (λ b. b || is_offered (next (within Q s) e) slot.pid slot) (eq-eqb slot.pid slot.pid refl),
-      )
+      own slot h = grind (arith, eq-eqb)

@@ -1,40 +1,23 @@
 -- A process and all that descend from it exit, children first.
-use Rattle.std.proofs.Common.{◌≡◌, ◌≢◌, ℕ, ◌≤◌, Bool, true, false, cond, not, ◌&&◌, ◌||◌, ◌==◌, List, [], ◌∷◌, ◌++◌, refl, sym, ap, subst, ◌∙◌, is_some, Option, Some, None, unwrap_or, arith, inl, inr}
-use Rattle.std.specs.Prelude.{◌⊎◌, if◌then◌else◌, nat_lt}
-use Rattle.std.specs.Option.{option_map}
+use Rattle.kernel_calls.proofs.Prelude
+use Prelude.{◌≡◌, ◌≢◌, ℕ, ◌≤◌, Bool, true, false, cond, not, ◌&&◌, ◌||◌, ◌==◌, List, [], ◌∷◌, ◌++◌, refl, sym, ap}
+use Prelude.{subst, ◌∙◌, is_some, Option, Some, None, unwrap_or, arith, inl, inr, ◌⊎◌, if◌then◌else◌, option_map}
+use Prelude.{ne_eqb, map-append, list_any-append, Set, same_map, same_set, get-retain_keys, contains-retain, some_value}
+use Prelude.{get-remove, get-remove_other, Slot, slot_order, Cell, Spaces, without, with_holders, is_of, left}
+use Prelude.{get-without, Book, Member, is_child, given, quota_of, number_of_children, given-remove, without_process}
+use Prelude.{State, is_live, after_exit, View, IsWellFormed, exit_of, exits, Descends, itself, child, ungrouped}
+use Prelude.{EndsFamily, is_child_of, answer, answers, next, end_of, completes, ended_by, Ends, EndAlong, Event, Ended}
+use Prelude.{eqb-true, eq-eqb, or-true, and-true, or-false}
+use Rattle.kernel_calls.specs.Acts.{all_done, is_among, ChildrenFirst, without_processes}
 use Rattle.std.specs.Cmp.{unsigned_tied}
-use Rattle.std.proofs.lemmas.Bool.{ne_eqb}
-use Rattle.std.proofs.lemmas.List.{map-append}
-use Rattle.std.proofs.lemmas.List.Folds.{list_any-append}
-use Rattle.page_words.specs.FiniteMap as map
-use Rattle.page_words.specs.FiniteSet as set
-use Rattle.page_words.specs.FiniteSet.{Set}
-use Rattle.page_words.proofs.MapLemmas.{same_map, same_set, get-retain_keys, contains-retain}
-use Rattle.page_words.proofs.OptionLemmas.{some_value}
-use Rattle.page_words.proofs.SetLemmas.{get-remove, get-remove_other}
-use Rattle.address_space.specs.Spaces.{Slot, slot_order, Cell, Spaces, without, with_holders, is_of}
-use Rattle.address_space.proofs.steps.Departures.{left, get-without}
-use Rattle.quota_tree.specs.Book.{Book, Member, is_child, given, quota_of, number_of_children}
-use Rattle.quota_tree.proofs.Sums.{given-remove}
-use Rattle.page_sharing.specs.Offers.{without_process}
-use Rattle.process_table.specs.State.{State, is_live}
-use Rattle.process_table.specs.Calls.{after_exit}
-use Rattle.process_table.specs.View.{View}
-use Rattle.process_table.specs.WellFormed.{IsWellFormed}
-use Rattle.process_table.specs.declared.causes.Cause.TheVariants as cause
-use Rattle.kernel_calls.specs.Acts.{all_done, exit_of, exits, is_among, Descends, itself, child, ChildrenFirst, without_processes, ungrouped, EndsFamily}
-use Rattle.kernel_calls.specs.Authority.{is_child_of}
-use Rattle.kernel_calls.specs.Machine.{answer, answers, next, end_of, completes, refused_or}
-use Rattle.kernel_calls.specs.Translations.{ended_by, Ends, EndAlong}
-use Rattle.kernel_calls.specs.declared.calls.Event.{Event}
-use Rattle.kernel_calls.specs.declared.calls.Reply.TheVariants as reply
-use Rattle.kernel_calls.specs.declared.translations.Ended.{Ended}
-use Rattle.kernel_calls.specs.declared.translations.Ended.TheVariants as end
 use Rattle.kernel_calls.proofs.Decided.{next-goes}
 use Rattle.kernel_calls.proofs.Members.{child_entry, quota_below}
 use Rattle.kernel_calls.proofs.Runs.{answers-append, end_of-append}
 use Rattle.kernel_calls.proofs.SeenTogether.{no_parent}
-use borrow.Author.Tests.{eqb-true, eq-eqb}
+use Rattle.page_words.specs.FiniteMap as map
+use Rattle.page_words.specs.FiniteSet as set
+use Rattle.kernel_calls.specs.declared.calls.Reply.TheVariants as reply
+use Rattle.kernel_calls.specs.declared.translations.Ended.TheVariants as end
 
 -- ---- Who descends from whom
 
@@ -96,9 +79,7 @@ descends_less s t a is none {p} (child {q = x} {r = y} d c) = by (descends_less 
 -- ---- The state without some processes
 
 nor : (a b c : Bool) → ((a && not b) && not c) ≡ (a && not (b || c))
-nor true true c = refl
-nor true false c = refl
-nor false b c = refl
+nor a b c = grind arith
 
 module _ (S : Spaces) (first second : Slot → Bool) where
   abbrev all : Slot → Bool
@@ -126,23 +107,13 @@ module _ (S : Spaces) (first second : Slot → Bool) where
       ∙ sym (get-without S all q))
 
 twice : {A : Type 0} (b c : Bool) (x : Option A) → cond c None (cond (not b) x None) ≡ cond (not (b || c)) x None
-twice true true x = refl
-twice true false x = refl
-twice false true x = refl
-twice false false x = refl
+twice b c x = grind arith
 
 pub stays_twice : {A : Type 0} (b c : Bool) (x : Option A) → cond (not c) (cond (not b) x None) None ≡ cond (not (b || c)) x None
-stays_twice true true x = refl
-stays_twice true false x = refl
-stays_twice false true x = refl
-stays_twice false false x = refl
+stays_twice b c x = grind arith
 
 or_four : (a b c d : Bool) → ((a || b) || (c || d)) ≡ ((a || c) || (b || d))
-or_four true b c d = refl
-or_four false true true d = refl
-or_four false true false d = refl
-or_four false false true d = refl
-or_four false false false d = refl
+or_four a b c d = grind arith
 
 abbrev grown : (ℕ → Bool) → ℕ → ℕ → Bool
 grown gone a q = gone q || (q == a)
@@ -171,19 +142,14 @@ without_more s gone a = λ i. record { spaces = spaces i; book = book i; offers 
         ∙ ap (λ b. cond (not b) (map.get s.offers key) None) (or_four (gone key.offerer) (gone key.target) (key.offerer == a) (key.target == a))
         ∙ sym (get-retain_keys s.offers (λ key. not (grown gone a key.offerer || grown gone a key.target)) key))
 
-or_false : (b : Bool) → (b || false) ≡ b
-or_false true = refl
-or_false false = refl
-
 pub among-more : (order : List ℕ) (a q : ℕ) → is_among (order ++ a ∷ []) q ≡ (is_among order q || (q == a))
-among-more order a q = list_any-append (λ p. q == p) order (a ∷ []) ∙ ap (λ b. is_among order q || b) (or_false (q == a))
+among-more order a q = list_any-append (λ p. q == p) order (a ∷ []) ∙ ap (λ b. is_among order q || b) (or-false (q == a))
 
 -- ---- One Exit more
 
 -- the Exit of a live process without children, other than the root, is done
 pub exit_done : (t : State) (a : ℕ) → is_live t a ≡ true → a ≢ 0 → number_of_children t.book a ≡ 0 → answer t (exit_of a) ≡ reply.Done
-exit_done t a live not_root none =
-    (λ i. if live i then refused_or (if ne_eqb a 0 not_root i then Some cause.RootExit else if nat_lt 0 (none i) then Some cause.HasChildren else None) reply.Done else reply.Refused cause.NoProcess)
+exit_done t a live not_root none = grind (arith, ne_eqb)
 
 pub exit_after : (t : State) (a : ℕ) → answer t (exit_of a) ≡ reply.Done → next t (exit_of a) ≡ after_exit t a
 exit_after t a done = next-goes t (exit_of a) (ap completes done)
@@ -211,11 +177,7 @@ first_more s (x ∷ order) a first none =
     own = ap (λ b. b || is_among order x) (eq-eqb x x refl)
 
     later : (q : ℕ) → is_among order q ≡ true → is_among (x ∷ order) q ≡ true
-    later q h = ap (λ b. (q == x) || b) h ∙ yes (q == x)
-      where
-        yes : (b : Bool) → (b || true) ≡ true
-        yes true = refl
-        yes false = refl
+    later q h = grind (arith, or-true)
 
     apart : (r : ℕ) → is_child_of s x r ≡ true → (r == a) ≡ false
     apart r c = ne_eqb r a (λ e. absurd (let no : is_child_of s x r ≡ false = ap (is_child_of s x) e ∙ none x own in cc))
@@ -234,11 +196,7 @@ module _ (s t : State) (gone : ℕ → Bool) (is : t ≡ without_processes s gon
 
   -- who is live is not gone
   pub not_gone : (q : ℕ) → is_live t q ≡ true → gone q ≡ false
-  not_gone q live = by (gone q) (sym (ap is_some (get_left q)) ∙ live)
-    where
-      by : (b : Bool) → is_some (cond (not b) (map.get s.book q) None) ≡ true → b ≡ false
-      by true h = cc
-      by false h = refl
+  not_gone q live = grind (arith, get_left)
 
   pub gone_dead : (q : ℕ) → gone q ≡ true → is_live t q ≡ false
   gone_dead q h = ap is_some (get_left q) ∙ ap (λ b. is_some (cond (not b) (map.get s.book q) None)) h
@@ -248,24 +206,16 @@ module _ (s t : State) (gone : ℕ → Bool) (is : t ≡ without_processes s gon
 
   -- a child by then was one before
   pub child_before : (a b : ℕ) → is_child_of t a b ≡ true → is_child_of s a b ≡ true
-  child_before a b h =
-      let e = child_entry t a b h in
-      sym (ap (λ (x : Option Member). unwrap_or (option_map (λ (m : Member). is_child a (b, m)) x) false) (same_entry b (not_gone b (ap is_some e.at)))) ∙ h
+  child_before a b h = grind (arith, child_entry, same_entry, not_gone)
 
 pub exited_more : (s t : State) (p a : ℕ) (order : List ℕ) → Exited s p order t → IsWellFormed t → is_live t a ≡ true
     → Descends t p a → answer t (exit_of a) ≡ reply.Done → Exited s p (order ++ a ∷ []) (next t (exit_of a))
 exited_more s t p a order x w live below done = record {
   left = goes ∙ ap (λ k. after_exit k a) x.left ∙ without_more s (is_among order) a
       ∙ (λ i. without_processes s (λ q. sym (among-more order a q) i));
-  after = ap (end_of s) (map-append exit_of order (a ∷ [])) ∙ end_of-append s (exits order) (exit_of a ∷ [])
-      ∙ ap (λ k. next k (exit_of a)) x.after;
-  done = ap (answers s) (map-append exit_of order (a ∷ [])) ∙ answers-append s (exits order) (exit_of a ∷ [])
-      ∙ (λ i. x.done i ++ (ap (λ k. answer k (exit_of a)) x.after ∙ done) i ∷ [])
-      ∙ sym (map-append (λ _. reply.Done) (exits order) (exit_of a ∷ []))
-      ∙ ap all_done (sym (map-append exit_of order (a ∷ [])));
-  first = first_more s order a x.first (λ q h.
-      sym (ap (λ (o : Option Member). unwrap_or (option_map (λ (m : Member). is_child q (a, m)) o) false) (same_entry s t (is_among order) x.left a (not_gone s t (is_among order) x.left a live)))
-      ∙ no_parent t q a w (gone_dead s t (is_among order) x.left q h));
+  after = grind (arith, map-append, end_of-append);
+  done = grind (arith, map-append, answers-append);
+  first = grind (arith, first_more, same_entry, left, not_gone, no_parent, gone_dead);
   inside = λ q h. in_more q (is_among order q) refl (sym (among-more order a q) ∙ h);
 }
   where
@@ -273,10 +223,7 @@ exited_more s t p a order x w live below done = record {
     goes = exit_after t a done
 
     in_more : (q : ℕ) (b : Bool) → is_among order q ≡ b → (is_among order q || (q == a)) ≡ true → Descends s p q
-    in_more q true is h = x.inside q is
-    in_more q false is h =
-        let same : q ≡ a = eqb-true q a (sym (ap (λ b. b || (q == a)) is) ∙ h) in
-        subst (λ n. Descends s p n) (sym same) (descends_up (child_before s t (is_among order) x.left) below)
+    in_more q b is h = grind (arith, eqb-true, descends_up, child_before, left)
 
 -- the same while p itself has not exited: whoever descends from it has exited or descends from it still, and its parent
 -- has given what it had given
@@ -305,12 +252,8 @@ ending_none s p live = record {
   gives = λ g h. refl;
 }
   where
-    and_true : (b : Bool) → (b && true) ≡ b
-    and_true true = refl
-    and_true false = refl
-
     all_stay : (h : Set slot_order) → set.retain h (λ _. true) ≡ h
-    all_stay h = same_set _ _ (λ x. contains-retain h (λ _. true) x ∙ and_true (set.contains h x))
+    all_stay h = same_set _ _ (λ x. contains-retain h (λ _. true) x ∙ and-true (set.contains h x))
 
     same : (x : Option Cell) → option_map (left (λ _. false)) x ≡ x
     same None = refl
@@ -327,16 +270,8 @@ gives_more s t p a order w x apart below live done g own =
     omega (arith, one, none, last)
   where
     no : (m : Member) → map.get t.book a ≡ Some m → (b : Bool) → is_child g (a, m) ≡ b → is_child g (a, m) ≡ false
-    no m at false is = is
-    no m at true is = absurd (
-        let c : is_child_of t g a ≡ true = ap (λ (o : Option Member). unwrap_or (option_map (λ (m : Member). is_child g (a, m)) o) false) at ∙ is in
-        let e = child_entry t g a c in
-        let parent : e.member.parent ≡ g = e.parent in
-        let d : Descends t p g = subst (λ n. Descends t p n) parent (descends_parent apart e.member e.at below) in
-        let up : Descends s p g = descends_up (child_before s t (is_among order) x.exited.left) d in
-        let most = descends_quota w up in
-        let less = quota_below s g p w own in
-        omega (arith, most, less))
+    no m at b is =
+        grind (arith, child_entry, descends_parent, descends_up, child_before, left, descends_quota, quota_below)
 
 -- after one more, other than p
 pub ending_more : (s t : State) (p a : ℕ) (order : List ℕ) → IsWellFormed s → IsWellFormed t → Ending s p order t → a ≢ p → Descends t p a
@@ -354,29 +289,14 @@ ending_more s t p a order w u x apart below none done = record {
     live : is_live t a ≡ true
     live = descends_live x.live below
 
-    yes : (b : Bool) → (b || true) ≡ true
-    yes true = refl
-    yes false = refl
-
     on : (q : ℕ) → (is_among order q ≡ true) ⊎ Descends t p q → (is_among (order ++ a ∷ []) q ≡ true) ⊎ Descends (next t (exit_of a)) p q
-    on q (inl h) = inl (among-more order a q ∙ ap (λ b. b || (q == a)) h)
-    on q (inr d) = elim (descends_less t (next t (exit_of a)) a (ap (λ (k : State). k.book) goes) none d) [
-      | inl same ↦ inl (among-more order a q ∙ ap (λ b. is_among order q || b) (eq-eqb q a same) ∙ yes (is_among order q))
-      | inr d' ↦ inr d'
-    ]
+    on q h = grind (arith, among-more, descends_less, goes, eq-eqb, or-true)
 
 -- and then its parent descends from p still
 pub parent_below : (t : State) (p a : ℕ) (m : Member) → map.get t.book a ≡ Some m → a ≢ p → a ≢ 0 → Descends t p a
     → ((r : ℕ) → is_child_of t a r ≡ false) → answer t (exit_of a) ≡ reply.Done → Descends (next t (exit_of a)) p m.parent
 parent_below t p a m at apart not_root below none done =
-    elim (descends_less t (next t (exit_of a)) a (ap (λ (k : State). k.book) (exit_after t a done)) none (descends_parent apart m at below)) [
-      | inl same ↦ absurd (
-          let yes : is_child_of t a a ≡ true = ap (λ (o : Option Member). unwrap_or (option_map (λ (m : Member). is_child a (a, m)) o) false) at
-          ∙ (λ i. not (ne_eqb a 0 not_root i) && eq-eqb m.parent a same i) in
-          let no = none a in
-          cc)
-      | inr d ↦ d
-    ]
+    grind (arith, descends_less, exit_after, descends_parent, ne_eqb, eq-eqb)
 
 -- after p itself
 pub ending_last : (s t : State) (p : ℕ) (order : List ℕ) → IsWellFormed s → IsWellFormed t → Ending s p order t
@@ -406,19 +326,11 @@ ending_last s t p order w u x none not_root done = record {
     y : Exited s p (order ++ p ∷ []) (next t (exit_of p))
     y = exited_more s t p p order x.exited u x.live itself done
 
-    yes : (b : Bool) → (b || true) ≡ true
-    yes true = refl
-    yes false = refl
-
     all : (q : ℕ) → Descends s p q → is_among (order ++ p ∷ []) q ≡ true
-    all q d = elim (x.rest q d) [
-      | inl h ↦ among-more order p q ∙ ap (λ b. b || (q == p)) h
-      | inr below ↦ among-more order p q ∙ ap (λ b. is_among order q || b) (eq-eqb q p (descends_alone none below)) ∙ yes (is_among order q)
-    ]
+    all q d = grind (arith, among-more, eq-eqb, descends_alone, or-true)
 
     bare : (o : Option Cell) → option_map ungrouped (option_map (left (λ other. is_among (order ++ p ∷ []) other.pid)) o) ≡ option_map ungrouped o
-    bare None = refl
-    bare (Some c) = refl
+    bare o = grind arith
 
 -- ---- Along the loop
 

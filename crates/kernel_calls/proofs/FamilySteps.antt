@@ -1,21 +1,15 @@
 -- The loop that ends a family: one Exit more, and the last.
-use Rattle.std.proofs.Common.{◌≡◌, ◌≢◌, ℕ, ◌+◌, ◌<◌, ◌≤◌, length, take, set, true, false, List, [], ◌∷◌, ◌++◌, sym, ap, subst, ◌∙◌, Some, arith}
-use Rattle.std.proofs.lemmas.List.{take_more_set, map-append}
-use Rattle.page_words.specs.FiniteMap as map
-use Rattle.quota_tree.specs.Book.{Member}
-use Rattle.process_table.specs.State.{State, is_live}
-use Rattle.process_table.specs.View.{View}
-use Rattle.process_table.specs.WellFormed.{IsWellFormed}
-use Rattle.kernel_calls.specs.Acts.{exit_of, exits, spaces_of_all, Descends, EndsFamily}
-use Rattle.kernel_calls.specs.Authority.{is_child_of}
-use Rattle.kernel_calls.specs.Machine.{answer, next}
-use Rattle.kernel_calls.specs.Translations.{ended_by, Ends, EndAlong}
-use Rattle.kernel_calls.specs.declared.calls.Event.{Event}
-use Rattle.kernel_calls.specs.declared.calls.Reply.TheVariants as reply
-use Rattle.kernel_calls.specs.declared.translations.Ended.{Ended}
-use Rattle.kernel_calls.specs.declared.translations.Ended.TheVariants as end
-use Rattle.kernel_calls.proofs.FamilyEnds.{Ending, ending_more, ending_last, parent_below, descends_then, descends_live, descends_not_root, exit_after, along_more}
+use Rattle.kernel_calls.proofs.Prelude.{◌≡◌, ◌≢◌, ℕ, ◌+◌, ◌<◌, ◌≤◌, length, take, set, true, false, List, [], ◌∷◌, ◌++◌}
+use Rattle.kernel_calls.proofs.Prelude.{sym, ap, subst, ◌∙◌, Some, arith, take_more_set, map-append, Member, State}
+use Rattle.kernel_calls.proofs.Prelude.{is_live, View, IsWellFormed, exit_of, exits, Descends, EndsFamily, is_child_of}
+use Rattle.kernel_calls.proofs.Prelude.{answer, next, ended_by, Ends, EndAlong, Event, Ended}
+use Rattle.kernel_calls.specs.Acts.{spaces_of_all}
+use Rattle.kernel_calls.proofs.FamilyEnds.{Ending, ending_more, ending_last, parent_below, descends_then, descends_live}
+use Rattle.kernel_calls.proofs.FamilyEnds.{descends_not_root, exit_after, along_more}
 use Rattle.kernel_calls.proofs.Members.{len_removed}
+use Rattle.page_words.specs.FiniteMap as map
+use Rattle.kernel_calls.specs.declared.calls.Reply.TheVariants as reply
+use Rattle.kernel_calls.specs.declared.translations.Ended.TheVariants as end
 
 -- some have exited, from v to w, and the search goes on at one that descends from p
 pub record Going (v w : View) (p at count : ℕ) (list : List ℕ) : Type 0 where
@@ -35,10 +29,7 @@ pub record Leaves (w u : View) (at leaf : ℕ) : Type 0 where
 
 one_less : (w u : View) (leaf : ℕ) → is_live w.state leaf ≡ true → u.state ≡ next w.state (exit_of leaf)
     → answer w.state (exit_of leaf) ≡ reply.Done → map.len u.state.book + 1 ≡ map.len w.state.book
-one_less w u leaf live state done =
-    let n = len_removed w.state.book leaf live in
-    let b : map.len u.state.book ≡ map.len (map.remove w.state.book leaf) = ap (λ (k : State). map.len k.book) (state ∙ exit_after w.state leaf done) in
-    omega (arith, n, b)
+one_less w u leaf live state done = grind (arith, len_removed, exit_after)
 
 -- fewer are live then
 pub going_down : (w u : View) (p leaf : ℕ) → is_live w.state leaf ≡ true → u.state ≡ next w.state (exit_of leaf)

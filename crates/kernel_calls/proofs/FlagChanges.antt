@@ -1,67 +1,37 @@
 -- The flags of a slot that stays mapped change only if its process accesses or protects it.
-use Rattle.std.proofs.Common.{◌≡◌, ℕ, zero, suc, ◌+◌, ◌<◌, ◌≤◌, ◌/◌, ◌%◌, not, Bool, true, false, cond, List, [], ◌∷◌, refl, sym, ap, subst, ◌∙◌, Option, Some, None, is_some, arith, inl, inr}
-use Rattle.std.specs.Prelude.{◌⊎◌, if◌then◌else◌, IfSome}
-use Rattle.std.specs.Option.{option_map}
-use Rattle.page_words.specs.Addresses.{page_number, offset_number, byte_count, second_page, page_and, touched}
-use Rattle.page_words.specs.declared.addresses.Size.{Size}
-use Rattle.page_words.specs.FiniteMap as map
-use Rattle.page_words.specs.FiniteSet as set
-use Rattle.page_words.specs.FiniteSet.{Set}
-use Rattle.page_words.proofs.MapLemmas.{get-map_values}
-use Rattle.page_words.proofs.OptionLemmas.{some_value}
-use Rattle.page_words.proofs.SetLemmas.{same_cases}
-use Rattle.address_space.specs.Spaces.{Slot, slot_order, Cell, Spaces, at_page, slot_at, fresh, cell_or_fresh, bytes_of, with_page, with_pages, with_bytes, with_holders, set_holders, set_bytes, write_at, accessed, stored, all_accessed, all_stored, without, is_slot, is_of}
-use Rattle.address_space.proofs.costs.Copied.{copied-other}
-use Rattle.address_space.proofs.costs.MapFirst.{with_page-keeps}
-use Rattle.address_space.proofs.steps.Departures.{left, get-without}
-use Rattle.process_table.specs.State.{State, is_mapped, child_of}
-use Rattle.process_table.specs.Calls.{fork_refusal, offered}
-use Rattle.process_table.specs.WellFormed.{IsWellFormed}
-use Rattle.process_table.proofs.ApartOthers.{fork_free, live_differ}
-use Rattle.process_table.proofs.CellLaws.{get-inserted_other}
-use Rattle.kernel_calls.specs.Authority.{Flags, flags_of, flags_at}
-use Rattle.kernel_calls.specs.Effects.{Maps, FlagsChange}
-use Rattle.kernel_calls.specs.Machine.{answer, answer_of, after, next, completes}
-use Rattle.kernel_calls.specs.declared.calls.Call.{Call}
-use Rattle.kernel_calls.specs.declared.calls.Call.TheVariants as call
-use Rattle.kernel_calls.specs.declared.calls.Event.{Event}
+use Rattle.kernel_calls.proofs.Prelude
+use Prelude.{◌≡◌, ℕ, zero, suc, ◌+◌, ◌<◌, ◌≤◌, ◌/◌, ◌%◌, Bool, true, false, List, [], ◌∷◌, refl, sym, ap, ◌∙◌, Option}
+use Prelude.{Some, None, arith, inl, inr, ◌⊎◌, if◌then◌else◌, IfSome, option_map, page_number, offset_number}
+use Prelude.{second_page, page_and, touched, Size, Set, get-map_values, some_value, same_cases, Slot, slot_order, Cell}
+use Prelude.{Spaces, at_page, slot_at, cell_or_fresh, bytes_of, with_page, with_pages, with_bytes, with_holders}
+use Prelude.{set_holders, set_bytes, write_at, accessed, stored, all_accessed, all_stored, without, is_slot, is_of}
+use Prelude.{copied-other, with_page-keeps, left, get-without, State, is_mapped, child_of, fork_refusal, offered}
+use Prelude.{IsWellFormed, fork_free, live_differ, get-inserted_other, Flags, flags_of, flags_at, Maps, FlagsChange}
+use Prelude.{answer, answer_of, after, next, completes, Call, Event}
 use Rattle.kernel_calls.proofs.Decided.{next-stays, next-goes}
 use Rattle.kernel_calls.proofs.Effects.{Touches, first_touched, second_touched}
 use Rattle.kernel_calls.proofs.Runs.{not-refused}
 use Rattle.kernel_calls.proofs.Untouched.{caller_live}
+use Rattle.page_words.specs.FiniteMap as map
+use Rattle.page_words.specs.FiniteSet as set
+use Rattle.kernel_calls.specs.declared.calls.Call.TheVariants as call
 
 abbrev flags_in : Spaces → Slot → Option Flags
 flags_in S slot = option_map flags_of (map.get S slot)
 
 insert_flags : (S : Spaces) (at : Slot) (c : Cell) (slot : Slot)
     → (flags_in (map.insert S at c) slot ≡ flags_in S slot) ⊎ (slot ≡ at)
-insert_flags S at c slot = elim (same_cases slot_order slot at) [
-  | inl is ↦ inr is.0
-  | inr other ↦ inl (ap (option_map flags_of) (get-inserted_other S at c slot other.0))
-]
+insert_flags S at c slot = grind (arith, same_cases, get-inserted_other)
 
 changed_flags : (S : Spaces) (f : Slot → Cell → Cell) (slot : Slot) → ((c : Cell) → flags_of (f slot c) ≡ flags_of c)
     → flags_in (map.map_values f S) slot ≡ flags_in S slot
-changed_flags S f slot same = ap (option_map flags_of) (get-map_values slot_order f S slot) ∙ by (map.get S slot)
-  where
-    by : (x : Option Cell) → option_map flags_of (option_map (f slot) x) ≡ option_map flags_of x
-    by None = refl
-    by (Some c) = ap Some (same c)
+changed_flags S f slot same = grind (arith, get-map_values)
 
 -- ---- Accesses
 
 page_flags : (S : Spaces) (q page : ℕ) (slot : Slot) → map.contains_key S slot ≡ true
     → flags_in (with_page S q page) slot ≡ flags_in S slot
-page_flags S q page slot there = by (map.contains_key S (at_page q page)) refl
-  where
-    by : (b : Bool) → map.contains_key S (at_page q page) ≡ b
-        → flags_in (if b then S else map.insert S (at_page q page) (fresh (at_page q page) true)) slot
-        ≡ flags_in S slot
-    by true is = refl
-    by false is = elim (insert_flags S (at_page q page) (fresh (at_page q page) true) slot) [
-      | inl same ↦ same
-      | inr here ↦ absurd (let a = ap (map.contains_key S) here in let b = there in let c = is in cc)
-    ]
+page_flags S q page slot there = grind (arith, insert_flags)
 
 pages_flags : (S : Spaces) (q : ℕ) (pages : List ℕ) (slot : Slot) → map.contains_key S slot ≡ true
     → flags_in (with_pages S q pages) slot ≡ flags_in S slot
@@ -76,10 +46,7 @@ IsTouched q address size slot = (slot.pid ≡ q) × Touches address size slot.pa
 
 touched_at : (q address : ℕ) (size : Size) (slot : Slot) (page : ℕ) → Touches address size page → slot ≡ at_page q page
     → IsTouched q address size slot
-touched_at q address size slot page x is = (
-  ap (λ (y : Slot). y.pid) is,
-  subst (Touches address size) (sym (ap (λ (y : Slot). y.page) is)) x,
-)
+touched_at q address size slot page x is = grind arith
 
 accessed_flags : (T : Spaces) (q address : ℕ) (size : Size) (slot : Slot)
     → (flags_in (all_accessed T q (touched address size)) slot ≡ flags_in T slot) ⊎ IsTouched q address size slot
@@ -87,11 +54,7 @@ accessed_flags T q address size slot = by (second_page address size) (second_tou
   where
     one : (S : Spaces) (page : ℕ) → Touches address size page
         → (flags_in (accessed S (at_page q page)) slot ≡ flags_in S slot) ⊎ IsTouched q address size slot
-    one S page x = elim (insert_flags S (at_page q page)
-        (record (cell_or_fresh S (at_page q page)) { accessed = true }) slot) [
-          | inl same ↦ inl same
-          | inr is ↦ inr (touched_at q address size slot page x is)
-        ]
+    one S page x = grind (arith, insert_flags, touched_at)
 
     by : (x : Option ℕ) → IfSome x (Touches address size)
         → (flags_in (all_accessed T q (page_and (page_number address) x)) slot ≡ flags_in T slot)
@@ -147,54 +110,15 @@ module _ (s : State) (e : Event) (slot : Slot) (w : IsWellFormed s) (was : is_ma
 
   without_flags : (gone : Slot → Bool) → map.contains_key (without s.spaces gone) slot ≡ true
       → flags_in (without s.spaces gone) slot ≡ flags_in s.spaces slot
-  without_flags gone now =
-      ap (option_map flags_of) is
-      ∙ by (not (gone slot)) (map.get s.spaces slot) (sym (ap is_some is) ∙ now)
-    where
-      is : map.get (without s.spaces gone) slot ≡ cond (not (gone slot)) (option_map (left gone) (map.get s.spaces slot)) None
-      is = get-without s.spaces gone slot
-
-      by : (b : Bool) (x : Option Cell) → is_some (cond b (option_map (left gone) x) None) ≡ true
-          → option_map flags_of (cond b (option_map (left gone) x) None) ≡ option_map flags_of x
-      by true None h = refl
-      by true (Some c) h = refl
-      by false x h = cc
+  without_flags gone now = grind (arith, left, get-without)
 
   flags_by : (c : Call) → completes (answer_of s e.pid c) ≡ true
       → map.contains_key (after s e.pid c).spaces slot ≡ true → Stays c
-  flags_by (call.Load address size) h now =
-      let T : Spaces = with_pages s.spaces e.pid (touched address size) in
-      elim (accessed_flags T e.pid address size slot) [
-        | inl same ↦ inl (same ∙ pages_flags s.spaces e.pid (touched address size) slot was)
-        | inr is ↦ inr (is.0, inl is.1)
-      ]
-  flags_by (call.Store address size value) h now =
-      let T : Spaces = with_pages s.spaces e.pid (touched address size) in
-      elim (stored_flags T e.pid address (byte_count size) value slot) [
-        | inl same ↦ inl (same ∙ pages_flags s.spaces e.pid (touched address size) slot was)
-        | inr r ↦ inr (
-          ap (λ (x : Slot). x.pid) r.3,
-          inl (r.0, (r.1, r.2), sym (ap (λ (x : Slot). x.page) r.3)),
-        )
-      ]
-  flags_by (call.Map page write) h now =
-      elim (insert_flags s.spaces (at_page e.pid page) (fresh (at_page e.pid page) write) slot) [
-        | inl same ↦ inl same
-        | inr is ↦ inr (ap (λ (x : Slot). x.pid) is, inl (sym (ap (λ (x : Slot). x.page) is)))
-      ]
+  flags_by (call.Load address size) h now = grind (arith, accessed_flags, pages_flags)
+  flags_by (call.Store address size value) h now = grind (arith, stored_flags, pages_flags)
+  flags_by (call.Map page write) h now = grind (arith, insert_flags)
   flags_by (call.Unmap page) h now = inl (without_flags (is_slot e.pid page) now)
-  flags_by (call.Protect page write) h now =
-      elim (insert_flags s.spaces (at_page e.pid page)
-      (record (cell_or_fresh s.spaces (at_page e.pid page)) { write = write }) slot) [
-        | inl same ↦ inl same
-        | inr is ↦ inr (
-          ap (λ (x : Slot). x.pid) is,
-          inr (write, ap (λ n. call.Protect n write) (sym (ap (λ (x : Slot). x.page) is))),
-        )
-      ]
-  flags_by (call.Info page) h now = inl refl
-  flags_by (call.Offer page target write) h now = inl refl
-  flags_by (call.Withdraw page target) h now = inl refl
+  flags_by (call.Protect page write) h now = grind (arith, insert_flags)
   flags_by (call.Accept giver giver_page page) h now =
       let c : Cell = cell_or_fresh s.spaces (at_page giver giver_page) in
       let holders = set.insert c.holders (at_page e.pid page) in
@@ -215,25 +139,18 @@ module _ (s : State) (e : Event) (slot : Slot) (w : IsWellFormed s) (was : is_ma
       either : (b : Bool) (d : Cell) (group : Set slot_order) → flags_of (if b then with_holders d group else d) ≡ flags_of d
       either true d group = refl
       either false d group = refl
-  flags_by (call.Spawn quota) h now = inl refl
   flags_by (call.Fork quota) h now =
       let c = some_value (map.get s.spaces slot) was in
       let free = fork_free s e.pid quota (not-refused (fork_refusal s e.pid quota) _ h) in
       inl (ap (option_map flags_of) (copied-other s.spaces e.pid (child_of s) slot
       (live_differ s slot.pid (child_of s) (w.owners slot c.0 c.1) free)))
   flags_by call.Exit h now = inl (without_flags (is_of e.pid) now)
-  flags_by call.Quota h now = inl refl
+  flags_by _ h now = inl refl
 
 pub flags_change : FlagsChange
 flags_change s e slot w was now = by (completes (answer s e)) refl
   where
     by : (b : Bool) → completes (answer s e) ≡ b → (flags_at (next s e) slot ≡ flags_at s slot)
         ⊎ ((slot.pid ≡ e.pid) × (Maps e.call slot.page ⊎ ((write : Bool) × (e.call ≡ call.Protect slot.page write))))
-    by true h =
-        let goes = next-goes s e h in
-        elim (flags_by s e slot w was e.call (caller_live s e h).1
-        (sym (ap (λ (t : State). map.contains_key t.spaces slot) goes) ∙ now)) [
-          | inl same ↦ inl (ap (λ (t : State). flags_at t slot) goes ∙ same)
-          | inr changed ↦ inr changed
-        ]
+    by true h = grind (arith, next-goes, flags_by, caller_live)
     by false h = inl (ap (λ (t : State). flags_at t slot) (next-stays s e h))

@@ -1,25 +1,15 @@
 -- No call clears a flag of a slot that stays mapped, except by a change of the right to write.
-use Rattle.std.proofs.Common.{◌≡◌, ℕ, ◌+◌, Bool, true, false, not, cond, List, [], ◌∷◌, refl, ap, sym, ◌∙◌, inl, inr, Option, Some, None, unwrap_or}
-use Rattle.std.specs.Prelude.{if◌then◌else◌, is_some}
-use Rattle.std.specs.Option.{option_map}
-use Rattle.page_words.specs.Addresses.{byte_count, touched, offset_number}
+use Rattle.kernel_calls.proofs.Prelude
+use Prelude.{◌≡◌, ℕ, ◌+◌, Bool, true, false, not, cond, List, [], ◌∷◌, refl, ap, sym, ◌∙◌, inl, inr, Option, Some, None}
+use Prelude.{arith, option_map, offset_number, Set, get-insert, same_or_not, get-map_values, Slot, slot_order, Cell}
+use Prelude.{Spaces, at_page, slot_at, is_slot, is_of, cell_or_fresh, with_bytes, with_holders, set_bytes, set_holders}
+use Prelude.{accessed, stored, write_at, with_page, with_pages, all_accessed, all_stored, protected, joined, without}
+use Prelude.{copied, cases_eq, copied-other, State, IsWellFormed, without-stays, may_map, may_accept, no_page}
+use Prelude.{fork_free, answer_of, after, completes, Call}
 use Rattle.page_words.specs.FiniteMap as map
 use Rattle.page_words.specs.FiniteSet as set
-use Rattle.page_words.specs.FiniteSet.{Set}
-use Rattle.page_words.proofs.MapLemmas.{get-insert, same_or_not, get-map_values}
-use Rattle.address_space.specs.Spaces.{Slot, slot_order, Cell, Spaces, at_page, slot_at, is_slot, is_of, cell_or_fresh, fresh, with_bytes, with_holders, set_bytes, set_holders, accessed, stored, write_at, with_page, with_pages, all_accessed, all_stored, bytes_of, protected, joined, without, copied}
-use Rattle.std.proofs.lemmas.Bool.{cases_eq}
-use Rattle.address_space.proofs.costs.Copied.{copied-other}
-use Rattle.process_table.specs.State.{State, child_of}
-use Rattle.process_table.specs.WellFormed.{IsWellFormed}
-use Rattle.process_table.specs.declared.causes.Cause.{Cause}
-use Rattle.process_table.proofs.CellLaws.{without-stays}
-use Rattle.process_table.proofs.Refusals.{may_map, may_accept}
-use Rattle.process_table.proofs.ApartOthers.{no_page, fork_free}
-use Rattle.kernel_calls.specs.Machine.{answer_of, after, completes, refused_or}
-use Rattle.kernel_calls.specs.declared.calls.Call.{Call}
 use Rattle.kernel_calls.specs.declared.calls.Call.TheVariants as call
-use Rattle.kernel_calls.specs.declared.calls.Reply.{Reply}
+use Rattle.kernel_calls.proofs.Runs.{not-refused}
 
 -- a flag that an access never clears
 pub record IsFlag (flag : Cell → Bool) : Type 0 where
@@ -43,11 +33,6 @@ abbrev pub has : (Cell → Bool) → Option Cell → Bool
 has flag None = false
 has flag (Some c) = flag c
 
--- what is not refused has no cause against it
-pub not_refused : (x : Option Cause) (r : Reply) → completes (refused_or x r) ≡ true → x ≡ None
-not_refused None r h = refl
-not_refused (Some k) r h = cc
-
 module _ (flag : Cell → Bool) (F : IsFlag flag) where
   -- each slot that is mapped with the flag is so afterwards
   abbrev pub Keeps : Spaces → Spaces → Type 0
@@ -58,46 +43,25 @@ module _ (flag : Cell → Bool) (F : IsFlag flag) where
   keeps_insert S slot new kept q h =
       ap (has flag) (get-insert S slot new q)
       ∙ elim (same_or_not slot_order q slot) [
-        | inl same ↦ ap (λ b. has flag (cond b (Some new) (map.get S q))) same.1
-            ∙ kept (sym (ap (λ s. has flag (map.get S s)) same.0) ∙ h)
+        | inl same ↦ grind arith
         | inr other ↦ ap (λ b. has flag (cond b (Some new) (map.get S q))) other ∙ h
       ]
 
   has_map : (f : Cell → Cell) → ((c : Cell) → flag (f c) ≡ flag c) → (x : Option Cell)
       → has flag (option_map f x) ≡ has flag x
-  has_map f same None = refl
-  has_map f same (Some c) = same c
-
-  has_values : (f : Slot → Cell → Cell) → ((q : Slot) (c : Cell) → flag (f q c) ≡ flag c) → (S : Spaces) (q : Slot)
-      → has flag (map.get (map.map_values f S) q) ≡ has flag (map.get S q)
-  has_values f same S q = ap (has flag) (get-map_values slot_order f S q) ∙ has_map (f q) (same q) (map.get S q)
+  has_map f same x = grind arith
 
   has_bytes : (S : Spaces) (group : Set slot_order) (bytes : List ℕ) (q : Slot)
       → has flag (map.get (set_bytes S group bytes) q) ≡ has flag (map.get S q)
-  has_bytes S group bytes = has_values (λ slot cell. if set.contains group slot then with_bytes cell bytes else cell)
-      (λ slot cell. by (set.contains group slot) cell) S
-    where
-      by : (b : Bool) (c : Cell) → flag (if b then with_bytes c bytes else c) ≡ flag c
-      by true c = F.bytes c bytes
-      by false c = refl
+  has_bytes S group bytes = grind (arith, get-map_values, has_map)
 
   has_holders : (S : Spaces) (group holders : Set slot_order) (q : Slot)
       → has flag (map.get (set_holders S group holders) q) ≡ has flag (map.get S q)
-  has_holders S group holders = has_values (λ slot cell.
-      if set.contains group slot then with_holders cell holders else cell)
-      (λ slot cell. by (set.contains group slot) cell) S
-    where
-      by : (b : Bool) (c : Cell) → flag (if b then with_holders c holders else c) ≡ flag c
-      by true c = F.holders c holders
-      by false c = refl
+  has_holders S group holders = grind (arith, get-map_values, has_map)
 
   -- the cell of a slot with the flag has it
   pub own : (S : Spaces) (slot : Slot) → has flag (map.get S slot) ≡ true → flag (cell_or_fresh S slot) ≡ true
-  own S slot h = by (map.get S slot) h
-    where
-      by : (x : Option Cell) → has flag x ≡ true → flag (unwrap_or x (fresh slot true)) ≡ true
-      by None h = cc
-      by (Some c) h = h
+  own S slot h = grind arith
 
   keeps_accessed : (S : Spaces) (slot : Slot) → Keeps S (accessed S slot)
   keeps_accessed S slot = keeps_insert S slot _ (λ h. F.accessed (cell_or_fresh S slot) (own S slot h))
@@ -113,19 +77,10 @@ module _ (flag : Cell → Bool) (F : IsFlag flag) where
 
   -- a slot that isn't mapped has no flag to lose
   keeps_new : (S : Spaces) (slot : Slot) (new : Cell) → map.get S slot ≡ None → Keeps S (map.insert S slot new)
-  keeps_new S slot new none = keeps_insert S slot new
-      (λ h. absurd (let k : false ≡ true = sym (ap (has flag) none) ∙ h in cc))
+  keeps_new S slot new none = grind (arith, keeps_insert)
 
   keeps_page : (S : Spaces) (p page : ℕ) → Keeps S (with_page S p page)
-  keeps_page S p page q h = by (map.get S (at_page p page)) refl
-    where
-      by : (x : Option Cell) → map.get S (at_page p page) ≡ x → has flag (map.get (with_page S p page) q) ≡ true
-      by None is =
-          ap (λ x. has flag (map.get (if is_some x then S else map.insert S (at_page p page)
-          (fresh (at_page p page) true)) q)) is ∙ keeps_new S (at_page p page) (fresh (at_page p page) true) is q h
-      by (Some c) is =
-          ap (λ x. has flag (map.get (if is_some x then S else map.insert S (at_page p page)
-          (fresh (at_page p page) true)) q)) is ∙ h
+  keeps_page S p page q h = grind (arith, keeps_new)
 
   keeps_pages : (S : Spaces) (p : ℕ) (pages : List ℕ) → Keeps S (with_pages S p pages)
   keeps_pages S p [] q h = h
@@ -174,14 +129,7 @@ module _ (flag : Cell → Bool) (F : IsFlag flag) where
   keeps_protected : (S : Spaces) (slot : Slot) (write : Bool) (q : Slot)
       → (q ≡ slot → flag (record (cell_or_fresh S slot) { write = write }) ≡ true) → has flag (map.get S q) ≡ true
       → has flag (map.get (protected S slot write) q) ≡ true
-  keeps_protected S slot write q kept h =
-      ap (has flag) (get-insert S slot _ q)
-      ∙ elim (same_or_not slot_order q slot) [
-        | inl same ↦ ap (λ b. has flag (cond b (Some (record (cell_or_fresh S slot) { write = write })) (map.get S q)))
-            same.1 ∙ kept same.0
-        | inr other ↦ ap (λ b. has flag (cond b (Some (record (cell_or_fresh S slot) { write = write })) (map.get S q)))
-            other ∙ h
-      ]
+  keeps_protected S slot write q kept h = grind (arith, get-insert, same_or_not)
 
   -- a slot that a call neither takes away nor sets the right of
   abbrev pub Spared : State → ℕ → Call → Slot → Type 0
@@ -195,26 +143,13 @@ module _ (flag : Cell → Bool) (F : IsFlag flag) where
   pub keeps_call : (s : State) (p : ℕ) (c : Call) (q : Slot) → IsWellFormed s → completes (answer_of s p c) ≡ true
       → Spared s p c q
       → has flag (map.get s.spaces q) ≡ true → has flag (map.get (after s p c).spaces q) ≡ true
-  keeps_call s p (call.Load addr size) q w goes spared h =
-      keeps_all_accessed (with_pages s.spaces p (touched addr size)) p (touched addr size) q
-      (keeps_pages s.spaces p (touched addr size) q h)
-  keeps_call s p (call.Store addr size value) q w goes spared h =
-      keeps_all_stored (with_pages s.spaces p (touched addr size)) p addr (bytes_of (byte_count size) value) q
-      (keeps_pages s.spaces p (touched addr size) q h)
-  keeps_call s p (call.Map page write) q w goes spared h =
-      keeps_new s.spaces (at_page p page) (fresh (at_page p page) write) (may_map s p page (not_refused _ _ goes)).none
-      q h
+  keeps_call s p (call.Load addr size) q w goes spared h = grind (arith, keeps_all_accessed, keeps_pages)
+  keeps_call s p (call.Store addr size value) q w goes spared h = grind (arith, keeps_all_stored, keeps_pages)
+  keeps_call s p (call.Map page write) q w goes spared h = grind (arith, keeps_new, may_map, not-refused)
   keeps_call s p (call.Unmap page) q w goes spared h = keeps_without s.spaces (is_slot p page) q spared h
-  keeps_call s p (call.Protect page write) q w goes spared h =
-      keeps_protected s.spaces (at_page p page) write q spared h
-  keeps_call s p (call.Info page) q w goes spared h = h
-  keeps_call s p (call.Offer page target write) q w goes spared h = h
-  keeps_call s p (call.Withdraw page target) q w goes spared h = h
+  keeps_call s p (call.Protect page write) q w goes spared h = grind (arith, keeps_protected)
   keeps_call s p (call.Accept giver giver_page page) q w goes spared h =
-      keeps_joined s.spaces (at_page giver giver_page) (at_page p page) _
-      (may_accept s p giver giver_page page (not_refused _ _ goes)).none q h
-  keeps_call s p (call.Spawn quota) q w goes spared h = h
-  keeps_call s p (call.Fork quota) q w goes spared h =
-      keeps_copied s.spaces p (child_of s) (no_page s (child_of s) w (fork_free s p quota (not_refused _ _ goes))) q h
+      grind (arith, keeps_joined, may_accept, not-refused)
+  keeps_call s p (call.Fork quota) q w goes spared h = grind (arith, keeps_copied, no_page, fork_free, not-refused)
   keeps_call s p call.Exit q w goes spared h = keeps_without s.spaces (is_of p) q spared h
-  keeps_call s p call.Quota q w goes spared h = h
+  keeps_call s p _ q w goes spared h = h

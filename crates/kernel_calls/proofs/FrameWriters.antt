@@ -1,30 +1,14 @@
 -- Which frames an event may write, by their roles.
-use Rattle.std.proofs.Common.{◌≡◌, ◌⊎◌, ℕ, ◌+◌, ◌≤◌, ◌<◌, ◌==◌, ◌&&◌, Bool, true, false, not, refl, sym, ap, subst, ◌∙◌, Option, Some, None, inl, inr, arith}
-use Rattle.std.specs.Prelude.{◌↔◌, IsTrue, slice_get}
-use Rattle.std.specs.Option.{option_and_then}
-use Rattle.std.proofs.lemmas.Bool.{cases_lt, eqb-true, eq-eqb}
-use Rattle.std.proofs.lemmas.Option.{same_Some}
-use Rattle.page_words.specs.Addresses.{slot_number}
-use Rattle.alloc_table.specs.declared.Role.{Role}
-use Rattle.alloc_table.specs.declared.Role.TheVariants.{Reserved, Free, Directory, Table, Page}
-use Rattle.address_space.specs.Image as memory
-use Rattle.address_space.specs.Image.{directory_at, table_at, word_of, named_by, is_user_slot, present_word, page_word, page_frame, is_lazy_at}
-use Rattle.address_space.specs.ImageWords.{own_frame}
-use Rattle.address_space.specs.Spaces.{Slot, at_page}
-use Rattle.address_space.specs.Stays.{way_of, WaysAgree}
-use Rattle.address_space.specs.Walks.{WalksAgree}
-use Rattle.address_space.proofs.standing.TablesStand.{owned, own_is}
-use Rattle.process_table.specs.Image.{StandsFor, image_of, memory_of}
-use Rattle.process_table.specs.State.{is_mapped}
-use Rattle.process_table.specs.View.{View}
-use Rattle.process_table.proofs.CellLaws.{both_true}
-use Rattle.kernel_calls.specs.Processors.{IsCore}
+use Rattle.kernel_calls.proofs.Prelude
+use Prelude.{◌≡◌, ℕ, ◌+◌, ◌≤◌, ◌<◌, ◌==◌, ◌&&◌, Bool, false, not, refl, sym, ap, subst, ◌∙◌, Some, inl, inr, arith, ◌⊎◌}
+use Prelude.{◌↔◌, IsTrue, slice_get, cases_lt, eqb-true, eq-eqb, same_Some, slot_number, Role, Reserved, Free}
+use Prelude.{Directory, Table, Page, directory_at, table_at, page_frame, is_lazy_at, Slot, at_page, way_of, WaysAgree}
+use Prelude.{WalksAgree, owned, own_is, StandsFor, image_of, memory_of, is_mapped, View, both_true, IsCore, Event}
 use Rattle.kernel_calls.specs.Written.{TakesLazy, MayWrite}
-use Rattle.kernel_calls.specs.declared.calls.Call.{Call}
-use Rattle.kernel_calls.specs.declared.calls.Call.TheVariants as call
-use Rattle.kernel_calls.specs.declared.calls.Event.{Event}
-use Rattle.kernel_calls.proofs.Beside.{Led, led}
+use Rattle.kernel_calls.proofs.Beside.{led}
 use Rattle.kernel_calls.proofs.Writings.{unmapped_slot}
+use Rattle.address_space.specs.Image as memory
+use Rattle.kernel_calls.specs.declared.calls.Call.TheVariants as call
 
 -- ---- By the role
 
@@ -68,37 +52,13 @@ module _ (v : View) (e : Event) (f : ℕ) (sound : memory.IsSoundImage (memory_o
 -- ---- Pages on a frame
 
 pub no_frame_bare : (v : View) → IsCore v → (p page f : ℕ) → is_mapped v.state (at_page p page) ≡ false → page_frame (memory_of v) (at_page p page) ≡ Some f → ⊥
-no_frame_bare v core p page f none is =
-    let k : ◌≡◌ {A = Option ℕ} None (Some f) = sym (ap (option_and_then (own_frame 2)) (unmapped_slot v core (at_page p page) none)) ∙ is in
-    cc
+no_frame_bare v core p page f none is = grind (arith, unmapped_slot)
 
 -- a page that leads to a frame has that frame, unless it is frame 0
 pub on_frame : (v : View) → StandsFor (image_of v) v.state → WalksAgree (memory_of v) v.state.spaces → WaysAgree (memory_of v)
     → (slot : Slot) (d g f : ℕ) → way_of (memory_of v) slot ≡ Some (d, g)
     → IsTrue (not (g == 0) && (g == f)) ↔ (page_frame (memory_of v) slot ≡ Some f)
-on_frame v stands walks ways slot d g f way = (to, from)
-  where
-    a : Led v stands walks ways slot g
-    a = led v stands walks ways slot d g way
-
-    framed : page_frame (memory_of v) slot ≡ own_frame 2 a.word
-    framed = ap (option_and_then (own_frame 2)) a.there
-
-    real : (b : Bool) → not b ≡ true → b ≡ false
-    real false h = refl
-    real true h = cc
-
-    to : IsTrue (not (g == 0) && (g == f)) → page_frame (memory_of v) slot ≡ Some f
-    to h =
-        let b = both_true (not (g == 0)) (g == f) h in
-        framed ∙ own_is a.word (a.lazy ∙ real (g == 0) b.0) ∙ ap Some (a.names ∙ eqb-true g f b.1)
-
-    from : page_frame (memory_of v) slot ≡ Some f → IsTrue (not (g == 0) && (g == f))
-    from h =
-        let o = owned a.word f (sym framed ∙ h) in
-        let zero : (g == 0) ≡ false = sym a.lazy ∙ o.0 in
-        let same : g ≡ f = sym a.names ∙ o.1 in
-        (λ i. not (zero i) && eq-eqb g f same i)
+on_frame v stands walks ways slot d g f way = grind (arith, led, both_true, own_is, eqb-true, owned, eq-eqb)
 
 -- ---- The search
 
@@ -128,10 +88,6 @@ searched_all v core p f at before bare found = elim (cases_lt found.0 at) [
 
 -- ---- Events that take a lazy page
 
-abbrev page_of : Call → ℕ
-page_of (call.Accept giver page own) = page
-page_of _ = 0
-
 pub takes : (v : View) (e : Event) (giver page own : ℕ) → e.call ≡ call.Accept giver page own → (q : ℕ) → giver ≡ q → (b : Bool)
     → b ≡ is_lazy_at (memory_of v) (at_page giver page) → IsTrue b ↔ ((region : ℕ) × TakesLazy v e q region)
 takes v e giver page own is q same b lazy = (to, from)
@@ -149,6 +105,4 @@ takes v e giver page own is q same b lazy = (to, from)
     )
 
     from : (region : ℕ) × TakesLazy v e q region → IsTrue b
-    from t =
-        let at : page ≡ t.1.giver_page = ap page_of (sym is ∙ t.1.call) in
-        lazy ∙ (λ i. is_lazy_at (memory_of v) (at_page (same i) (at i))) ∙ t.1.lazy
+    from t = grind arith

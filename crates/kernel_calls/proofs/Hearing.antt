@@ -1,28 +1,9 @@
 -- Members of a set that make the same calls in two runs get the same replies, if outsiders use no channel.
-use Rattle.std.proofs.Common.{◌≡◌, ℕ, ◌&&◌, ◌||◌, Bool, true, false, if◌then◌else◌, List, [], ◌∷◌, refl, sym, ap, subst, ◌∙◌, is_some, inl, inr}
-use Rattle.address_space.specs.Spaces.{Slot, is_of}
-use Rattle.page_sharing.specs.Offers.{offer_key}
-use Rattle.process_table.specs.State.{State, is_live}
-use Rattle.process_table.specs.WellFormed.{IsWellFormed}
-use Rattle.kernel_calls.specs.Authority.{
-  Sees,
-  LooksSame,
-  found,
-  members_after,
-  members_at_end,
-  IsQuiet,
-  Along,
-  Heard,
-  heard,
-  AskAlike,
-  MembersHearTheSame,
-  HaveTheSame,
-  KeepsWithin,
-}
-use Rattle.kernel_calls.specs.Families.{IsFamily, FamiliesHearTheirOwn, FamiliesEndTheSame}
-use Rattle.kernel_calls.specs.Isolation.{exchanges}
-use Rattle.kernel_calls.specs.Machine.{answer, next, end_of}
-use Rattle.kernel_calls.specs.declared.calls.Event.{Event}
+use Rattle.kernel_calls.proofs.Prelude
+use Prelude.{◌≡◌, ℕ, ◌&&◌, Bool, true, false, List, [], ◌∷◌, refl, sym, ap, subst, ◌∙◌, is_some, inl, inr, arith}
+use Prelude.{if◌then◌else◌, State, is_live, IsWellFormed, LooksSame, found, members_after, members_at_end, IsQuiet}
+use Prelude.{Along, Heard, heard, AskAlike, MembersHearTheSame, HaveTheSame, KeepsWithin, IsFamily}
+use Prelude.{FamiliesHearTheirOwn, FamiliesEndTheSame, exchanges, answer, next, end_of, Event, and_parts}
 use Rattle.kernel_calls.proofs.Outsiders.{outsiders_unseen}
 use Rattle.kernel_calls.proofs.Standings.{live_in}
 use Rattle.kernel_calls.proofs.Runs.{kept-next}
@@ -32,42 +13,11 @@ use Rattle.kernel_calls.proofs.SeenTogether.{told_same, members_see_the_same}
 
 -- ---- Looking the same, there and back
 
-sees_both : (s t : State) (Q : ℕ → Bool) → LooksSame s t Q → (slot : Slot) → Sees t Q slot → Sees s Q slot
-sees_both s t Q l slot v = (
-  v.0,
-  v.1,
-  ap (λ b. is_of v.0 slot || b)
-      (ap is_some (l.offers (offer_key slot.pid slot.page v.0) (inr v.1))) ∙ v.2,
-)
-
-sees_too : (s t : State) (Q : ℕ → Bool) → LooksSame s t Q → (slot : Slot) → Sees s Q slot → Sees t Q slot
-sees_too s t Q l slot v = (
-  v.0,
-  v.1,
-  ap (λ b. is_of v.0 slot || b)
-      (ap is_some (sym (l.offers (offer_key slot.pid slot.page v.0) (inr v.1)))) ∙ v.2,
-)
-
 looks_back : (s t : State) (Q : ℕ → Bool) → LooksSame s t Q → LooksSame t s Q
-looks_back s t Q l = record {
-  standing = λ q h. sym (l.standing q h);
-  families = λ p q hp hq d. sym (l.families p q hp hq d);
-  flags = λ slot h. sym (l.flags slot h);
-  offers = λ key h. sym (l.offers key h);
-  pages = λ slot v. sym (l.pages slot (sees_both s t Q l slot v));
-  same_page = λ slot other v o. sym (l.same_page slot other (sees_both s t Q l slot v) (sees_both s t Q l other o));
-}
+looks_back s t Q l = grind arith
 
 looks_on : (s t u : State) (Q : ℕ → Bool) → LooksSame s t Q → LooksSame t u Q → LooksSame s u Q
-looks_on s t u Q l m = record {
-  standing = λ q h. l.standing q h ∙ m.standing q h;
-  families = λ p q hp hq d. l.families p q hp hq d ∙ m.families p q hp hq d;
-  flags = λ slot h. l.flags slot h ∙ m.flags slot h;
-  offers = λ key h. l.offers key h ∙ m.offers key h;
-  pages = λ slot v. l.pages slot v ∙ m.pages slot (sees_too s t Q l slot v);
-  same_page = λ slot other v o. l.same_page slot other v o
-      ∙ m.same_page slot other (sees_too s t Q l slot v) (sees_too s t Q l other o);
-}
+looks_on s t u Q l m = grind arith
 
 -- ---- Who are members
 
@@ -81,24 +31,14 @@ module _ (s : State) (e : Event) (Q : ℕ → Bool) (out : Q e.pid ≡ false)
   same_members = λ i. λ p. each_same p (Q p) refl i
     where
       none : (a b : Bool) → (a && (if b then false else false)) ≡ false
-      none true true = refl
-      none true false = refl
-      none false b = refl
+      none a b = grind arith
 
       each_same : (p : ℕ) (c : Bool) → Q p ≡ c → members_after s Q e p ≡ Q p
-      each_same p true is =
-          let now : is_live (next s e) p ≡ true = sym (lives p is) ∙ members p is in
-          (λ i. now i && (if members p is i then Q p else Q e.pid))
-      each_same p false is =
-          (λ i. is_live (next s e) p && (if is_live s p then is i else out i))
-          ∙ none (is_live (next s e) p) (is_live s p) ∙ sym is
-
-second : (a b : Bool) → (a && b) ≡ true → (a ≡ true) × (b ≡ true)
-second true b h = (refl, h)
-second false b h = cc
+      each_same p true is = grind arith
+      each_same p false is = grind (arith, none)
 
 members_live : (s : State) (e : Event) (Q : ℕ → Bool) → AreLive (next s e) (members_after s Q e)
-members_live s e Q p h = (second (is_live (next s e) p) (if is_live s p then Q p else Q e.pid) h).0
+members_live s e Q p h = (and_parts (is_live (next s e) p) (if is_live s p then Q p else Q e.pid) h).0
 
 -- ---- Runs
 
@@ -130,7 +70,7 @@ module _ (View : State → State → (ℕ → Bool) → Type 0) (Stands : State 
   module _ (s t : State) (e : Event) (Q : ℕ → Bool) (w : Stands s Q) (v : Stands t Q) (mine : Q e.pid ≡ true)
       (l : View s t Q) (good : IsGood s Q e) (finds : found s e.call ≡ found t e.call) where
     too : (p : ℕ) → members_after s Q e p ≡ true → members_after t Q e p ≡ true
-    too p m = by (is_live s p) refl (second (is_live (next s e) p) (if is_live s p then Q p else Q e.pid) m).1
+    too p m = by (is_live s p) refl (and_parts (is_live (next s e) p) (if is_live s p then Q p else Q e.pid) m).1
       where
         now : is_live (next s e) p ≡ true
         now = members_live s e Q p m
@@ -285,10 +225,7 @@ module _ (View : State → State → (ℕ → Bool) → Type 0) (Stands : State 
               (rest.0 ∙ sym same_later, rest.1)
 
   pub hear_the_same : (events : List Event) → Hear events
-  hear_the_same [] s t Q others w v l good good_t alike = (
-    nothing_heard (heard t Q (exchanges t others)) alike,
-    ends others s t Q v l good_t alike,
-  )
+  hear_the_same [] s t Q others w v l good good_t alike = grind (arith, nothing_heard, ends)
   hear_the_same (e ∷ events) s t Q others w v l good good_t alike = by (hear_the_same events) (Q e.pid) refl alike
     where
       by : Hear events → (b : Bool) → Q e.pid ≡ b
@@ -327,24 +264,10 @@ members_hear_the_same s events w t Q others v members l quiet quiet_t alike =
 -- ---- What a family has, whatever outsiders do
 
 has_back : (s t : State) (Q : ℕ → Bool) → HaveTheSame s t Q → HaveTheSame t s Q
-has_back s t Q l = record {
-  standing = λ q h. sym (l.standing q h);
-  families = λ p q hp hq d. sym (l.families p q hp hq d);
-  flags = λ slot h. sym (l.flags slot h);
-  offers = λ key h. sym (l.offers key h);
-  pages = λ slot h. sym (l.pages slot h);
-  same_page = λ slot other h k. sym (l.same_page slot other h k);
-}
+has_back s t Q l = grind arith
 
 has_on : (s t u : State) (Q : ℕ → Bool) → HaveTheSame s t Q → HaveTheSame t u Q → HaveTheSame s u Q
-has_on s t u Q l m = record {
-  standing = λ q h. l.standing q h ∙ m.standing q h;
-  families = λ p q hp hq d. l.families p q hp hq d ∙ m.families p q hp hq d;
-  flags = λ slot h. l.flags slot h ∙ m.flags slot h;
-  offers = λ key h. l.offers key h ∙ m.offers key h;
-  pages = λ slot h. l.pages slot h ∙ m.pages slot h;
-  same_page = λ slot other h k. l.same_page slot other h k ∙ m.same_page slot other h k;
-}
+has_on s t u Q l m = grind arith
 
 abbrev IsWellFamily : State → (ℕ → Bool) → Type 0
 IsWellFamily s Q = IsWellFormed s × IsFamily s Q
@@ -369,5 +292,4 @@ families_hear_their_own s events w t C others v family family_t l within within_
     (families_hear s t C events others w v family family_t l within within_t alike).0
 
 pub families_end_the_same : FamiliesEndTheSame
-families_end_the_same s t C events others w v family family_t l within within_t alike =
-    (families_hear s t C events others w v family family_t l within within_t alike).1
+families_end_the_same s t h events others w v family family_t l within within_t alike = grind (arith, families_hear)

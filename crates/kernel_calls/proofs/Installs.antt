@@ -1,41 +1,22 @@
 -- Bytes that are put into one page: the right for the time, the stores, and the right taken back.
-use Rattle.std.proofs.Common.{◌≡◌, ℕ, ◌+◌, ◌<◌, ◌≤◌, ◌&&◌, Bool, true, false, not, length, List, [], ◌∷◌, ◌++◌, refl, sym, ap, subst, ◌∙◌, is_some, Option, Some, None, unwrap_or, inl, inr}
-use Rattle.std.specs.Prelude.{if◌then◌else◌}
-use Rattle.std.specs.Option.{option_map}
-use Rattle.page_words.specs.FiniteMap as map
-use Rattle.page_words.specs.Addresses.{page_number, offset_number}
-use Rattle.page_words.proofs.MapLemmas.{same_map}
-use Rattle.page_words.proofs.OptionLemmas.{some_value}
-use Rattle.page_words.proofs.SetLemmas.{same_cases}
-use Rattle.address_space.specs.Spaces.{Slot, slot_order, Cell, fresh, cell_or_fresh, is_slot, at_page, slot_at, set_bytes, write_at}
-use Rattle.address_space.specs.Image.{takes_stores}
-use Rattle.process_table.specs.Image.{memory_of}
-use Rattle.process_table.specs.Parts.{after_stores}
-use Rattle.process_table.specs.State.{State, is_live, is_mapped}
-use Rattle.process_table.specs.View.{View}
-use Rattle.process_table.specs.Calls.{after_protect}
-use Rattle.process_table.specs.WellFormed.{IsWellFormed}
-use Rattle.process_table.specs.declared.causes.Cause.TheVariants as cause
-use Rattle.process_table.proofs.CellLaws.{get-inserted, get-inserted_other}
-use Rattle.process_table.proofs.Placed.{page_is_user}
-use Rattle.kernel_calls.specs.Installed.{map_of, protect_of, is_writable_at, opening, store_run, IsRunTo, IsOpened}
-use Rattle.kernel_calls.specs.Machine.{answer, next, end_of, completes, refused_or}
-use Rattle.kernel_calls.specs.Transfers.{stores, carried, AreStored}
-use Rattle.kernel_calls.specs.Translations.{ended_by, is_ended, is_all_of}
-use Rattle.kernel_calls.specs.declared.calls.Event.{Event}
-use Rattle.kernel_calls.specs.declared.calls.Reply.TheVariants as reply
-use Rattle.kernel_calls.specs.declared.translations.Ended.TheVariants as end
+use Rattle.kernel_calls.proofs.Prelude
+use Prelude.{◌≡◌, ℕ, ◌+◌, ◌<◌, ◌≤◌, Bool, true, false, not, length, List, [], ◌∷◌, ◌++◌, sym, ap, subst, ◌∙◌, is_some}
+use Prelude.{Option, Some, None, unwrap_or, inl, inr, arith, if◌then◌else◌, option_map, page_number, offset_number}
+use Prelude.{same_map, some_value, same_cases, Slot, slot_order, Cell, fresh, cell_or_fresh, is_slot, at_page, slot_at}
+use Prelude.{set_bytes, write_at, after_stores, State, is_live, is_mapped, View, after_protect, IsWellFormed}
+use Prelude.{get-inserted, get-inserted_other, page_is_user, answer, next, end_of, completes, refused_or, stores}
+use Prelude.{carried, AreStored, ended_by, is_ended, is_all_of, Event, map_of, protect_of, is_writable_at, opening}
+use Prelude.{store_run, IsRunTo, IsOpened}
 use Rattle.kernel_calls.proofs.Runs.{end_of-append}
 use Rattle.kernel_calls.proofs.TransferLemmas.{carried-append}
 use Rattle.kernel_calls.proofs.TransferSteps.{AreSmall, part_stored}
+use Rattle.page_words.specs.FiniteMap as map
+use Rattle.process_table.specs.declared.causes.Cause.TheVariants as cause
+use Rattle.kernel_calls.specs.declared.calls.Reply.TheVariants as reply
 
 -- a cell that may be written
 pub cell_writes : (s : State) (slot : Slot) → is_writable_at s slot ≡ true → (cell_or_fresh s.spaces slot).write ≡ true
-cell_writes s slot h = by (map.get s.spaces slot) h
-  where
-    by : (x : Option Cell) → unwrap_or (option_map (λ (c : Cell). c.write) x) false ≡ true → (unwrap_or x (fresh slot true)).write ≡ true
-    by None k = cc
-    by (Some c) k = k
+cell_writes s slot h = grind arith
 
 -- stores to such a page go
 pub all_stored_there : (s : State) (p a : ℕ) (bytes : List ℕ) → IsWellFormed s → is_mapped s (slot_at p a) ≡ true → is_writable_at s (slot_at p a) ≡ true
@@ -67,9 +48,6 @@ one_carried s e h = ap (λ b. if b then e ∷ [] else []) h
 pub run_one : (s t : State) (e : Event) → completes (answer s e) ≡ true → t ≡ next s e → IsRunTo s (e ∷ []) t
 run_one s t e done after = record { all = one_carried s e done; after = sym after }
 
-pub run_none : (s : State) → IsRunTo s [] s
-run_none s = record { all = refl; after = refl }
-
 -- one run after another
 pub run_then : (s t u : State) (first second : List Event) → IsRunTo s first t → IsRunTo t second u → IsRunTo s (first ++ second) u
 run_then s t u first second a b = record {
@@ -84,9 +62,7 @@ pub open_there : (s : State) (p page : ℕ) → is_mapped (after_protect s p pag
 open_there s p page = ap is_some (get-inserted s.spaces (at_page p page) (record (cell_or_fresh s.spaces (at_page p page)) { write = true }))
 
 pub open_writes : (s : State) (p page : ℕ) → is_writable_at (after_protect s p page true) (at_page p page) ≡ true
-open_writes s p page =
-    ap (λ (x : Option Cell). unwrap_or (option_map (λ (c : Cell). c.write) x) false)
-    (get-inserted s.spaces (at_page p page) (record (cell_or_fresh s.spaces (at_page p page)) { write = true }))
+open_writes s p page = grind (arith, get-inserted)
 
 with_right : (c : Cell) → c.write ≡ true → c ≡ record c { write = true }
 with_right c h = λ i. record c { write = h i }
@@ -103,9 +79,7 @@ open_before s p page there right =
     in
     λ i. record s {
       spaces = same_map s.spaces (map.insert s.spaces slot (record (cell_or_fresh s.spaces slot) { write = true })) (λ q. elim (same_cases slot_order q slot) [
-        | inl is ↦ ap (map.get s.spaces) is.0 ∙ c.1 ∙ same
-            ∙ sym (get-inserted s.spaces slot (record (cell_or_fresh s.spaces slot) { write = true }))
-            ∙ ap (map.get (map.insert s.spaces slot (record (cell_or_fresh s.spaces slot) { write = true }))) (sym is.0)
+        | inl is ↦ grind (arith, get-inserted)
         | inr other ↦ sym (get-inserted_other s.spaces slot (record (cell_or_fresh s.spaces slot) { write = true }) q other.0)
       ]) i;
     }
@@ -116,10 +90,7 @@ pub opens_nothing : (s : State) (p page : ℕ) → is_writable_at s (at_page p p
 opens_nothing s p page right = ap (λ b. if b then [] else if is_mapped s (at_page p page) then protect_of p page true ∷ [] else map_of p page true ∷ []) right
 
 pub opened_before : (s : State) (p page : ℕ) → is_mapped s (at_page p page) ≡ true → is_writable_at s (at_page p page) ≡ true → IsOpened s p page s
-opened_before s p page there right = record {
-  run = subst (λ (es : List Event). IsRunTo s es s) (sym (opens_nothing s p page right)) (run_none s);
-  state = open_before s p page there right;
-}
+opened_before s p page there right = grind (arith, opens_nothing, open_before)
 
 -- ---- What stores and closes it
 
@@ -133,17 +104,7 @@ store_run_closed s t u p a bytes write is stored done after =
 
 -- the Protect that takes the right ends the page's translation, or none
 pub closing_spares : (v : View) (p page : ℕ) (slot : Slot) → is_slot p page slot ≡ false → is_ended (ended_by v (protect_of p page false)) slot ≡ false
-closing_spares v p page slot spared = by (completes (answer v.state (protect_of p page false))) (takes_stores v.state.spaces (memory_of v) (at_page p page))
-  where
-    by : (x y : Bool) → is_ended (if x then (if true && y then end.Page p page else end.Nothing) else end.Nothing) slot ≡ false
-    by false y = refl
-    by true true = spared
-    by true false = refl
+closing_spares v p page slot spared = grind arith
 
 pub closing_ends_no_space : (v : View) (p page q : ℕ) → is_all_of (ended_by v (protect_of p page false)) q ≡ false
-closing_ends_no_space v p page q = by (completes (answer v.state (protect_of p page false))) (takes_stores v.state.spaces (memory_of v) (at_page p page))
-  where
-    by : (x y : Bool) → is_all_of (if x then (if true && y then end.Page p page else end.Nothing) else end.Nothing) q ≡ false
-    by false y = refl
-    by true true = refl
-    by true false = refl
+closing_ends_no_space v p page q = grind arith

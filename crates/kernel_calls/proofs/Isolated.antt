@@ -1,52 +1,36 @@
 -- A process apart gets the same replies in two states in which it has the same, and others leave what it has.
-use Rattle.std.proofs.Common.{◌≡◌, ◌≢◌, ℕ, ◌&&◌, ◌==◌, not, Bool, true, false, refl, sym, ap, subst, ◌∙◌, List, [], ◌∷◌, ◌++◌, length, map, filter, take, drop, zero, suc, ◌+◌, add-one, Option, Some, None}
-use Rattle.std.specs.Prelude.{if◌then◌else◌, find}
-use Rattle.std.specs.Option.{option_map}
-use Rattle.std.specs.List.{slice_get}
-use Rattle.std.proofs.lemmas.Bool.{eqb-true, eqb-false}
-use Rattle.std.proofs.lemmas.List.Elements.{All-head, All-tail}
-use Rattle.std.proofs.lemmas.Option.{same_Some}
-use Rattle.page_words.specs.Addresses.{page_number, covered, second_page}
-use Rattle.page_words.specs.declared.addresses.Size.{Size}
-use Rattle.page_words.specs.FiniteMap as map
-use Rattle.address_space.specs.Spaces.{Cell, cost, cell_or_fresh, at_page}
-use Rattle.quota_tree.specs.Book.{given, quota_of}
-use Rattle.table_walk.specs.declared.Access.{Access}
-use Rattle.table_walk.specs.declared.Access.TheVariants.{Read, Write}
-use Rattle.table_walk.specs.Walk.{is_write}
-use Rattle.process_table.specs.Apart.{IsApart, AreAlike, Held, pages_held, alone_with}
-use Rattle.process_table.specs.State.{State, is_live, child_of}
-use Rattle.process_table.specs.Calls.{map_refusal, unmap_refusal, protect_refusal, offer_refusal, withdraw_refusal, accept_refusal, spawn_refusal, fork_refusal, exit_refusal, loaded, after_spawn, after_fork}
-use Rattle.process_table.specs.WellFormed.{IsWellFormed}
-use Rattle.process_table.specs.declared.causes.Cause.{Cause}
-use Rattle.process_table.specs.declared.causes.Cause.TheVariants as cause
-use Rattle.process_table.proofs.Apart.{mapped_alike, cost_alike, given_alike, lacks_room_alike, cell_alike, group_alike, loaded_alike, map_refusal_alike, unmap_refusal_alike, protect_refusal_alike, withdraw_refusal_alike, exit_refusal_alike, map_alike, protect_alike, load_alike, store_alike, unmap_alike, withdraw_alike}
-use Rattle.process_table.proofs.ApartOthers.{load_leaves, store_leaves, map_leaves, unmap_leaves, protect_leaves, offer_leaves, withdraw_leaves, accept_leaves, spawn_leaves, fork_leaves, exit_leaves, spawn_alike, fork_alike}
-use Rattle.fault_handler.specs.Plans.{plan_of, step_of, outside, fault_or}
-use Rattle.fault_handler.specs.declared.plans.PageStep.TheVariants as step
-use Rattle.fault_handler.specs.declared.plans.Plan.{Plan}
-use Rattle.fault_handler.specs.declared.plans.Plan.TheVariants as plan
-use Rattle.kernel_calls.specs.Isolation.{Exchange, exchanges, own, is_exit, involves_others, events_in, calls_of, replies_of, InvolvesNobody, solo, quota_asked, pages_given, RunsAreIsolated, OthersMakeNoDifference}
-use Rattle.kernel_calls.specs.Machine.{answer, answer_of, answers, after, next, end_of, completes, refused_or, planned_or, info_of}
-use Rattle.kernel_calls.specs.declared.calls.Call.{Call}
-use Rattle.kernel_calls.specs.declared.calls.Call.TheVariants as call
-use Rattle.kernel_calls.specs.declared.calls.Event.{Event}
-use Rattle.kernel_calls.specs.declared.calls.Reply.{Reply}
-use Rattle.kernel_calls.specs.declared.calls.Reply.TheVariants as reply
+use Rattle.kernel_calls.proofs.Prelude
+use Prelude.{◌≡◌, ◌≢◌, ℕ, ◌==◌, Bool, true, false, refl, sym, ap, subst, ◌∙◌, List, [], ◌∷◌, ◌++◌, length, map, filter}
+use Prelude.{take, drop, zero, suc, ◌+◌, add-one, Some, arith, if◌then◌else◌, slice_get, eqb-true, eqb-false, All-head}
+use Prelude.{All-tail, same_Some, Size, Cell, cost, cell_or_fresh, at_page, given, quota_of, Access, Read, Write}
+use Prelude.{IsApart, AreAlike, Held, pages_held, alone_with, State, is_live, child_of, map_refusal, unmap_refusal}
+use Prelude.{protect_refusal, offer_refusal, withdraw_refusal, accept_refusal, spawn_refusal, fork_refusal}
+use Prelude.{exit_refusal, loaded, after_spawn, after_fork, IsWellFormed, spawn_alike, fork_alike, plan_of, exchanges}
+use Prelude.{quota_asked, answer, answer_of, answers, after, next, end_of, completes, refused_or, planned_or, info_of}
+use Prelude.{Call, Event, Reply}
+use Rattle.process_table.proofs.ApartOthers.{load_leaves, store_leaves, map_leaves, unmap_leaves, protect_leaves}
+use Rattle.process_table.proofs.ApartOthers.{offer_leaves, withdraw_leaves, accept_leaves, spawn_leaves, fork_leaves}
+use Rattle.process_table.proofs.ApartOthers.{exit_leaves}
+use Rattle.kernel_calls.specs.Isolation.{Exchange, own, is_exit, involves_others, events_in, calls_of, replies_of}
+use Rattle.kernel_calls.specs.Isolation.{InvolvesNobody, solo, pages_given, RunsAreIsolated, OthersMakeNoDifference}
+use Rattle.process_table.proofs.Apart.{mapped_alike, cost_alike, given_alike, lacks_room_alike, cell_alike, group_alike}
+use Rattle.process_table.proofs.Apart.{loaded_alike, map_refusal_alike, unmap_refusal_alike, protect_refusal_alike}
+use Rattle.process_table.proofs.Apart.{withdraw_refusal_alike, exit_refusal_alike, map_alike, protect_alike, load_alike}
+use Rattle.process_table.proofs.Apart.{store_alike, unmap_alike, withdraw_alike}
 use Rattle.kernel_calls.proofs.Decided.{next-stays, next-goes}
 use Rattle.kernel_calls.proofs.Runs.{not-refused, kept-next, kept-run}
+use Rattle.page_words.specs.FiniteMap as map
+use Rattle.process_table.specs.declared.causes.Cause.TheVariants as cause
+use Rattle.kernel_calls.specs.declared.calls.Call.TheVariants as call
+use Rattle.kernel_calls.specs.declared.calls.Reply.TheVariants as reply
+use Rattle.kernel_calls.proofs.Untouched.{caller_live}
+use Rattle.kernel_calls.proofs.Births.{planned_child, refused_child}
 
 -- ---- A call of two alike processes
 
 module _ (s t : State) (p q : ℕ) (a : AreAlike s p t q) where
   plan_alike : (addr : ℕ) (size : Size) (access : Access) → plan_of s p addr size access ≡ plan_of t q addr size access
-  plan_alike addr size access = λ i.
-      fault_or (outside addr size) access false
-      (fault_or (if is_write access then find (λ b. mapped_alike s t p q a (page_number b) i && not (cell_alike s t p q a (page_number b) i).write) (covered addr size) else None) access true
-      (if lacks_room_alike s t p q a addr size i then plan.Refused cause.Quota else plan.Ready (step_alike (page_number addr) i) (option_map (λ page. step_alike page i) (second_page addr size))))
-    where
-      step_alike : (page : ℕ) → step_of s p page ≡ step_of t q page
-      step_alike page = λ i. if mapped_alike s t p q a page i then step.Complete else step.MapZero
+  plan_alike addr size access = grind (arith, mapped_alike, cell_alike, lacks_room_alike)
 
   answer_of_alike : (c : Call) → involves_others c ≡ false → answer_of s p c ≡ answer_of t q c
   answer_of_alike (call.Load addr size) h = λ i. planned_or (plan_alike addr size Read i) (reply.Value (loaded_alike s t p q a addr size i))
@@ -58,13 +42,10 @@ module _ (s t : State) (p q : ℕ) (a : AreAlike s p t q) where
     where
       told : Held → ℕ → Reply
       told cell size = reply.Info cell.write cell.may cell.accessed cell.dirty size
-  answer_of_alike (call.Offer page target write) h = cc
   answer_of_alike (call.Withdraw page target) h = λ i. refused_or (withdraw_refusal_alike s t p q a page target i) reply.Done
-  answer_of_alike (call.Accept giver giver_page page) h = cc
-  answer_of_alike (call.Spawn quota) h = cc
-  answer_of_alike (call.Fork quota) h = cc
   answer_of_alike call.Exit h = λ i. refused_or (exit_refusal_alike s t p q a i) reply.Done
   answer_of_alike call.Quota h = λ i. reply.Quota (a.quota i) (cost_alike s t p q a i) (given_alike s t p q a i)
+  answer_of_alike _ h = cc
 
   after_alike : (c : Call) → involves_others c ≡ false → is_exit c ≡ false → AreAlike (after s p c) p (after t q c) q
   after_alike (call.Load addr size) h stays = load_alike s t p q addr size a
@@ -73,21 +54,13 @@ module _ (s t : State) (p q : ℕ) (a : AreAlike s p t q) where
   after_alike (call.Unmap page) h stays = unmap_alike s t p q page a
   after_alike (call.Protect page write) h stays = protect_alike s t p q a page write
   after_alike (call.Info page) h stays = a
-  after_alike (call.Offer page target write) h stays = cc
   after_alike (call.Withdraw page target) h stays = withdraw_alike s t p q page target a
-  after_alike (call.Accept giver giver_page page) h stays = cc
-  after_alike (call.Spawn quota) h stays = cc
-  after_alike (call.Fork quota) h stays = cc
-  after_alike call.Exit h stays = cc
   after_alike call.Quota h stays = a
+  after_alike _ h stays = cc
 
 -- two alike processes are told the same, whatever CPU they call on
 pub answer_alike : (s t : State) (e f : Event) → AreAlike s e.pid t f.pid → e.call ≡ f.call → involves_others e.call ≡ false → answer s e ≡ answer t f
-answer_alike s t e f a same alone =
-    ap (λ b. if b then answer_of s e.pid e.call else reply.Refused cause.NoProcess) a.one.live
-    ∙ answer_of_alike s t e.pid f.pid a e.call alone
-    ∙ ap (answer_of t f.pid) same
-    ∙ sym (ap (λ b. if b then answer_of t f.pid f.call else reply.Refused cause.NoProcess) a.other.live)
+answer_alike s t e f a same alone = grind (arith, answer_of_alike)
 
 -- and are alike afterwards
 pub next_alike : (s t : State) (e f : Event) → AreAlike s e.pid t f.pid → e.call ≡ f.call → involves_others e.call ≡ false → is_exit e.call ≡ false → AreAlike (next s e) e.pid (next t f) f.pid
@@ -97,10 +70,7 @@ next_alike s t e f a same alone stays = by (completes (answer s e)) refl
     told = ap completes (answer_alike s t e f a same alone)
 
     by : (b : Bool) → completes (answer s e) ≡ b → AreAlike (next s e) e.pid (next t f) f.pid
-    by true h =
-        let there : next s e ≡ after s e.pid e.call = next-goes s e h in
-        let here : next t f ≡ after t f.pid e.call = next-goes t f (sym told ∙ h) ∙ ap (after t f.pid) (sym same) in
-        subst (λ u. AreAlike u e.pid (next t f) f.pid) (sym there) (subst (λ u. AreAlike (after s e.pid e.call) e.pid u f.pid) (sym here) (after_alike s t e.pid f.pid a e.call alone stays))
+    by true h = grind (arith, next-goes, told, after_alike)
     by false h = subst (λ u. AreAlike u e.pid (next t f) f.pid) (sym (next-stays s e h)) (subst (λ u. AreAlike s e.pid u f.pid) (sym (next-stays t f (sym told ∙ h))) a)
 
 -- ---- An event of another process
@@ -117,22 +87,13 @@ after_leaves s p q (call.Store addr size value) w a d live h = store_leaves s p 
 after_leaves s p q (call.Map page write) w a d live h = map_leaves s p q w a d page write
 after_leaves s p q (call.Unmap page) w a d live h = unmap_leaves s p q w a d page
 after_leaves s p q (call.Protect page write) w a d live h = protect_leaves s p q w a d page write
-after_leaves s p q (call.Info page) w a d live h = alike_itself s p a
 after_leaves s p q (call.Offer page target write) w a d live h = offer_leaves s p q w a d page target write
 after_leaves s p q (call.Withdraw page target) w a d live h = withdraw_leaves s p q w a d page target
 after_leaves s p q (call.Accept giver giver_page page) w a d live h = accept_leaves s p q giver giver_page page w a d (not-refused (accept_refusal s q giver giver_page page) _ h)
 after_leaves s p q (call.Spawn quota) w a d live h = spawn_leaves s p q quota a d (not-refused (spawn_refusal s q quota) _ h)
 after_leaves s p q (call.Fork quota) w a d live h = fork_leaves s p q quota a d (not-refused (fork_refusal s q quota) _ h)
 after_leaves s p q call.Exit w a d live h = exit_leaves s p q a d live
-after_leaves s p q call.Quota w a d live h = alike_itself s p a
-
--- who calls and is not refused is live
-caller_live : (s : State) (e : Event) → completes (answer s e) ≡ true → (is_live s e.pid ≡ true) × (completes (answer_of s e.pid e.call) ≡ true)
-caller_live s e h = by (is_live s e.pid) h
-  where
-    by : (b : Bool) → completes (if b then answer_of s e.pid e.call else reply.Refused cause.NoProcess) ≡ true → (b ≡ true) × (completes (answer_of s e.pid e.call) ≡ true)
-    by true k = (refl, k)
-    by false k = cc
+after_leaves s p q _ w a d live h = alike_itself s p a
 
 pub next_leaves : (s : State) (p : ℕ) (e : Event) → IsWellFormed s → IsApart s p → e.pid ≢ p → AreAlike s p (next s e) p
 next_leaves s p e w a d = by (completes (answer s e)) refl
@@ -226,15 +187,6 @@ own_without s t p (e ∷ events) w a alone = one_less s t p e events w a (λ u b
 
 -- ---- A new child
 
-not_refused_child : (x : Option Cause) (r : Reply) (k : ℕ) → refused_or x r ≡ reply.Child k → (x ≡ None) × (r ≡ reply.Child k)
-not_refused_child None r k h = (refl, h)
-not_refused_child (Some c) r k h = cc
-
-planned_child : (x : Plan) (r : Reply) (k : ℕ) → planned_or x r ≡ reply.Child k → r ≡ reply.Child k
-planned_child (plan.Refused c) r k h = cc
-planned_child (plan.Fault f) r k h = cc
-planned_child (plan.Ready first second) r k h = h
-
 -- a call that is answered with a child leaves it alike to process 1 alone with what the call gave it
 abbrev IsMade : ℕ → State → ℕ → Call → ℕ → Type 0
 IsMade root s p c k = AreAlike (after s p c) k (alone_with root (quota_asked c) (pages_given s p c)) 1
@@ -251,23 +203,23 @@ made root s p (call.Load addr size) k w live h = absurd (value_not (loaded s p a
     value_not : (v k : ℕ) → reply.Value v ≡ reply.Child k → ⊥
     value_not v k h = cc
 made root s p (call.Store addr size value) k w live h = absurd (done_not k (planned_child (plan_of s p addr size Write) reply.Done k h))
-made root s p (call.Map page write) k w live h = absurd (done_not k (not_refused_child (map_refusal s p page) reply.Done k h).1)
-made root s p (call.Unmap page) k w live h = absurd (done_not k (not_refused_child (unmap_refusal s p page) reply.Done k h).1)
-made root s p (call.Protect page write) k w live h = absurd (done_not k (not_refused_child (protect_refusal s p page write) reply.Done k h).1)
-made root s p (call.Info page) k w live h = absurd (info_not (cell_or_fresh s.spaces (at_page p page)) k (not_refused_child (protect_refusal s p page false) (info_of (cell_or_fresh s.spaces (at_page p page))) k h).1)
+made root s p (call.Map page write) k w live h = absurd (done_not k (refused_child (map_refusal s p page) reply.Done k h).1)
+made root s p (call.Unmap page) k w live h = absurd (done_not k (refused_child (unmap_refusal s p page) reply.Done k h).1)
+made root s p (call.Protect page write) k w live h = absurd (done_not k (refused_child (protect_refusal s p page write) reply.Done k h).1)
+made root s p (call.Info page) k w live h = absurd (info_not (cell_or_fresh s.spaces (at_page p page)) k (refused_child (protect_refusal s p page false) (info_of (cell_or_fresh s.spaces (at_page p page))) k h).1)
   where
     info_not : (c : Cell) (k : ℕ) → info_of c ≡ reply.Child k → ⊥
     info_not c k h = cc
-made root s p (call.Offer page target write) k w live h = absurd (done_not k (not_refused_child (offer_refusal s p page target write) reply.Done k h).1)
-made root s p (call.Withdraw page target) k w live h = absurd (done_not k (not_refused_child (withdraw_refusal s p page target) reply.Done k h).1)
-made root s p (call.Accept giver giver_page page) k w live h = absurd (done_not k (not_refused_child (accept_refusal s p giver giver_page page) reply.Done k h).1)
+made root s p (call.Offer page target write) k w live h = absurd (done_not k (refused_child (offer_refusal s p page target write) reply.Done k h).1)
+made root s p (call.Withdraw page target) k w live h = absurd (done_not k (refused_child (withdraw_refusal s p page target) reply.Done k h).1)
+made root s p (call.Accept giver giver_page page) k w live h = absurd (done_not k (refused_child (accept_refusal s p giver giver_page page) reply.Done k h).1)
 made root s p (call.Spawn quota) k w live h =
-    let n = not_refused_child (spawn_refusal s p quota) (reply.Child (child_of s)) k h in
+    let n = refused_child (spawn_refusal s p quota) (reply.Child (child_of s)) k h in
     subst (λ c. AreAlike (after_spawn s p quota) c (alone_with root quota map.empty) 1) (child_value (child_of s) k n.1) (spawn_alike s p root quota w live n.0)
 made root s p (call.Fork quota) k w live h =
-    let n = not_refused_child (fork_refusal s p quota) (reply.Child (child_of s)) k h in
+    let n = refused_child (fork_refusal s p quota) (reply.Child (child_of s)) k h in
     subst (λ c. AreAlike (after_fork s p quota) c (alone_with root quota (pages_held s p)) 1) (child_value (child_of s) k n.1) (fork_alike s p root quota w live n.0)
-made root s p call.Exit k w live h = absurd (done_not k (not_refused_child (exit_refusal s p) reply.Done k h).1)
+made root s p call.Exit k w live h = absurd (done_not k (refused_child (exit_refusal s p) reply.Done k h).1)
 made root s p call.Quota k w live h = absurd (quota_not (quota_of s.book p) (cost s.spaces p) (given s.book p) k h)
   where
     quota_not : (q u g k : ℕ) → reply.Quota q u g ≡ reply.Child k → ⊥

@@ -1,33 +1,21 @@
 -- What an event leaves of all that processors may keep.
-use Rattle.std.proofs.Common.{◌≡◌, ◌<◌, ◌^◌, ℕ, Bool, true, false, ◌&&◌, ◌||◌, ◌==◌, eq-eqb, List, [], ◌∷◌, refl, ap, sym, ◌∙◌, subst, arith, Option, Some, None}
-use Rattle.std.specs.Prelude.{if◌then◌else◌, is_some}
-use Rattle.page_words.specs.Addresses.{page_number, slot_number, start_number}
-use Rattle.page_words.specs.FiniteMap as map
-use Rattle.page_words.proofs.MapLemmas.{same-true}
-use Rattle.std.proofs.lemmas.Bool.{ne_eqb}
-use Rattle.table_walk.specs.declared.Access.TheVariants.{Read, Write}
-use Rattle.address_space.specs.Image.{table_at}
-use Rattle.address_space.specs.Spaces.{Slot, slot_order, Cell, at_page, slot_at, is_slot, is_of, cell_or_fresh}
-use Rattle.address_space.specs.Stays.{FramesStay, WaysAgree, none_goes}
-use Rattle.address_space.specs.Walks.{WalksAgree}
-use Rattle.process_table.specs.Image.{StandsFor, image_of, memory_of}
-use Rattle.process_table.specs.State.{State}
-use Rattle.process_table.specs.View.{View}
-use Rattle.process_table.specs.WellFormed.{IsWellFormed}
-use Rattle.kernel_calls.specs.Gone.{gone_by}
-use Rattle.kernel_calls.specs.Machine.{answer, after, next, completes}
-use Rattle.kernel_calls.specs.Translations.{TablesMap, TablesStay, is_ended, ended_by, FlagsStay, Ends, Translation, IsGiven, Kept, translation, directory_entry, IsRead, AreRead, ends_in_region, is_invalidated, left_by, Keeps, change, walk, Keeping, nothing, onward, KeptAreGiven, KeptThroughRuns}
-use Rattle.kernel_calls.specs.declared.calls.Call.{Call}
-use Rattle.kernel_calls.specs.declared.calls.Call.TheVariants as call
-use Rattle.kernel_calls.specs.declared.calls.Event.{Event}
-use Rattle.kernel_calls.specs.declared.translations.Ended.{Ended}
-use Rattle.kernel_calls.specs.declared.translations.Ended.TheVariants as end
+use Rattle.kernel_calls.proofs.Prelude
+use Prelude.{◌≡◌, ◌<◌, ◌^◌, ℕ, Bool, true, false, List, [], ◌∷◌, refl, ap, sym, ◌∙◌, subst, arith, Option, Some, None}
+use Prelude.{is_some, eq-eqb, if◌then◌else◌, page_number, slot_number, start_number, same-true, ne_eqb, Read, Write}
+use Prelude.{table_at, Slot, Cell, at_page, slot_at, FramesStay, WaysAgree, none_goes, WalksAgree, StandsFor, image_of}
+use Prelude.{memory_of, State, View, IsWellFormed, gone_by, answer, after, next, completes, TablesMap, TablesStay}
+use Prelude.{is_ended, ended_by, FlagsStay, Ends, Translation, IsGiven, Kept, IsRead, AreRead, ends_in_region}
+use Prelude.{is_invalidated, left_by, Keeps, change, walk, Keeping, nothing, onward, KeptAreGiven, KeptThroughRuns}
+use Prelude.{Call, Event, Ended, stays_most}
 use Rattle.kernel_calls.proofs.Decided.{next-stays, next-goes}
-use Rattle.address_space.proofs.standing.FramesStand.{stays_most}
 use Rattle.kernel_calls.proofs.Ends.{ends_no_more, without_gone}
 use Rattle.kernel_calls.proofs.Linked.{directories_stay, tables_stay, tables_map}
 use Rattle.kernel_calls.proofs.Flags.{IsFlag, has, own, accessed_is_flag, dirty_is_flag, Spared, keeps_call}
-use Rattle.kernel_calls.proofs.Translated.{live_answer, translations_stay, slots_stay, found_by}
+use Rattle.kernel_calls.proofs.Translated.{translations_stay, slots_stay, found_by}
+use Rattle.page_words.specs.FiniteMap as map
+use Rattle.kernel_calls.specs.declared.calls.Call.TheVariants as call
+use Rattle.kernel_calls.specs.declared.translations.Ended.TheVariants as end
+use Rattle.kernel_calls.proofs.Untouched.{caller_live}
 
 -- memory stands for the state, and each walk goes the way of its slot
 pub record Standing (v : View) : Type 0 where
@@ -44,28 +32,7 @@ standing image walks ways well_formed = record { image = image; walks = walks; w
 -- a slot that is mapped behind a call is spared by it, where the flag is no right
 mapped_spared : (flag : Cell → Bool) (F : IsFlag flag) → ((c : Cell) (w : Bool) → flag (record c { write = w }) ≡ flag c) → (s : State) (p : ℕ) (c : Call) (slot : Slot) → has flag (map.get s.spaces slot) ≡ true
     → is_some (map.get (after s p c).spaces slot) ≡ true → Spared flag F s p c slot
-mapped_spared flag F alike s p (call.Load addr size) slot h there = tt
-mapped_spared flag F alike s p (call.Store addr size value) slot h there = tt
-mapped_spared flag F alike s p (call.Map page write) slot h there = tt
-mapped_spared flag F alike s p (call.Unmap page) slot h there = left (is_slot p page slot) refl
-  where
-    left : (b : Bool) → is_slot p page slot ≡ b → is_slot p page slot ≡ false
-    left false is = is
-    left true is = absurd (let k : false ≡ true = sym (without_gone s.spaces (is_slot p page) slot is) ∙ there in cc)
-mapped_spared flag F alike s p (call.Protect page write) slot h there = λ here.
-    alike (cell_or_fresh s.spaces (at_page p page)) write ∙ own flag F s.spaces (at_page p page) (sym (ap (λ q. has flag (map.get s.spaces q)) here) ∙ h)
-mapped_spared flag F alike s p (call.Info page) slot h there = tt
-mapped_spared flag F alike s p (call.Offer page target write) slot h there = tt
-mapped_spared flag F alike s p (call.Withdraw page target) slot h there = tt
-mapped_spared flag F alike s p (call.Accept giver giver_page page) slot h there = tt
-mapped_spared flag F alike s p (call.Spawn quota) slot h there = tt
-mapped_spared flag F alike s p (call.Fork quota) slot h there = tt
-mapped_spared flag F alike s p call.Exit slot h there = left (is_of p slot) refl
-  where
-    left : (b : Bool) → is_of p slot ≡ b → is_of p slot ≡ false
-    left false is = is
-    left true is = absurd (let k : false ≡ true = sym (without_gone s.spaces (is_of p) slot is) ∙ there in cc)
-mapped_spared flag F alike s p call.Quota slot h there = tt
+mapped_spared flag F alike s p c slot h there = grind (arith, without_gone, own, has)
 
 -- so no event clears it in a slot that is mapped before and behind it
 flag_kept : (flag : Cell → Bool) → IsFlag flag → ((c : Cell) (w : Bool) → flag (record c { write = w }) ≡ flag c) → (s : State) (e : Event) (slot : Slot) → IsWellFormed s
@@ -77,7 +44,7 @@ flag_kept flag F alike s e slot well there h = by (completes (answer s e)) refl
     by true is =
         let goes = next-goes s e is in
         ap (λ (t : State). has flag (map.get t.spaces slot)) goes
-        ∙ keeps_call flag F s e.pid e.call slot well (live_answer s e is).1
+        ∙ keeps_call flag F s e.pid e.call slot well (caller_live s e is).1
         (mapped_spared flag F alike s e.pid e.call slot h (sym (ap (λ (t : State). is_some (map.get t.spaces slot)) goes) ∙ there)) h
 
 flags_stay : (s t : State) (e : Event) → IsWellFormed s → t ≡ next s e → FlagsStay s t
@@ -107,18 +74,10 @@ abbrev asks : Event
 asks = record { cpu = 0; pid = 0; call = call.Quota }
 
 asks_stays : (s : State) → next s asks ≡ s
-asks_stays s = by (completes (answer s asks)) refl
-  where
-    by : (b : Bool) → completes (answer s asks) ≡ b → next s asks ≡ s
-    by false is = next-stays s asks is
-    by true is = next-goes s asks is
+asks_stays s = grind (arith, next-stays, next-goes)
 
 asks_ends_none : (v : View) → ended_by v asks ≡ end.Nothing
-asks_ends_none v = by (completes (answer v.state asks))
-  where
-    by : (b : Bool) → (if b then end.Nothing else end.Nothing) ≡ end.Nothing
-    by false = refl
-    by true = refl
+asks_ends_none v = grind arith
 
 -- so does whatever leaves the state and all ways
 pub nothing_ends : (v w : View) → Standing v → Standing w → w.state ≡ v.state → FramesStay none_goes (memory_of v) (memory_of w) → Ends end.Nothing v w
@@ -161,48 +120,10 @@ given_stays ended v w t ends spared given = record {
     there : (d : Cell) × (map.get w.state.spaces t.slot ≡ Some d)
     there = some_cell (map.get w.state.spaces t.slot) (ends.slots t.slot spared (ap is_some given.mapped))
 
--- a page of another region, or of another process
-page_apart : (q first p page : ℕ) → is_slot q first (at_page p page) ≡ true
-    → ((q == p) && (slot_number first == slot_number page)) ≡ false → ⊥
-page_apart q first p page is apart =
-    let here : at_page q first ≡ at_page p page = same-true slot_order (at_page q first) (at_page p page) is in
-    let one : (q == p) ≡ true = eq-eqb q p (ap (λ (s : Slot). s.pid) here) in
-    let two : (slot_number first == slot_number page) ≡ true =
-    eq-eqb (slot_number first) (slot_number page) (ap (λ (s : Slot). slot_number s.page) here) in
-    let k : true ≡ false = sym (λ i. one i && two i) ∙ apart in
-    cc
-
 -- no slot of a region is ended, where none of its pages is
 pub region_spared : (ended : Ended) (p page : ℕ) → ends_in_region ended p (slot_number page) ≡ false
     → is_ended ended (at_page p page) ≡ false
-region_spared end.Nothing p page spared = refl
-region_spared (end.Page q first) p page spared = by (is_slot q first (at_page p page)) refl
-  where
-    by : (b : Bool) → is_slot q first (at_page p page) ≡ b → is_slot q first (at_page p page) ≡ false
-    by false is = is
-    by true is = absurd (page_apart q first p page is spared)
-region_spared (end.Pages q first second) p page spared = by (is_slot q first (at_page p page)) refl
-    (is_slot q second (at_page p page)) refl
-  where
-    either : (a b c : Bool) → (a && (b || c)) ≡ false → ((a && b) ≡ false) × ((a && c) ≡ false)
-    either false b c h = (refl, refl)
-    either true false false h = (refl, refl)
-    either true false true h = cc
-    either true true c h = cc
-
-    parts : (((q == p) && (slot_number first == slot_number page)) ≡ false)
-        × (((q == p) && (slot_number second == slot_number page)) ≡ false)
-    parts = either (q == p) (slot_number first == slot_number page) (slot_number second == slot_number page) spared
-
-    by : (a : Bool) → is_slot q first (at_page p page) ≡ a → (b : Bool) → is_slot q second (at_page p page) ≡ b
-        → (is_slot q first (at_page p page) || is_slot q second (at_page p page)) ≡ false
-    by true is b other = absurd (page_apart q first p page is parts.0)
-    by false is true other = absurd (page_apart q second p page other parts.1)
-    by false is false other = (λ i. is i || other i)
-region_spared (end.Space q) p page spared = apart q p spared
-  where
-    apart : (q p : ℕ) → (q == p) ≡ false → (p == q) ≡ false
-    apart q p h = ne_eqb p q (λ e. let k : true ≡ false = sym (eq-eqb q p (sym e)) ∙ h in cc)
+region_spared ended p page spared = grind (arith, same-true, eq-eqb, ne_eqb)
 
 -- so an entry of a directory stays where it isn't invalidated
 pub entry_left : (ended : Ended) (v w : View) (p region table : ℕ) → TablesMap v → TablesStay ended v w
@@ -222,8 +143,7 @@ entry_stays ended v w p region table ends = entry_left ended v w p region table 
 
 -- what is kept is read afterwards, where it isn't invalidated
 read_stays : (ended : Ended) (v w : View) (k : Kept) → Ends ended v w → is_invalidated ended k ≡ false → IsRead v k → IsRead w k
-read_stays ended v w (translation t) ends spared given = given_stays ended v w t ends spared given
-read_stays ended v w (directory_entry e) ends spared given = entry_stays ended v w e.pid e.region e.table ends spared given
+read_stays ended v w k ends spared given = grind (arith, given_stays, entry_stays)
 
 pub left_read : (ended : Ended) (v w : View) (kept : List Kept) → Ends ended v w → AreRead v kept → AreRead w (left_by ended kept)
 left_read ended v w [] ends given = tt

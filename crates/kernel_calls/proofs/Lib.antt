@@ -41,6 +41,7 @@ pub mod Outsiders
 pub mod OwnViews
 pub mod Planned
 pub mod PlayedTurns
+pub mod Prelude
 pub mod RightfulChanges
 pub mod Runs
 pub mod Seen

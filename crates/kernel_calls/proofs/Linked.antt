@@ -1,32 +1,15 @@
 -- Which directories and tables an event leaves.
-use Rattle.std.proofs.Common.{◌≡◌, ℕ, ◌*◌, ◌+◌, ◌<◌, Bool, true, false, ◌&&◌, ◌||◌, ◌==◌, eq-eqb, length, refl, ap, sym, ◌∙◌, arith, inl, inr, Option, Some, None}
-use Rattle.std.specs.Prelude.{if◌then◌else◌, is_some, nat_lt}
-use Rattle.std.specs.Option.{option_map, option_and_then}
-use Rattle.std.proofs.lemmas.Option.{slice_get_within}
-use Rattle.std.proofs.lemmas.Bool.{ne_eqb}
-use Rattle.std.proofs.lemmas.Bool.Decides.{nat_tests}
-use Rattle.page_words.specs.Addresses.{page_number, slot_number, index_number, second_page}
-use Rattle.page_words.specs.declared.addresses.Size.{Size}
-use Rattle.page_words.specs.Words.{frame_number, is_present}
-use Rattle.page_words.specs.FiniteMap as map
-use Rattle.page_words.proofs.MapLemmas.{same_or_not}
-use Rattle.alloc_table.specs.declared.Role.TheVariants.{Table}
-use Rattle.address_space.specs.Image.{directory_at, table_at, word_of, named_by, present_word, page_word, SlotStands}
-use Rattle.address_space.specs.Spaces.{Slot, slot_order, Cell, at_page, is_slot}
-use Rattle.address_space.specs.Stays.{way_of, FramesStay, WaysAgree}
-use Rattle.address_space.specs.Walks.{WalksAgree}
-use Rattle.address_space.proofs.standing.FramesStand.{way_whole}
-use Rattle.process_table.specs.Image.{StandsFor, image_of, memory_of}
-use Rattle.process_table.specs.View.{View}
-use Rattle.fault_handler.specs.Fills.{lazy_second, lazy_touched}
-use Rattle.kernel_calls.specs.Gone.{gone_of_call, gone_by}
-use Rattle.kernel_calls.specs.Machine.{answer, completes}
-use Rattle.kernel_calls.specs.Translations.{is_all_of, of_call, ended_by, DirectoriesStay, TablesStay, TablesMap}
-use Rattle.kernel_calls.specs.declared.calls.Call.{Call}
-use Rattle.kernel_calls.specs.declared.calls.Call.TheVariants as call
-use Rattle.kernel_calls.specs.declared.calls.Event.{Event}
-use Rattle.kernel_calls.specs.declared.translations.Ended.TheVariants as end
+use Rattle.kernel_calls.proofs.Prelude
+use Prelude.{◌≡◌, ℕ, ◌*◌, ◌+◌, ◌<◌, Bool, true, false, ◌&&◌, length, refl, ap, ◌∙◌, arith, Option, Some, None, is_some}
+use Prelude.{eq-eqb, if◌then◌else◌, nat_lt, option_map, option_and_then, slice_get_within, ne_eqb, nat_tests}
+use Prelude.{slot_number, index_number, frame_number, is_present, same_or_not, Table, directory_at, table_at, word_of}
+use Prelude.{present_word, page_word, SlotStands, Slot, Cell, at_page, way_of, FramesStay, WaysAgree, WalksAgree}
+use Prelude.{way_whole, StandsFor, image_of, memory_of, View, gone_of_call, gone_by, answer, completes, is_all_of}
+use Prelude.{of_call, ended_by, DirectoriesStay, TablesStay, TablesMap, Call, Event}
 use Rattle.kernel_calls.proofs.Translated.{event_spared}
+use Rattle.page_words.specs.FiniteMap as map
+use Rattle.kernel_calls.specs.declared.calls.Call.TheVariants as call
+use Rattle.kernel_calls.specs.declared.translations.Ended.TheVariants as end
 
 -- ---- Directories
 
@@ -35,41 +18,9 @@ abbrev spared_page : Call → ℕ
 spared_page (call.Unmap page) = page + 1
 spared_page _ = 0
 
-no_first : (b : Bool) → (b && false) ≡ false
-no_first true = refl
-no_first false = refl
-
-none_touched : (p address : ℕ) (size : Size) (slot : Slot) → lazy_touched p address size slot 1 ≡ false
-none_touched p address size slot = (λ i. no_first (is_slot p (page_number address) slot) i || by (second_page address size) i)
-  where
-    by : (x : Option ℕ) → lazy_second p x slot 1 ≡ false
-    by None = refl
-    by (Some page) = no_first (is_slot p page slot)
-
-not_next : (q p page : ℕ) → is_slot q page (at_page p (page + 1)) ≡ false
-not_next q p page = elim (same_or_not slot_order (at_page q page) (at_page p (page + 1))) [
-  | inl h ↦ absurd (let k : page ≡ page + 1 = ap (λ (s : Slot). s.page) h.0 in omega (arith, k))
-  | inr h ↦ h
-]
-
 call_spares : (v : View) (q : ℕ) (c : Call) (p : ℕ) → is_all_of (of_call v q c) p ≡ false
     → gone_of_call q c (at_page p (spared_page c)) 1 ≡ false
-call_spares v q (call.Load addr size) p some = refl
-call_spares v q (call.Store addr size value) p some = none_touched q addr size (at_page p 0)
-call_spares v q (call.Map page write) p some = refl
-call_spares v q (call.Unmap page) p some = not_next q p page
-call_spares v q (call.Protect page write) p some = refl
-call_spares v q (call.Info page) p some = refl
-call_spares v q (call.Offer page target write) p some = refl
-call_spares v q (call.Withdraw page target) p some = refl
-call_spares v q (call.Accept giver giver_page page) p some = no_first (is_slot giver giver_page (at_page p 0))
-call_spares v q (call.Spawn quota) p some = refl
-call_spares v q (call.Fork quota) p some = refl
-call_spares v q call.Exit p some = by q p some
-  where
-    by : (q p : ℕ) → (q == p) ≡ false → (p == q) ≡ false
-    by q p h = ne_eqb p q (λ e. let k : true ≡ false = sym (eq-eqb q p (sym e)) ∙ h in cc)
-call_spares v q call.Quota p some = refl
+call_spares v q c p some = grind (arith, same_or_not, ne_eqb, eq-eqb)
 
 event_spares : (v : View) (e : Event) (p : ℕ) → is_all_of (ended_by v e) p ≡ false
     → gone_by v.state e (at_page p (spared_page e.call)) 1 ≡ false
@@ -77,8 +28,7 @@ event_spares v e p some = by (completes (answer v.state e)) some
   where
     by : (b : Bool) → is_all_of (if b then of_call v e.pid e.call else end.Nothing) p ≡ false
         → (if b then gone_of_call e.pid e.call (at_page p (spared_page e.call)) 1 else false) ≡ false
-    by false h = refl
-    by true h = call_spares v e.pid e.call p h
+    by b h = grind (arith, call_spares)
 
 pub directories_stay : (v w : View) (e : Event) → FramesStay (gone_by v.state e) (memory_of v) (memory_of w)
     → DirectoriesStay (ended_by v e) (memory_of v) (memory_of w)
@@ -97,12 +47,7 @@ module _ (v : View) (stands : StandsFor (image_of v) v.state) where
       at : (word : ℕ) (x : Option ℕ) → page_word (memory_of v) slot ≡ Some word
           → directory_at (memory_of v) slot.pid ≡ x
           → (d : ℕ) × (f : ℕ) × (way_of (memory_of v) slot ≡ Some (d, f))
-      at word None is none = absurd (
-          let k : None ≡ Some word = sym (ap (λ x. option_and_then
-          (λ t. present_word (memory_of v) t (word_of (memory_of v) t (index_number slot.page)))
-          (option_and_then (λ d. named_by (slot_number slot.page) (word_of (memory_of v) d (slot_number slot.page))) x))
-          none) ∙ is in
-          cc)
+      at word None is none = grind arith
       at word (Some d) is live = (
         d,
         frame_number word,
@@ -118,12 +63,7 @@ module _ (v : View) (stands : StandsFor (image_of v) v.state) where
   -- a slot whose word is present is mapped
   present_mapped : (slot : Slot) (word : ℕ) → page_word (memory_of v) slot ≡ Some word
       → map.contains_key v.state.spaces slot ≡ true
-  present_mapped slot word is = by (page_word (memory_of v) slot) is (map.get v.state.spaces slot) (stands.memory.cells slot)
-    where
-      by : (x : Option ℕ) → x ≡ Some word → (y : Option Cell) → SlotStands (memory_of v) slot x y → is_some y ≡ true
-      by None k y h = cc
-      by (Some w) k None h = absurd h
-      by (Some w) k (Some c) h = refl
+  present_mapped slot word is = grind arith
 
   pub tables_map : TablesMap v
   tables_map p region table linked =

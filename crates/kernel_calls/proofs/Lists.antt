@@ -1,9 +1,7 @@
 -- The places of a list that are behind a number of them.
-use Rattle.std.proofs.Common.{◌≡◌, ℕ, ◌+◌, ◌≤◌, ◌-◌, ◌∙◌, ◌++◌, Bool, true, false, refl, sym, ap, List, [], ◌∷◌, map, filter, drop, set, arith}
-use Rattle.std.specs.Prelude.{if◌then◌else◌}
-use Rattle.std.specs.List.{range_with_len}
+use Rattle.kernel_calls.proofs.Prelude.{◌≡◌, ℕ, ◌+◌, ◌≤◌, ◌-◌, ◌∙◌, ◌++◌, Bool, refl, sym, ap, List, [], ◌∷◌, map}
+use Rattle.kernel_calls.proofs.Prelude.{filter, drop, set, arith, if◌then◌else◌, range_with_len, drop-set-lt, drop-drop}
 use Rattle.std.proofs.lemmas.List.FromFn.{filter_of_map_range_with_len_more}
-use Rattle.std.proofs.lemmas.List.{drop-set-lt, drop-drop}
 
 -- they stay, where one place more is used
 pub set_rest : {A : Type 0} (xs ys : List A) (count : ℕ) (x : A) → drop count xs ≡ drop count ys → drop (count + 1) (set xs count x) ≡ drop (count + 1) ys
@@ -27,5 +25,4 @@ filter_range_more p n =
     ∙ ap (λ l. filter p l ++ (if p n then n ∷ [] else [])) (map_same (range_with_len 0 n))
 
 pub one_more_or_none : (b : Bool) (n : ℕ) → (n ≤ n + (if b then 1 else 0)) × (n + (if b then 1 else 0) ≤ n + 1)
-one_more_or_none true n = (omega arith, omega arith)
-one_more_or_none false n = (omega arith, omega arith)
+one_more_or_none b n = grind arith

@@ -1,22 +1,13 @@
 -- What the pages of a load cost together: each is counted once those before it are mapped.
-use Rattle.std.proofs.Common.{◌≡◌, ◌≢◌, ℕ, zero, suc, ◌+◌, ◌-◌, ◌<◌, ◌≤◌, ◌==◌, ◌&&◌, Bool, true, false, not, List, [], ◌∷◌, ◌++◌, append_assoc, refl, sym, ap, ◌∙◌, is_some, arith}
-use Rattle.std.specs.Prelude.{if◌then◌else◌}
-use Rattle.std.specs.List.{range_with_len}
-use Rattle.std.proofs.lemmas.Bool.{eqb-true, eq-eqb}
-use Rattle.std.proofs.lemmas.List.{append-nil}
-use Rattle.page_words.specs.Addresses.{page_number, slot_number, offset_number}
-use Rattle.page_words.specs.FiniteMap as map
-use Rattle.page_words.specs.FiniteMap.{nat_order}
-use Rattle.page_words.specs.FiniteSet as set
-use Rattle.page_words.proofs.Accesses.{range_split}
-use Rattle.address_space.specs.Spaces.{Slot, Spaces, at_page, fresh, cost, regions_of, need, page_need, with_page, with_pages}
-use Rattle.address_space.proofs.costs.AccessCosts.{kept}
-use Rattle.address_space.proofs.costs.AccessNeeds.{cost-with_page, need-beside}
-use Rattle.address_space.proofs.costs.Costs.{same_pages}
-use Rattle.process_table.specs.State.{State, extra_cost}
-use Rattle.process_table.proofs.CellLaws.{get-inserted_other}
-use Rattle.kernel_calls.specs.Loaded.{pages_under}
+use Rattle.kernel_calls.proofs.Prelude.{◌≡◌, ◌≢◌, ℕ, zero, suc, ◌+◌, ◌-◌, ◌<◌, ◌≤◌, ◌==◌, ◌&&◌, Bool, true, false, not}
+use Rattle.kernel_calls.proofs.Prelude.{List, [], ◌∷◌, ◌++◌, append_assoc, refl, sym, ap, ◌∙◌, arith, if◌then◌else◌}
+use Rattle.kernel_calls.proofs.Prelude.{range_with_len, eqb-true, eq-eqb, append-nil, page_number, slot_number}
+use Rattle.kernel_calls.proofs.Prelude.{offset_number, nat_order, range_split, Spaces, at_page, fresh, cost, regions_of}
+use Rattle.kernel_calls.proofs.Prelude.{need, page_need, with_page, with_pages, kept, cost-with_page, need-beside}
+use Rattle.kernel_calls.proofs.Prelude.{same_pages, State, extra_cost, get-inserted_other, pages_under}
 use Rattle.kernel_calls.proofs.LoadedPages.{pages_more}
+use Rattle.page_words.specs.FiniteMap as map
+use Rattle.page_words.specs.FiniteSet as set
 
 with_pages-append : (S : Spaces) (p : ℕ) (xs ys : List ℕ) → with_pages S p (xs ++ ys) ≡ with_pages (with_pages S p xs) p ys
 with_pages-append S p [] ys = refl
@@ -25,11 +16,7 @@ with_pages-append S p (x ∷ xs) ys = with_pages-append (with_page S p x) p xs y
 -- ---- A page behind pages that are mapped now
 
 key_beside : (S : Spaces) (p x y : ℕ) → y ≢ x → map.contains_key (with_page S p x) (at_page p y) ≡ map.contains_key S (at_page p y)
-key_beside S p x y apart = by (map.contains_key S (at_page p x))
-  where
-    by : (b : Bool) → map.contains_key (if b then S else map.insert S (at_page p x) (fresh (at_page p x) true)) (at_page p y) ≡ map.contains_key S (at_page p y)
-    by true = refl
-    by false = ap is_some (get-inserted_other S (at_page p x) (fresh (at_page p x) true) (at_page p y) (λ e. apart (ap (λ (slot : Slot). slot.page) e)))
+key_beside S p x y apart = grind (arith, get-inserted_other)
 
 key_ahead : (S : Spaces) (p f k y : ℕ) → f + k ≤ y → map.contains_key (with_pages S p (range_with_len f k)) (at_page p y) ≡ map.contains_key S (at_page p y)
 key_ahead S p f zero y h = refl
@@ -37,11 +24,7 @@ key_ahead S p f (suc k) y h =
     key_ahead (with_page S p f) p (f + 1) k y (omega (arith, h)) ∙ key_beside S p f y (λ e. absurd (omega (arith, e, h)))
 
 need_apart : (S : Spaces) (p x y : ℕ) → (slot_number x == slot_number y) ≡ false → need (with_page S p x) p y ≡ need S p y
-need_apart S p x y other = by (map.contains_key S (at_page p x))
-  where
-    by : (b : Bool) → need (if b then S else map.insert S (at_page p x) (fresh (at_page p x) true)) p y ≡ need S p y
-    by true = refl
-    by false = need-beside S p x y (fresh (at_page p x) true) ∙ ap (λ b. if b then 1 else need S p y) other
+need_apart S p x y other = grind (arith, need-beside)
 
 -- a page of a region that has one before it
 need_together : (S : Spaces) (p x y : ℕ) → (slot_number x == slot_number y) ≡ true → need (with_page S p x) p y ≡ 1
@@ -59,15 +42,7 @@ need_together S p x y one = by (map.contains_key S (at_page p x)) refl
 
 -- the first page of a region
 region_ends : (f y : ℕ) → f < y → (slot_number (y - 1) == slot_number y) ≡ false → (slot_number f == slot_number y) ≡ false
-region_ends f y below ends = by (slot_number f == slot_number y) refl
-  where
-    by : (b : Bool) → (slot_number f == slot_number y) ≡ b → b ≡ false
-    by false is = refl
-    by true is =
-        let e = eqb-true (slot_number f) (slot_number y) is in
-        let one : slot_number (y - 1) ≡ slot_number y = omega (arith, e, below) in
-        let t = eq-eqb (slot_number (y - 1)) (slot_number y) one in
-        sym t ∙ ends
+region_ends f y below ends = grind (arith, eqb-true, eq-eqb)
 
 need_far : (S : Spaces) (p f k y : ℕ) → f + k ≤ y → (slot_number (y - 1) == slot_number y) ≡ false → need (with_pages S p (range_with_len f k)) p y ≡ need S p y
 need_far S p f zero y h ends = refl
@@ -101,11 +76,7 @@ need_behind S p f k y b here first second =
 
 -- a page that has one before it is not the first
 pub later : (done : ℕ) → 0 < done → (done == 0) ≡ false
-later done some = by (done == 0) refl
-  where
-    by : (b : Bool) → (done == 0) ≡ b → b ≡ false
-    by false is = refl
-    by true is = let e = eqb-true done 0 is in absurd (omega (arith, e, some))
+later done some = grind (arith, eqb-true)
 
 -- ---- The loop
 
@@ -138,20 +109,11 @@ counting_on S p a n at done need c more b i below some most within whole first s
       k = i.k + 1;
       all = i.all ∙ ap (λ xs. R ++ xs) (pages_more at (n - done) c some most within whole ∙ ap (λ m. y ∷ pages_under (at + c) m) left)
           ∙ sym (append_assoc R (y ∷ []) (pages_under (at + c) (n - (done + c)))) ∙ ap (λ xs. xs ++ pages_under (at + c) (n - (done + c))) grown;
-      here = λ l.
-          let full = whole (omega (arith, l)) in
-          omega (arith, here, full, some);
+      here = grind arith;
       first = λ e. absurd (omega (arith, e));
       behind_one = λ l. omega (arith, some);
-      paid =
-          ap (λ xs. cost (with_pages S p xs) p) (sym grown) ∙ ap (λ (U : Spaces). cost U p) (with_pages-append S p R (y ∷ []))
-          ∙ omega (arith, cost_more, mine, paid);
+      paid = grind (arith, with_pages-append);
     }
 
 pub counting_all : (s : State) (p a n at done need : ℕ) → Counting s.spaces p a n at done need → n ≤ done → need ≡ extra_cost s p (pages_under a n)
-counting_all s p a n at done need i ended =
-    let left : n - done ≡ 0 = omega (arith, ended) in
-    let R = range_with_len (page_number a) i.k in
-    let all : pages_under a n ≡ R = i.all ∙ ap (λ m. R ++ pages_under at m) left ∙ append-nil R in
-    let paid : cost (with_pages s.spaces p (pages_under a n)) p ≡ cost s.spaces p + need = ap (λ xs. cost (with_pages s.spaces p xs) p) all ∙ i.paid in
-    omega (arith, paid)
+counting_all s p a n at done need i ended = grind (arith, append-nil)

@@ -1,23 +1,17 @@
 -- The loop that loads page by page: one page more.
-use Rattle.std.proofs.Common.{◌≡◌, ◌≢◌, ℕ, ◌+◌, ◌-◌, ◌<◌, ◌≤◌, Bool, true, false, length, take, drop, List, ◌++◌, refl, sym, ap, subst, ◌∙◌, Some, inl, inr, arith}
-use Rattle.std.specs.Prelude.{slice_index}
-use Rattle.std.proofs.lemmas.Bool.{cases_lt, cases_eq}
+use Rattle.kernel_calls.proofs.Prelude.{◌≡◌, ◌≢◌, ℕ, ◌+◌, ◌-◌, ◌<◌, ◌≤◌, Bool, false, length, take, drop, List, ◌++◌}
+use Rattle.kernel_calls.proofs.Prelude.{refl, sym, ap, subst, ◌∙◌, Some, inl, inr, arith, length-drop, slice_index}
+use Rattle.kernel_calls.proofs.Prelude.{cases_lt, cases_eq, length-take-le, get_or-take, get_or-drop, page_number}
+use Rattle.kernel_calls.proofs.Prelude.{offset_number, page_stays, Slot, slot_order, at_page, slot_at, write_at}
+use Rattle.kernel_calls.proofs.Prelude.{byte_at, State, View, IsWellFormed, shares, EndsMarks, installed, Installs}
 use Rattle.std.proofs.Math.Seq.{take-add}
-use Rattle.std.proofs.lemmas.List.{length-take-le, length-drop, get_or-take, get_or-drop}
-use Rattle.page_words.specs.Addresses.{page_number, offset_number}
-use Rattle.page_words.specs.FiniteSet as set
-use Rattle.page_words.proofs.Accesses.{page_stays}
-use Rattle.address_space.specs.Spaces.{Slot, slot_order, at_page, slot_at, write_at, byte_at}
-use Rattle.process_table.specs.State.{State}
-use Rattle.process_table.specs.View.{View}
-use Rattle.process_table.specs.WellFormed.{IsWellFormed}
-use Rattle.kernel_calls.specs.Authority.{shares}
-use Rattle.kernel_calls.specs.Cleaned.{EndsMarks}
-use Rattle.kernel_calls.specs.Installed.{installed, Installs}
 use Rattle.kernel_calls.specs.Loaded.{Loads, no_page, page_more, IsLastThere}
-use Rattle.kernel_calls.specs.declared.translations.Ended.TheVariants as end
 use Rattle.kernel_calls.proofs.CommutingStores.{group_at}
-use Rattle.kernel_calls.proofs.LoadedBytes.{written_inside, written_outside, Outside, bytes_in, right_in, shares_group, page_long, alike, installed_groups, installed_rights, installed_right, own_written, beside_written}
+use Rattle.kernel_calls.proofs.LoadedBytes.{written_inside, written_outside, Outside, bytes_in, right_in, shares_group}
+use Rattle.kernel_calls.proofs.LoadedBytes.{page_long, alike, installed_groups, installed_rights, installed_right}
+use Rattle.kernel_calls.proofs.LoadedBytes.{own_written, beside_written}
+use Rattle.page_words.specs.FiniteSet as set
+use Rattle.kernel_calls.specs.declared.translations.Ended.TheVariants as end
 
 -- an install of one page
 pub record Installed (u w : View) (p at : ℕ) (part : List ℕ) (write : Bool) : Type 0 where
@@ -60,52 +54,25 @@ module _ (u w : View) (p at : ℕ) (part : List ℕ) (write : Bool) (well : IsWe
 
   -- a byte that the part brings
   pub new_byte : (k : ℕ) → k < length part → byte_at w.state.spaces p (at + k) ≡ slice_index part k
-  new_byte k l =
-      let here : page_number (at + k) ≡ page_number at = page_stays at k (omega (arith, within, l)) in
-      let place : offset_number (at + k) ≡ offset_number at + k = omega (arith, within, l) in
-      (λ i. slice_index (bytes_in w.state.spaces (at_page p (here i))) (place i))
-      ∙ ap (λ xs. slice_index xs (offset_number at + k)) own_page ∙ written_inside old part (offset_number at) k fits l
+  new_byte k l = grind (arith, page_stays, bytes_in, own_page, written_inside, fits)
 
   -- one at another place
   pub outside_byte : (b : ℕ) → Outside (offset_number at) (length part) (offset_number b) → byte_at w.state.spaces p b ≡ byte_at u.state.spaces p b
   outside_byte b out = elim (cases_eq (page_number b) (page_number at)) [
-    | inl here ↦
-        ap (λ n. slice_index (bytes_in w.state.spaces (at_page p n)) (offset_number b)) here ∙ ap (λ xs. slice_index xs (offset_number b)) own_page
-        ∙ written_outside old part (offset_number at) (offset_number b) fits out
-        ∙ ap (λ n. slice_index (bytes_in u.state.spaces (at_page p n)) (offset_number b)) (sym here)
-    | inr other ↦
-        let apart = slot_apart p (page_number b) (page_number at) other in
-        let now : bytes_in w.state.spaces (slot_at p b) ≡ bytes_in (installed u.state p at part write).spaces (slot_at p b) =
-        ap (λ (t : State). bytes_in t.spaces (slot_at p b)) is.state
-        in
-        elim (beside_written u.state p at part write (slot_at p b) apart) [
-          | inl same ↦ ap (λ xs. slice_index xs (offset_number b)) (now ∙ same)
-          | inr in_group ↦
-              ap (λ xs. slice_index xs (offset_number b)) (now ∙ in_group.1) ∙ written_outside old part (offset_number at) (offset_number b) fits out
-              ∙ ap (λ xs. slice_index xs (offset_number b)) (sym (alike u.state slot (slot_at p b) well apart in_group.0))
-        ]
+    | inl here ↦ grind (arith, bytes_in, own_page, written_outside, fits)
+    | inr other ↦ grind (arith, slot_apart, bytes_in, beside_written, written_outside, fits, alike)
   ]
 
   -- one of a page that is in another group
   pub apart_byte : (b : ℕ) → page_number b ≢ page_number at → shares u.state slot (slot_at p b) ≡ false → byte_at w.state.spaces p b ≡ byte_at u.state.spaces p b
-  apart_byte b other none =
-      let apart = slot_apart p (page_number b) (page_number at) other in
-      let now : bytes_in w.state.spaces (slot_at p b) ≡ bytes_in (installed u.state p at part write).spaces (slot_at p b) =
-      ap (λ (t : State). bytes_in t.spaces (slot_at p b)) is.state
-      in
-      elim (beside_written u.state p at part write (slot_at p b) apart) [
-        | inl same ↦ ap (λ xs. slice_index xs (offset_number b)) (now ∙ same)
-        | inr in_group ↦ (let f : true ≡ false = sym in_group.0 ∙ sym (shares_group u.state slot (slot_at p b) apart) ∙ none in cc)
-      ]
+  apart_byte b other none = grind (arith, slot_apart, bytes_in, beside_written, shares_group)
 
   -- the right of the page, and of any other
   pub new_right : (b : ℕ) → page_number b ≡ page_number at → right_in w.state.spaces (slot_at p b) ≡ Some write
-  new_right b here =
-      ap (λ n. right_in w.state.spaces (at_page p n)) here ∙ ap (λ (t : State). right_in t.spaces slot) is.state ∙ installed_right u.state p at part write
+  new_right b here = grind (arith, right_in, installed_right)
 
   pub old_right : (b : ℕ) → page_number b ≢ page_number at → right_in w.state.spaces (slot_at p b) ≡ right_in u.state.spaces (slot_at p b)
-  old_right b other =
-      ap (λ (t : State). right_in t.spaces (slot_at p b)) is.state ∙ installed_rights u.state p at part write (slot_at p b) (slot_apart p (page_number b) (page_number at) other)
+  old_right b other = grind (arith, right_in, installed_rights, slot_apart)
 
 -- ---- One page more
 
@@ -113,9 +80,7 @@ module _ (v u w : View) (p a at done c k : ℕ) (write : Bool) (bytes part : Lis
     (some : 0 < c) (most : done + c ≤ length bytes) (within : offset_number at + c ≤ 4096) (size : k ≡ c) (cut : part ≡ take k (drop done bytes))
     (well : IsWellFormed u.state) (is : Installed u w p at part write) where
   long : length part ≡ c
-  long =
-      let rest = length-drop done bytes in
-      ap length cut ∙ length-take-le k (drop done bytes) (omega (arith, rest, most, size)) ∙ size
+  long = grind (arith, length-drop, length-take-le)
 
   inside : offset_number at + length part ≤ 4096
   inside = let n = long in omega (arith, n, within)
@@ -142,13 +107,7 @@ module _ (v u w : View) (p a at done c k : ℕ) (write : Bool) (bytes part : Lis
   groups_on q = ap (λ (t : State). group_at t.spaces q) is.state ∙ installed_groups u.state p at part write q ∙ l.groups q
 
   rights_on : (i : ℕ) → i < done + c → right_in w.state.spaces (slot_at p (a + i)) ≡ Some write
-  rights_on i below = elim (cases_eq (page_number (a + i)) (page_number at)) [
-    | inl here ↦ new_right u w p at part write well inside is (a + i) here
-    | inr other ↦ elim (cases_lt i done) [
-      | inl early ↦ old_right u w p at part write well inside is (a + i) other ∙ l.rights i early
-      | inr late ↦ (let here : page_number (a + i) ≡ page_number at = omega (arith, place, late, below, within) in absurd (other here))
-    ]
-  ]
+  rights_on i below = grind (arith, cases_eq, new_right, inside, cases_lt, old_right)
 
   -- a byte that was loaded before
   kept_byte : (i : ℕ) → i < done → IsLastThere v.state p a (done + c) i → byte_at w.state.spaces p (a + i) ≡ byte_at u.state.spaces p (a + i)

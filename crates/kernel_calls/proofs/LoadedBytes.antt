@@ -1,22 +1,14 @@
 -- What stands where bytes were loaded: the bytes, and the right of each page.
-use Rattle.std.proofs.Common.{◌≡◌, ◌≢◌, ◌⊎◌, ℕ, ◌+◌, ◌-◌, ◌<◌, ◌≤◌, ◌||◌, Bool, true, false, length, take, drop, List, ◌++◌, refl, sym, ap, ◌∙◌, Option, Some, None, unwrap_or, inl, inr, arith}
-use Rattle.std.specs.Prelude.{if◌then◌else◌, slice_index}
-use Rattle.std.specs.Option.{option_map}
-use Rattle.std.proofs.lemmas.List.{length-take-le, length-append, get_or_append_left, get_or-append-add, get_or-append_right, get_or-take, get_or-drop}
-use Rattle.page_words.specs.Addresses.{offset_number}
-use Rattle.page_words.specs.FiniteMap as map
-use Rattle.page_words.specs.FiniteMap.{same}
-use Rattle.page_words.specs.FiniteSet as set
-use Rattle.page_words.specs.FiniteSet.{Set}
-use Rattle.page_words.proofs.MapLemmas.{get-map_values, contains-insert}
-use Rattle.page_words.proofs.SetLemmas.{same_cases, same_apart}
-use Rattle.address_space.specs.Spaces.{Slot, slot_order, Spaces, Cell, slot_at, fresh, cell_or_fresh, with_bytes, set_bytes, write_at, protected, stored}
-use Rattle.process_table.specs.State.{State}
-use Rattle.process_table.specs.WellFormed.{IsWellFormed}
-use Rattle.process_table.proofs.CellLaws.{get-inserted, get-inserted_other}
-use Rattle.kernel_calls.specs.Authority.{shares}
-use Rattle.kernel_calls.specs.Installed.{installed}
+use Rattle.kernel_calls.proofs.Prelude
+use Prelude.{◌≡◌, ◌≢◌, ℕ, ◌+◌, ◌-◌, ◌<◌, ◌≤◌, ◌||◌, Bool, true, false, length, take, drop, List, ◌++◌, refl, sym, ap}
+use Prelude.{◌∙◌, Option, Some, None, unwrap_or, inl, inr, arith, ◌⊎◌, if◌then◌else◌, slice_index, option_map}
+use Prelude.{length-take-le, length-append, get_or_append_left, get_or-append-add, get_or-append_right, get_or-take}
+use Prelude.{get_or-drop, offset_number, same, get-map_values, contains-insert, same_cases, same_apart, Slot}
+use Prelude.{slot_order, Spaces, Cell, slot_at, fresh, cell_or_fresh, with_bytes, set_bytes, write_at, protected}
+use Prelude.{stored, State, IsWellFormed, get-inserted, get-inserted_other, shares, installed}
 use Rattle.kernel_calls.proofs.CommutingStores.{group_at, group_stored}
+use Rattle.page_words.specs.FiniteMap as map
+use Rattle.page_words.specs.FiniteSet as set
 
 -- ---- Lists
 
@@ -33,16 +25,9 @@ Outside at count place = (place < at) ⊎ (at + count ≤ place)
 
 pub written_outside : (xs new : List ℕ) (at place : ℕ) → at ≤ length xs → Outside at (length new) place → slice_index (write_at xs at new) place ≡ slice_index xs place
 written_outside xs new at place long (inl below) =
-    let head : length (take at xs) ≡ at = length-take-le at xs long in
-    let both = length-append (take at xs) new in
-    get_or_append_left (take at xs ++ new) (drop (at + length new) xs) 0 place (omega (arith, head, both, below))
-    ∙ get_or_append_left (take at xs) new 0 place (omega (arith, head, below)) ∙ get_or-take at xs place 0 below
+    grind (arith, length-take-le, length-append, get_or_append_left, get_or-take)
 written_outside xs new at place long (inr above) =
-    let head : length (take at xs) ≡ at = length-take-le at xs long in
-    let both = length-append (take at xs) new in
-    let e : at + length new + (place - (at + length new)) ≡ place = omega (arith, above) in
-    get_or-append_right (take at xs ++ new) (drop (at + length new) xs) (at + length new) place 0 (omega (arith, head, both)) above
-    ∙ get_or-drop (at + length new) xs (place - (at + length new)) 0 ∙ ap (slice_index xs) e
+    grind (arith, length-take-le, length-append, get_or-append_right, get_or-drop)
 
 -- ---- A slot after an install
 
@@ -54,25 +39,18 @@ right_in S q = option_map (λ (c : Cell). c.write) (map.get S q)
 
 group_protected : (S : Spaces) (slot : Slot) (write : Bool) (q : Slot) → group_at (protected S slot write) q ≡ group_at S q
 group_protected S slot write q = elim (same_cases slot_order q slot) [
-  | inl here ↦
-      let e : q ≡ slot = here.0 in
-      ap (group_at (protected S slot write)) e
-      ∙ ap (λ (x : Option Cell). (unwrap_or x (fresh slot true)).holders) (get-inserted S slot (record (cell_or_fresh S slot) { write = write })) ∙ ap (group_at S) (sym e)
+  | inl here ↦ grind (arith, group_at, get-inserted)
   | inr other ↦ ap (λ (x : Option Cell). (unwrap_or x (fresh q true)).holders) (get-inserted_other S slot (record (cell_or_fresh S slot) { write = write }) q other.0)
 ]
 
 bytes_protected : (S : Spaces) (slot : Slot) (write : Bool) (q : Slot) → bytes_in (protected S slot write) q ≡ bytes_in S q
 bytes_protected S slot write q = elim (same_cases slot_order q slot) [
-  | inl here ↦
-      let e : q ≡ slot = here.0 in
-      ap (bytes_in (protected S slot write)) e
-      ∙ ap (λ (x : Option Cell). (unwrap_or x (fresh slot true)).bytes) (get-inserted S slot (record (cell_or_fresh S slot) { write = write })) ∙ ap (bytes_in S) (sym e)
+  | inl here ↦ grind (arith, get-inserted)
   | inr other ↦ ap (λ (x : Option Cell). (unwrap_or x (fresh q true)).bytes) (get-inserted_other S slot (record (cell_or_fresh S slot) { write = write }) q other.0)
 ]
 
 right_protected : (S : Spaces) (slot : Slot) (write : Bool) (q : Slot) → q ≢ slot → right_in (protected S slot write) q ≡ right_in S q
-right_protected S slot write q apart =
-    ap (option_map (λ (c : Cell). c.write)) (get-inserted_other S slot (record (cell_or_fresh S slot) { write = write }) q apart)
+right_protected S slot write q apart = grind (arith, get-inserted_other)
 
 module _ (S : Spaces) (own : Slot) (at : ℕ) (new : List ℕ) where
   abbrev written : List ℕ
@@ -88,12 +66,7 @@ module _ (S : Spaces) (own : Slot) (at : ℕ) (new : List ℕ) where
   beside q apart = get-inserted_other (set_bytes S (group_at S own) written) own cell q apart ∙ get-map_values slot_order changes S q
 
   right_stored : (q : Slot) → q ≢ own → right_in (stored S own at new) q ≡ right_in S q
-  right_stored q apart = ap (option_map (λ (c : Cell). c.write)) (beside q apart) ∙ by (map.get S q) (set.contains (group_at S own) q)
-    where
-      by : (x : Option Cell) (b : Bool) → option_map (λ (c : Cell). c.write) (option_map (λ (c : Cell). if b then with_bytes c written else c) x) ≡ option_map (λ (c : Cell). c.write) x
-      by None b = refl
-      by (Some c) true = refl
-      by (Some c) false = refl
+  right_stored q apart = grind (arith, beside, group_at)
 
   own_right : right_in (stored S own at new) own ≡ Some (cell_or_fresh S own).write
   own_right = ap (option_map (λ (c : Cell). c.write)) (get-inserted (set_bytes S (group_at S own) written) own cell)
@@ -103,15 +76,7 @@ module _ (S : Spaces) (own : Slot) (at : ℕ) (new : List ℕ) where
 
   -- another slot keeps its bytes, or has those of the group
   beside_bytes : (q : Slot) → q ≢ own → (bytes_in (stored S own at new) q ≡ bytes_in S q) ⊎ ((set.contains (group_at S own) q ≡ true) × (bytes_in (stored S own at new) q ≡ written))
-  beside_bytes q apart = by (map.get S q) (beside q apart) refl (set.contains (group_at S own) q) refl
-    where
-      by : (x : Option Cell) → map.get (stored S own at new) q ≡ option_map (changes q) x → map.get S q ≡ x → (b : Bool) → set.contains (group_at S own) q ≡ b
-          → (bytes_in (stored S own at new) q ≡ bytes_in S q) ⊎ ((set.contains (group_at S own) q ≡ true) × (bytes_in (stored S own at new) q ≡ written))
-      by None h is b c = inl (ap (λ (x : Option Cell). (unwrap_or x (fresh q true)).bytes) h ∙ sym (ap (λ (x : Option Cell). (unwrap_or x (fresh q true)).bytes) is))
-      by (Some d) h is true c = inr (c, ap (λ (x : Option Cell). (unwrap_or x (fresh q true)).bytes) h ∙ ap (λ b. (if b then with_bytes d written else d).bytes) c)
-      by (Some d) h is false c =
-          inl (ap (λ (x : Option Cell). (unwrap_or x (fresh q true)).bytes) h ∙ ap (λ b. (if b then with_bytes d written else d).bytes) c
-          ∙ sym (ap (λ (x : Option Cell). (unwrap_or x (fresh q true)).bytes) is))
+  beside_bytes q apart = grind (arith, beside, group_at)
 
 module _ (s : State) (p a : ℕ) (part : List ℕ) where
   abbrev slot : Slot
@@ -151,10 +116,7 @@ module _ (s : State) (p a : ℕ) (part : List ℕ) where
       ⊎ ((set.contains (group_at s.spaces slot) q ≡ true) × (bytes_in (installed s p a part write).spaces q ≡ write_at (bytes_in s.spaces slot) (offset_number a) part))
   beside_written write q apart = elim (beside_bytes writable slot (offset_number a) part q apart) [
     | inl same ↦ inl (installed_bytes write q ∙ same ∙ bytes_protected s.spaces slot true q)
-    | inr in_group ↦ inr (
-      ap (λ (g : Set slot_order). set.contains g q) (sym (group_protected s.spaces slot true slot)) ∙ in_group.0,
-      installed_bytes write q ∙ in_group.1 ∙ ap (λ xs. write_at xs (offset_number a) part) (bytes_protected s.spaces slot true slot),
-    )
+    | inr in_group ↦ grind (arith, group_protected, installed_bytes, bytes_protected)
   ]
 
 -- ---- Groups
@@ -163,11 +125,7 @@ pub lone : (own q : Slot) → q ≢ own → set.contains (fresh own true).holder
 lone own q apart = contains-insert {o = slot_order} set.empty own q ∙ ap (λ b. b || false) (same_apart slot_order q own apart)
 
 pub shares_group : (s : State) (own q : Slot) → q ≢ own → shares s own q ≡ set.contains (group_at s.spaces own) q
-shares_group s own q apart = by (map.get s.spaces own)
-  where
-    by : (x : Option Cell) → unwrap_or (option_map (λ (c : Cell). set.contains c.holders q) x) false ≡ set.contains (unwrap_or x (fresh own true)).holders q
-    by None = sym (lone own q apart)
-    by (Some c) = refl
+shares_group s own q apart = grind (arith, lone)
 
 pub page_long : (s : State) (q : Slot) → IsWellFormed s → length (bytes_in s.spaces q) ≡ 4096
 page_long s q w = by (map.get s.spaces q) refl

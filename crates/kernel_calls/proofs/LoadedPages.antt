@@ -1,28 +1,17 @@
 -- The pages of a load, one after another: what is against it, before and after each page.
-use Rattle.std.proofs.Common.{◌≡◌, ℕ, zero, suc, ◌+◌, ◌-◌, ◌<◌, ◌≤◌, ◌&&◌, Bool, true, false, not, cond, nat_lt, nat_le, List, [], ◌∷◌, refl, sym, ap, subst, ◌∙◌, is_some, Option, Some, None, unwrap_or, Result, Ok, Err, inl, inr, arith}
-use Rattle.std.specs.Prelude.{◌↔◌, if◌then◌else◌, IsTrue, IsOk, IfErr}
-use Rattle.std.specs.List.{list_all, range_with_len}
-use Rattle.std.specs.Option.{option_map}
-use Rattle.std.proofs.lemmas.Bool.{cases_lt, leb-true, ltb-false, le-ltb}
-use Rattle.page_words.specs.Addresses.{page_number, offset_number, is_user_page, IsUserPage}
+use Rattle.kernel_calls.proofs.Prelude
+use Prelude.{◌≡◌, ℕ, zero, suc, ◌+◌, ◌-◌, ◌<◌, ◌≤◌, ◌&&◌, Bool, true, false, not, List, [], ◌∷◌, refl, sym, ap, subst}
+use Prelude.{◌∙◌, is_some, Option, Some, None, unwrap_or, Err, inl, inr, arith, nat_lt, Result, Ok, ◌↔◌, if◌then◌else◌}
+use Prelude.{IsTrue, IsOk, IfErr, list_all, range_with_len, option_map, cases_lt, leb-true, ltb-false, le-ltb}
+use Prelude.{page_number, offset_number, is_user_page, IsUserPage, get-map_values, same_cases, Slot, slot_order, Spaces}
+use Prelude.{Cell, at_page, slot_at, fresh, cell_or_fresh, with_bytes, set_bytes, write_at, protected, stored, cost}
+use Prelude.{with_page, with_pages, cost-same, key-stored, kept, cost-with_page, Book, given, quota_of, State, is_live}
+use Prelude.{is_mapped, overdrawn, both_true, get-inserted, get-inserted_other, page_is_user, pages_under, may_at}
+use Prelude.{load_refusal, answer, completes, Reply, map_of, protect_of, is_writable_at, installed, IsNotOpened}
+use Rattle.address_space.proofs.costs.AccessCosts.{key-insert}
 use Rattle.page_words.specs.FiniteMap as map
-use Rattle.page_words.specs.FiniteMap.{same}
 use Rattle.page_words.specs.FiniteSet as set
-use Rattle.page_words.proofs.MapLemmas.{get-map_values}
-use Rattle.page_words.proofs.SetLemmas.{same_cases}
-use Rattle.address_space.specs.Spaces.{Slot, slot_order, Spaces, Cell, at_page, slot_at, fresh, cell_or_fresh, with_bytes, set_bytes, write_at, protected, stored, cost, with_page, with_pages}
-use Rattle.address_space.proofs.costs.AccessCosts.{cost-same, key-insert, key-stored, kept}
-use Rattle.address_space.proofs.costs.AccessNeeds.{cost-with_page}
-use Rattle.quota_tree.specs.Book.{Book, given, quota_of}
-use Rattle.process_table.specs.State.{State, is_live, is_mapped, overdrawn}
 use Rattle.process_table.specs.declared.causes.Cause.TheVariants as cause
-use Rattle.process_table.proofs.CellLaws.{both_true, get-inserted, get-inserted_other}
-use Rattle.process_table.proofs.Placed.{page_is_user}
-use Rattle.kernel_calls.specs.Installed.{map_of, protect_of, is_writable_at, installed, IsNotOpened}
-use Rattle.kernel_calls.specs.Loaded.{pages_under, may_at, load_refusal}
-use Rattle.kernel_calls.specs.Machine.{answer, completes, refused_or}
-use Rattle.kernel_calls.specs.declared.calls.Event.{Event}
-use Rattle.kernel_calls.specs.declared.calls.Reply.{Reply}
 use Rattle.kernel_calls.specs.declared.calls.Reply.TheVariants as reply
 
 -- the page of a part, and those of the bytes behind it
@@ -39,28 +28,16 @@ pages_more a (suc m) c some most within whole = elim (cases_lt c (suc m)) [
       ap (range_with_len (page_number a)) count
       ∙ ap (λ x. page_number a ∷ range_with_len x (page_number (a + c + k) + 1 - page_number (a + c))) next
       ∙ ap (λ n. page_number a ∷ pages_under (a + c) n) (sym left)
-  | inr past ↦
-      let left : suc m - c ≡ 0 = omega (arith, past) in
-      let count : page_number (a + m) + 1 - page_number a ≡ 1 = omega (arith, within, past) in
-      ap (range_with_len (page_number a)) count ∙ ap (λ n. page_number a ∷ pages_under (a + c) n) (sym left)
+  | inr past ↦ grind arith
 ]
 
 -- ---- A test of each page
 
 user_page : (page : ℕ) → is_user_page page ≡ true → IsUserPage page
-user_page page h =
-    let b = both_true (nat_le 0x40000 page) (nat_le page 0xeffff) h in
-    let low = leb-true 0x40000 page b.0 in
-    let high = leb-true page 0xeffff b.1 in
-    (low, omega (arith, high))
+user_page page h = grind (arith, both_true, leb-true)
 
 pub user_test : (page : ℕ) (b : Bool) → (IsTrue b ↔ IsUserPage page) → b ≡ is_user_page page
-user_test page true h = sym (page_is_user page (h.0 refl))
-user_test page false h = by (is_user_page page) refl
-  where
-    by : (c : Bool) → is_user_page page ≡ c → false ≡ c
-    by false is = refl
-    by true is = let f = h.1 (user_page page is) in cc
+user_test page b h = grind (arith, page_is_user, user_page)
 
 pages_first : (a n : ℕ) → 0 < n → (rest : List ℕ) × (pages_under a n ≡ page_number a ∷ rest)
 pages_first a zero some = absurd (omega (arith, some))
@@ -95,8 +72,7 @@ user_first at n done some all = user_page (page_number at) (first_of_all is_user
 pub user_rest : (at next n done c : ℕ) → next ≡ at + c → 0 < c → c ≤ n - done → offset_number at + c ≤ 4096
     → (c < n - done → offset_number at + c ≡ 4096) → list_all is_user_page (pages_under at (n - done)) ≡ true
     → list_all is_user_page (pages_under next (n - (done + c))) ≡ true
-user_rest at next n done c on some most within whole all =
-    sym (passes_first is_user_page at next n done c on some most within whole (first_of_all is_user_page at (n - done) (omega (arith, some, most)) all)) ∙ all
+user_rest at next n done c on some most within whole all = grind (arith, passes_first, first_of_all)
 
 -- ---- Nothing is against it
 
@@ -113,11 +89,7 @@ unrefused s p pages h = by (is_live s p) refl (list_all is_user_page pages) refl
         → (d : Bool) → overdrawn s p pages ≡ d
         → (if not a then Some cause.NoProcess else if not b then Some cause.BadPage else if not c then Some cause.Rights else if d then Some cause.Quota else None) ≡ None
         → Unrefused s p pages
-    by true l true u true m false r k = record { live = l; user = u; may = m; room = r }
-    by true l true u true m true r k = cc
-    by true l true u false m d r k = cc
-    by true l false u c m d r k = cc
-    by false l b u c m d r k = cc
+    by a l b u c m d r k = grind arith
 
 pub refusal_none : (s : State) (p : ℕ) (pages : List ℕ) → Unrefused s p pages → load_refusal s p pages ≡ None
 refusal_none s p pages u = λ i.
@@ -134,14 +106,10 @@ cost_grows S p (page ∷ pages) =
     omega (arith, a, b)
 
 room_first : (q g c d e : ℕ) → c ≤ d → d ≤ e → nat_lt (q - c - g) (e - c) ≡ false → nat_lt (q - c - g) (d - c) ≡ false
-room_first q g c d e below above fits =
-    let f = ltb-false (q - c - g) (e - c) fits in
-    le-ltb (q - c - g) (d - c) (omega (arith, below, above, f))
+room_first q g c d e below above fits = grind (arith, ltb-false, le-ltb)
 
 room_rest : (q g c d e : ℕ) → c ≤ d → d ≤ e → nat_lt (q - c - g) (e - c) ≡ false → nat_lt (q - d - g) (e - d) ≡ false
-room_rest q g c d e below above fits =
-    let f = ltb-false (q - c - g) (e - c) fits in
-    le-ltb (q - d - g) (e - d) (omega (arith, below, above, f))
+room_rest q g c d e below above fits = grind (arith, ltb-false, le-ltb)
 
 -- room for some pages is room for the first
 pub first_fits : (s : State) (p page : ℕ) (pages : List ℕ) → overdrawn s p (page ∷ pages) ≡ false → overdrawn s p (page ∷ []) ≡ false
@@ -155,20 +123,10 @@ abbrev SameKeys : Spaces → Spaces → Type 0
 SameKeys S T = (q : Slot) → map.contains_key S q ≡ map.contains_key T q
 
 with_page-keys : (S : Spaces) (p page : ℕ) (c : Cell) → SameKeys (with_page S p page) (map.insert S (at_page p page) c)
-with_page-keys S p page c q = by (map.contains_key S (at_page p page)) refl
-  where
-    by : (b : Bool) → map.contains_key S (at_page p page) ≡ b
-        → map.contains_key (if b then S else map.insert S (at_page p page) (fresh (at_page p page) true)) q ≡ map.contains_key (map.insert S (at_page p page) c) q
-    by true there = sym (kept S (at_page p page) c there q)
-    by false none = key-insert S (at_page p page) (fresh (at_page p page) true) q ∙ sym (key-insert S (at_page p page) c q)
-
-insert_same : (S T : Spaces) (slot : Slot) (c d : Cell) → SameKeys S T → SameKeys (map.insert S slot c) (map.insert T slot d)
-insert_same S T slot c d is q = key-insert S slot c q ∙ ap (cond (same slot_order q slot) true) (is q) ∙ sym (key-insert T slot d q)
+with_page-keys S p page c q = grind (arith, kept, key-insert)
 
 with_page_same : (S T : Spaces) (p page : ℕ) → SameKeys S T → SameKeys (with_page S p page) (with_page T p page)
-with_page_same S T p page is q =
-    let c = fresh (at_page p page) true in
-    with_page-keys S p page c q ∙ insert_same S T (at_page p page) c c is q ∙ sym (with_page-keys T p page c q)
+with_page_same S T p page is q = grind (arith, with_page-keys, key-insert)
 
 cost_with_same : (S T : Spaces) (p : ℕ) (pages : List ℕ) → SameKeys S T → cost (with_pages S p pages) p ≡ cost (with_pages T p pages) p
 cost_with_same S T p [] is = cost-same S T p is
@@ -218,13 +176,7 @@ abbrev may_of : Spaces → Slot → Bool
 may_of S q = (cell_or_fresh S q).may
 
 may_insert : (S : Spaces) (slot : Slot) (c : Cell) → c.may ≡ may_of S slot → (q : Slot) → may_of (map.insert S slot c) q ≡ may_of S q
-may_insert S slot c is q = elim (same_cases slot_order q slot) [
-  | inl here ↦
-      let e : q ≡ slot = here.0 in
-      ap (may_of (map.insert S slot c)) e
-      ∙ ap (λ (x : Option Cell). (unwrap_or x (fresh slot true)).may) (get-inserted S slot c) ∙ is ∙ ap (may_of S) (sym e)
-  | inr other ↦ ap (λ (x : Option Cell). (unwrap_or x (fresh q true)).may) (get-inserted_other S slot c q other.0)
-]
+may_insert S slot c is q = grind (arith, same_cases, get-inserted, get-inserted_other)
 
 may_set_bytes : (S : Spaces) (group : set.Set slot_order) (bytes : List ℕ) (q : Slot) → may_of (set_bytes S group bytes) q ≡ may_of S q
 may_set_bytes S group bytes q =
@@ -232,9 +184,7 @@ may_set_bytes S group bytes q =
     ∙ by (map.get S q) (set.contains group q)
   where
     by : (x : Option Cell) (b : Bool) → (unwrap_or (option_map (λ (cell : Cell). if b then with_bytes cell bytes else cell) x) (fresh q true)).may ≡ (unwrap_or x (fresh q true)).may
-    by None b = refl
-    by (Some c) true = refl
-    by (Some c) false = refl
+    by x b = grind arith
 
 may_protected : (S : Spaces) (slot : Slot) (write : Bool) (q : Slot) → may_of (protected S slot write) q ≡ may_of S q
 may_protected S slot write q = may_insert S slot (record (cell_or_fresh S slot) { write = write }) refl q
@@ -303,10 +253,6 @@ rest_of_load s t p at next n done c part write on some most within whole is none
 
 -- ---- A page against which there is nothing is opened
 
-abbrev first_of : Event → List Event → Event
-first_of d [] = d
-first_of d (e ∷ es) = e
-
 none_opens : (s : State) (p page : ℕ) (told : Reply) → Unrefused s p (page ∷ []) → IsNotOpened s p page told → ⊥
 none_opens s p page told u n = by (is_writable_at s (at_page p page)) (is_mapped s (at_page p page)) refl n.first
   where
@@ -321,11 +267,7 @@ none_opens s p page told u n = by (is_writable_at s (at_page p page)) (is_mapped
 
     by : (x y : Bool) → is_mapped s (at_page p page) ≡ y
         → (if x then [] else if y then protect_of p page true ∷ [] else map_of p page true ∷ []) ≡ n.event ∷ [] → ⊥
-    by true y there h = cc
-    by false true there h = done (ap (answer s) (sym (ap (first_of n.event) h))
-        ∙ (λ i. if u.live i then refused_or (if not (user i) then Some cause.BadPage else if not (there i) then Some cause.NotMapped else if true && not (may i) then Some cause.Rights else None) reply.Done else reply.Refused cause.NoProcess))
-    by false false there h = done (ap (answer s) (sym (ap (first_of n.event) h))
-        ∙ (λ i. if u.live i then refused_or (if not (user i) then Some cause.BadPage else if there i then Some cause.Mapped else if u.room i then Some cause.Quota else None) reply.Done else reply.Refused cause.NoProcess))
+    by x y there h = grind (arith, done, user, may)
 
 pub part_goes : (s : State) (p page : ℕ) (told : Result (Unit {0}) Reply) → load_refusal s p (page ∷ []) ≡ None → IfErr told (IsNotOpened s p page) → IsOk told
 part_goes s p page (Ok x) none h = refl

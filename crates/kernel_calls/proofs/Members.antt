@@ -1,38 +1,23 @@
 -- The entries of the book: the processes without a child, how many there are, and the entry of a child.
-use Rattle.std.proofs.Common.{◌≡◌, ◌≢◌, ℕ, ◌+◌, ◌<◌, ◌≤◌, length, Bool, true, false, cond, not, ◌&&◌, ◌==◌, T, List, [], ◌∷◌, refl, sym, ap, subst, ◌∙◌, Option, Some, None, unwrap_or, filter, arith}
-use Rattle.std.specs.declared.cmp.Ordering.{Ordering}
-use Rattle.std.specs.declared.cmp.Ordering.TheVariants.{Less, Equal, Greater}
-use Rattle.std.specs.Ordering.{nat_cmp, is_lt, MatchOrdering}
-use Rattle.std.specs.Cmp.{unsigned_tied, ranks, nat_cmp_total}
-use Rattle.std.specs.Option.{option_map}
+use Rattle.kernel_calls.proofs.Prelude.{◌≡◌, ◌≢◌, ℕ, ◌+◌, ◌<◌, ◌≤◌, length, Bool, true, false, cond, ◌&&◌, ◌==◌, T}
+use Rattle.kernel_calls.proofs.Prelude.{List, [], ◌∷◌, refl, sym, ap, ◌∙◌, Option, Some, unwrap_or, filter, arith}
+use Rattle.kernel_calls.proofs.Prelude.{option_map, ne_eqb, eqb-false, Book, Member, is_child, quota_of}
+use Rattle.kernel_calls.proofs.Prelude.{number_of_children, given-remove, number-remove, cost, same_Some, State}
+use Rattle.kernel_calls.proofs.Prelude.{is_live, container_of, IsWellFormed, is_child_of, eqb-true, eq-eqb}
+use Rattle.std.specs.Ordering.{nat_cmp, is_lt}
+use Rattle.std.specs.Cmp.{unsigned_tied, nat_cmp_total}
 use Rattle.std.specs.FinMap.Entries.{find, below_all, is_sorted, length_without}
-use Rattle.std.proofs.lemmas.Bool.{ne_eqb, eqb-false}
-use Rattle.page_words.specs.FiniteMap as map
-use Rattle.quota_tree.specs.Book.{Book, Member, is_child, quota_of, number_of_children}
 use Rattle.quota_tree.specs.declared.Container.{Container}
-use Rattle.quota_tree.proofs.Sums.{given-remove, number-remove}
-use Rattle.address_space.specs.Spaces.{cost}
-use Rattle.std.proofs.lemmas.Option.{same_Some}
-use Rattle.process_table.specs.State.{State, is_live, as_container, container_of}
-use Rattle.process_table.specs.WellFormed.{IsWellFormed}
-use Rattle.kernel_calls.specs.Authority.{is_child_of}
-use borrow.Author.Tests.{eqb-true, eq-eqb}
+use Rattle.page_words.specs.FiniteMap as map
 
 first_of : (a b : Bool) → T (a && b) → T a
-first_of true b h = tt
-first_of false b h = h
+first_of a b h = grind arith
 
 second_of : (a b : Bool) → T (a && b) → T b
-second_of true b h = h
-second_of false b h = absurd h
+second_of a b h = grind arith
 
 less_of : (a b : ℕ) → T (is_lt (nat_cmp a b)) → a < b
-less_of a b h = by (nat_cmp a b) h (ranks a b)
-  where
-    by : (r : Ordering) → T (is_lt r) → MatchOrdering r (a < b) (a ≡ b) (b < a) → a < b
-    by Less k l = l
-    by Equal k l = absurd k
-    by Greater k l = absurd k
+less_of a b h = grind arith
 
 abbrev Entry : Type 0
 Entry = ℕ × Member
@@ -44,8 +29,7 @@ found_after lo k v (e ∷ es) h found =
     by (found_after lo k v es (second_of _ _ h)) (k == e.0) refl (ap (λ b. cond b (Some e.1) (find nat_cmp k es)) (sym (unsigned_tied k e.0)) ∙ found)
   where
     by : (find nat_cmp k es ≡ Some v → lo < k) → (b : Bool) → (k == e.0) ≡ b → cond b (Some e.1) (find nat_cmp k es) ≡ Some v → lo < k
-    by rest true is f = subst (λ n. lo < n) (sym (eqb-true k e.0 is)) (less_of lo e.0 (first_of _ _ h))
-    by rest false is f = rest f
+    by rest b is f = grind (arith, eqb-true, less_of, first_of)
 
 found_first : (e : Entry) (es : List Entry) → find nat_cmp e.0 (e ∷ es) ≡ Some e.1
 found_first e es = ap (λ b. cond b (Some e.1) (find nat_cmp e.0 es)) (unsigned_tied e.0 e.0 ∙ eq-eqb e.0 e.0 refl)
@@ -67,8 +51,7 @@ none_passes t (e ∷ es) h none =
 
 -- who is nobody's parent has no children
 pub childless : (s : State) (p : ℕ) → ((q : ℕ) → is_child_of s p q ≡ false) → number_of_children s.book p ≡ 0
-childless s p none = ap length (none_passes (is_child p) s.book.entries s.book.sorted (λ k v found.
-    sym (ap (λ (x : Option Member). unwrap_or (option_map (λ (m : Member). is_child p (k, m)) x) false) found) ∙ none k))
+childless s p none = grind (arith, none_passes)
 
 few_from : (lo : ℕ) (es : List Entry) → lo ≤ 64 → T (is_sorted nat_cmp es)
     → ((k : ℕ) (v : Member) → find nat_cmp k es ≡ Some v → (lo ≤ k) × (k < 64)) → lo + length es ≤ 64
@@ -99,10 +82,6 @@ len_removed book k live =
 
 -- ---- Children
 
-and_both : (a b : Bool) → (a && b) ≡ true → (a ≡ true) × (b ≡ true)
-and_both true b h = (refl, h)
-and_both false b h = cc
-
 -- the entry of a child
 pub record ChildEntry (s : State) (p q : ℕ) : Type 0 where
   pub member : Member
@@ -112,23 +91,7 @@ pub record ChildEntry (s : State) (p q : ℕ) : Type 0 where
   pub is : is_child p (q, member) ≡ true
 
 pub child_entry : (s : State) (p q : ℕ) → is_child_of s p q ≡ true → ChildEntry s p q
-child_entry s p q h = by (map.get s.book q) refl h
-  where
-    by : (x : Option Member) → map.get s.book q ≡ x
-        → unwrap_or (option_map (λ (m : Member). is_child p (q, m)) x) false ≡ true → ChildEntry s p q
-    by None at k = cc
-    by (Some m) at k =
-        let b = and_both (not (q == 0)) (m.parent == p) k in record {
-          member = m;
-          at = at;
-          not_root = eqb-false q 0 (not_yes (q == 0) b.0);
-          parent = eqb-true m.parent p b.1;
-          is = k;
-        }
-      where
-        not_yes : (b : Bool) → not b ≡ true → b ≡ false
-        not_yes true e = cc
-        not_yes false e = refl
+child_entry s p q h = grind (arith, eqb-false, eqb-true)
 
 -- a child has less than its parent
 pub quota_below : (s : State) (p q : ℕ) → IsWellFormed s → is_child_of s p q ≡ true → quota_of s.book q < quota_of s.book p
@@ -157,8 +120,4 @@ no_children_of s p none q = by (is_child_of s p q) refl
 
 -- a container counts the children
 pub counted : (s : State) (p : ℕ) (k : Container) → container_of s p ≡ Some k → k.children ≡ number_of_children s.book p
-counted s p k h = by (map.get s.book p) h
-  where
-    by : (x : Option Member) → option_map (λ member. as_container s p member) x ≡ Some k → k.children ≡ number_of_children s.book p
-    by None is = cc
-    by (Some m) is = sym (ap (λ (c : Container). c.children) (same_Some (as_container s p m) k is))
+counted s p k h = grind (arith, same_Some)

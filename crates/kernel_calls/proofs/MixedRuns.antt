@@ -1,25 +1,16 @@
 -- Steps of a core and its processors are the events that they represent.
-use Rattle.std.proofs.Common.{◌≡◌, ℕ, zero, suc, Bool, true, false, ◌==◌, List, [], ◌∷◌, ◌++◌, refl, ap, sym, ◌∙◌, subst, Some}
-use Rattle.std.specs.Prelude.{if◌then◌else◌, slice_get}
-use Rattle.table_walk.specs.declared.Access.{Access}
-use Rattle.table_walk.specs.declared.Access.TheVariants.{Read, Write}
-use Rattle.address_space.specs.Image.{directory_at}
-use Rattle.process_table.specs.Image.{memory_of}
-use Rattle.process_table.specs.State.{State}
-use Rattle.process_table.specs.View.{View}
-use Rattle.fault_handler.proofs.Settled.{each_page}
-use Rattle.kernel_calls.specs.Kept.{Serves, ServesCall, ServesEvent, reply_kept}
-use Rattle.kernel_calls.specs.Machine.{answer, answers, next, end_of}
-use Rattle.kernel_calls.specs.Processors.{IsCore, Processors, with_kept, all_left_by, AllAreRead, AreAmong, LetsThrough, LetCall, Step, carried, walked, loaded, stored, marked, refilled, forgotten, Steps, none, first, AreTheEvents, ProcessorsMakeEvents}
-use Rattle.kernel_calls.specs.Translations.{Kept, translation, directory_entry, IsRead, AreRead, Ends, ended_by, left_by}
-use Rattle.kernel_calls.specs.declared.calls.Call.{Call}
-use Rattle.kernel_calls.specs.declared.calls.Call.TheVariants as call
-use Rattle.kernel_calls.specs.declared.calls.Event.{Event}
-use Rattle.kernel_calls.specs.declared.calls.Reply.{Reply}
-use Rattle.kernel_calls.specs.declared.translations.Ended.TheVariants as end
+use Rattle.kernel_calls.proofs.Prelude.{◌≡◌, ℕ, zero, suc, List, [], ◌∷◌, ◌++◌, refl, ap, sym, ◌∙◌, subst, Some, arith}
+use Rattle.kernel_calls.proofs.Prelude.{slice_get, Access, directory_at, memory_of, View, each_page, answer, answers}
+use Rattle.kernel_calls.proofs.Prelude.{next, end_of, IsCore, Processors, all_left_by, Step, walked, marked, none}
+use Rattle.kernel_calls.proofs.Prelude.{first, Kept, translation, directory_entry, IsRead, AreRead, Ends, ended_by}
+use Rattle.kernel_calls.proofs.Prelude.{left_by, Call, Event, Reply, Serves, ServesCall, ServesEvent, reply_kept}
+use Rattle.kernel_calls.specs.Processors.{with_kept, AllAreRead, AreAmong, LetsThrough, LetCall, carried, loaded}
+use Rattle.kernel_calls.specs.Processors.{stored, refilled, forgotten, Steps, AreTheEvents, ProcessorsMakeEvents}
 use Rattle.kernel_calls.proofs.KeptAccesses.{live, kept_find, kept_reply, kept_loads, kept_stores}
 use Rattle.kernel_calls.proofs.Leaving.{left_read}
 use Rattle.kernel_calls.proofs.WalkedReplies.{answered, lives}
+use Rattle.kernel_calls.specs.declared.calls.Call.TheVariants as call
+use Rattle.kernel_calls.specs.declared.translations.Ended.TheVariants as end
 
 -- ---- What is kept
 
@@ -28,8 +19,7 @@ pub read_at : (v : View) (kept : List Kept) (n : ℕ) (k : Kept) → AreRead v k
 read_at v [] n k all there = absurd (none_there n k there)
   where
     none_there : (n : ℕ) (k : Kept) → slice_get {X = Kept} [] n ≡ Some k → ⊥
-    none_there zero k h = cc
-    none_there (suc n) k h = cc
+    none_there n k h = grind arith
 read_at v (x ∷ kept) zero k all there = let e : x ≡ k = cc in subst (IsRead v) e all.0
 read_at v (x ∷ kept) (suc n) k all there = read_at v kept n k all.1 there
 
@@ -43,11 +33,7 @@ among_read v (x ∷ left) kept among all =
 -- one processor keeps something else
 pub read_with : (v : View) (keeps : Processors) (i : ℕ) (kept : List Kept) → AllAreRead v keeps → AreRead v kept
     → AllAreRead v (with_kept keeps i kept)
-read_with v keeps i kept all new j = by (j == i)
-  where
-    by : (b : Bool) → AreRead v (if b then kept else keeps j)
-    by true = new
-    by false = all j
+read_with v keeps i kept all new j = grind arith
 
 -- and still is, where nothing was ended
 all_stay : (v w : View) (keeps : Processors) → Ends end.Nothing v w → AllAreRead v keeps → AllAreRead w keeps
@@ -72,40 +58,12 @@ serves v kept p page frame access all lets = record {
 
 pub serves_call : (v : View) (kept : List Kept) (p : ℕ) (frames : ℕ → ℕ) (c : Call) → AreRead v kept → LetCall kept p frames c
     → ServesCall v p frames c
-serves_call v kept p frames (call.Load addr size) all lets =
-    each_page addr size (λ page. LetsThrough kept p page (frames page) Read) (λ page. Serves v p page (frames page) Read)
-    (λ page l. serves v kept p page (frames page) Read all l) lets
-serves_call v kept p frames (call.Store addr size value) all lets =
-    each_page addr size (λ page. LetsThrough kept p page (frames page) Write) (λ page. Serves v p page (frames page) Write)
-    (λ page l. serves v kept p page (frames page) Write all l) lets
-serves_call v kept p frames (call.Map page write) all lets = absurd lets
-serves_call v kept p frames (call.Unmap page) all lets = absurd lets
-serves_call v kept p frames (call.Protect page write) all lets = absurd lets
-serves_call v kept p frames (call.Info page) all lets = absurd lets
-serves_call v kept p frames (call.Offer page target write) all lets = absurd lets
-serves_call v kept p frames (call.Withdraw page target) all lets = absurd lets
-serves_call v kept p frames (call.Accept giver giver_page page) all lets = absurd lets
-serves_call v kept p frames (call.Spawn quota) all lets = absurd lets
-serves_call v kept p frames (call.Fork quota) all lets = absurd lets
-serves_call v kept p frames call.Exit all lets = absurd lets
-serves_call v kept p frames call.Quota all lets = absurd lets
+serves_call v kept p frames c all lets = grind (arith, each_page, serves)
 
 -- the process has a directory
 home : (v : View) (frames : ℕ → ℕ) (p : ℕ) (c : Call) → ServesCall v p frames c
     → (d : ℕ) × (directory_at (memory_of v) p ≡ Some d)
-home v frames p (call.Load addr size) served = (served.0.given.directory, live v p _ _ Read served.0)
-home v frames p (call.Store addr size value) served = (served.0.given.directory, live v p _ _ Write served.0)
-home v frames p (call.Map page write) served = absurd served
-home v frames p (call.Unmap page) served = absurd served
-home v frames p (call.Protect page write) served = absurd served
-home v frames p (call.Info page) served = absurd served
-home v frames p (call.Offer page target write) served = absurd served
-home v frames p (call.Withdraw page target) served = absurd served
-home v frames p (call.Accept giver giver_page page) served = absurd served
-home v frames p (call.Spawn quota) served = absurd served
-home v frames p (call.Fork quota) served = absurd served
-home v frames p call.Exit served = absurd served
-home v frames p call.Quota served = absurd served
+home v frames p c served = grind (arith, live)
 
 -- what is found by what is kept is the answer
 kept_answered : (v : View) (frames : ℕ → ℕ) (e : Event) → IsCore v → ServesEvent v frames e
@@ -126,22 +84,12 @@ pub record IsOne (v : View) (es : List Event) (rs : List Reply) (w : View) (betw
 -- a step that is an event
 pub is_event : (v w : View) (e : Event) (r : Reply) (between : Processors) → r ≡ answer v.state e → w.state ≡ next v.state e
     → IsCore w → AllAreRead w between → IsOne v (e ∷ []) (r ∷ []) w between
-is_event v w e r between told state core kept = record {
-  replies = λ events i. told i ∷ answers (state i) events;
-  state = λ events. ap (λ (s : State). end_of s events) state;
-  core = core;
-  kept = kept;
-}
+is_event v w e r between told state core kept = grind arith
 
 -- and one that is none
 pub is_none : (v w : View) (between : Processors) → w.state ≡ v.state → IsCore w → AllAreRead w between
     → IsOne v [] [] w between
-is_none v w between state core kept = record {
-  replies = λ events. ap (λ (s : State). answers s events) state;
-  state = λ events. ap (λ (s : State). end_of s events) state;
-  core = core;
-  kept = kept;
-}
+is_none v w between state core kept = grind arith
 
 pub one : {v w : View} {keeps between : Processors} {es : List Event} {rs : List Reply} → Step v keeps es rs w between → IsCore v
     → AllAreRead v keeps → IsOne v es rs w between

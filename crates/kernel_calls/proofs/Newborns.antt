@@ -1,21 +1,13 @@
 -- A new child is a family by itself.
-use Rattle.std.proofs.Common.{◌≡◌, ◌≢◌, ◌==◌, ◌&&◌, not, ℕ, Bool, true, false, refl, ap, sym, subst, ◌∙◌, inl, inr, Option, Some, None, unwrap_or, eqb-true}
-use Rattle.std.specs.Option.{option_map}
-use Rattle.page_words.specs.FiniteMap as map
-use Rattle.page_words.specs.FiniteSet as set
-use Rattle.address_space.specs.Spaces.{Slot, Cell, at_page}
-use Rattle.quota_tree.specs.Book.{Member, is_child}
-use Rattle.process_table.specs.Apart.{IsApart, lone}
-use Rattle.process_table.proofs.Apart.{in_lone}
-use Rattle.process_table.proofs.ApartOthers.{spawn_alike, fork_alike, live_differ}
-use Rattle.process_table.specs.State.{State, is_live, child_of}
-use Rattle.process_table.specs.WellFormed.{IsWellFormed}
+use Rattle.kernel_calls.proofs.Prelude.{◌≡◌, ◌≢◌, ◌==◌, ◌&&◌, not, ℕ, Bool, true, false, refl, ap, sym, subst, ◌∙◌, inl}
+use Rattle.kernel_calls.proofs.Prelude.{inr, Option, Some, None, unwrap_or, arith, eqb-true, option_map, Slot, Cell}
+use Rattle.kernel_calls.proofs.Prelude.{at_page, Member, is_child, IsApart, lone, spawn_alike, fork_alike, live_differ}
+use Rattle.kernel_calls.proofs.Prelude.{State, is_live, child_of, IsWellFormed, shares, is_child_of, IsFamily}
+use Rattle.kernel_calls.proofs.Prelude.{NewbornsAreFamilies, answer, next, after, Event, in_lone}
 use Rattle.kernel_calls.proofs.Births.{maker_of, child_dead, place_of, children_are_their_makers}
 use Rattle.kernel_calls.proofs.Decided.{next-goes}
-use Rattle.kernel_calls.specs.Authority.{shares, is_child_of}
-use Rattle.kernel_calls.specs.Families.{IsFamily, NewbornsAreFamilies}
-use Rattle.kernel_calls.specs.Machine.{answer, next, after}
-use Rattle.kernel_calls.specs.declared.calls.Event.{Event}
+use Rattle.page_words.specs.FiniteMap as map
+use Rattle.page_words.specs.FiniteSet as set
 use Rattle.kernel_calls.specs.declared.calls.Reply.TheVariants as reply
 
 module _ (s : State) (e : Event) (child : ℕ) (w : IsWellFormed s) (told : answer s e ≡ reply.Child child) where
@@ -58,11 +50,7 @@ module _ (s : State) (e : Event) (child : ℕ) (w : IsWellFormed s) (told : answ
         let l : is_live s child ≡ true = ap (is_live s) (sym e1) ∙ parent in
         cc)
     | inr differs ↦ elim differs [
-      | inl born ↦ (
-          let b = children_are_their_makers s e q born in
-          let m = child_place (map.get t.book q) has in
-          let mother : e.pid ≡ p = ap (λ (x : Option Member). (unwrap_or x m.0).parent) (sym b.member ∙ m.1) ∙ m.2 in
-          live_differ s e.pid child (maker_of s e child told).live (child_dead s e child told) (mother ∙ eqb-true p child is))
+      | inl born ↦ grind (arith, children_are_their_makers, child_place, live_differ, maker_of, child_dead, eqb-true)
       | inr gone ↦ (let x = ap child_in gone.2 in let y = has in cc)
     ]
   ]
@@ -71,8 +59,7 @@ module _ (s : State) (e : Event) (child : ℕ) (w : IsWellFormed s) (told : answ
       child_in x = unwrap_or (option_map (λ (m : Member). is_child p (q, m)) x) false
 
       second : (a b : Bool) → (a && b) ≡ true → b ≡ true
-      second true b h = h
-      second false b h = cc
+      second a b h = grind arith
 
       child_place : (x : Option Member) → child_in x ≡ true → (m : Member) × (x ≡ Some m) × (m.parent ≡ p)
       child_place None h = cc

@@ -1,64 +1,11 @@
 -- The event of an outsider through no channel leaves what the members of a set see.
-use Rattle.std.proofs.Common.{
-  ◌≡◌,
-  ◌≢◌,
-  ℕ,
-  ◌||◌,
-  Bool,
-  true,
-  false,
-  refl,
-  sym,
-  ap,
-  subst,
-  ◌∙◌,
-  Option,
-  Some,
-  None,
-  is_some,
-  unwrap_or,
-  inl,
-  inr,
-}
-use Rattle.std.specs.Prelude.{◌⊎◌}
-use Rattle.std.specs.Option.{option_map}
-use Rattle.std.proofs.lemmas.List.{ext_get_or}
-use Rattle.page_words.specs.FiniteMap as map
-use Rattle.page_words.specs.FiniteSet as set
-use Rattle.page_words.proofs.MapLemmas.{same_set}
-use Rattle.page_words.proofs.OptionLemmas.{some_value, no_value}
-use Rattle.page_words.proofs.SetLemmas.{same_cases}
-use Rattle.address_space.specs.Spaces.{Slot, slot_order, Cell, is_of, at_page, slot_at}
-use Rattle.quota_tree.specs.Book.{Member, is_child, given, number_of_children}
-use Rattle.quota_tree.proofs.Sums.{given-none, number-none}
-use Rattle.page_sharing.specs.Offers.{OfferKey, offer_key}
-use Rattle.process_table.specs.State.{State, is_live}
-use Rattle.process_table.specs.WellFormed.{IsWellFormed}
-use Rattle.process_table.proofs.ApartOthers.{no_page}
-use Rattle.process_table.proofs.BookLaws.{parents_in}
-use Rattle.kernel_calls.specs.Authority.{
-  flags_of,
-  shown_of,
-  shown_at,
-  flags_at,
-  shares,
-  is_child_of,
-  is_offered,
-  IsJoin,
-  IsLeave,
-  IsStoreInto,
-  Settles,
-  Sees,
-  LooksSame,
-  IsUnseen,
-  IsQuietCall,
-  OutsidersUnseen,
-}
-use Rattle.kernel_calls.specs.Machine.{answer, next, completes}
-use Rattle.kernel_calls.specs.declared.calls.Call.{Call}
-use Rattle.kernel_calls.specs.declared.calls.Call.TheVariants as call
-use Rattle.kernel_calls.specs.declared.calls.Event.{Event}
-use Rattle.kernel_calls.specs.declared.calls.Reply.TheVariants as reply
+use Rattle.kernel_calls.proofs.Prelude
+use Prelude.{◌≡◌, ◌≢◌, ℕ, ◌||◌, Bool, true, false, refl, sym, ap, subst, ◌∙◌, Option, Some, None, is_some, unwrap_or}
+use Prelude.{inl, inr, arith, ◌⊎◌, option_map, ext_get_or, same_set, some_value, no_value, same_cases, Slot, slot_order}
+use Prelude.{Cell, is_of, at_page, slot_at, given, number_of_children, given-none, number-none, OfferKey, offer_key}
+use Prelude.{State, is_live, IsWellFormed, no_page, parents_in, flags_of, shown_of, shown_at, flags_at, shares}
+use Prelude.{is_child_of, is_offered, IsJoin, IsLeave, IsStoreInto, Settles, Sees, LooksSame, IsUnseen, IsQuietCall}
+use Prelude.{OutsidersUnseen, answer, next, completes, Call, Event, eqb-true, or-true, or_parts}
 use Rattle.kernel_calls.proofs.Births.{maker_of, places_stay}
 use Rattle.kernel_calls.proofs.Confined.{shares_by, back}
 use Rattle.kernel_calls.proofs.Consent.{sharing_by_consent, offers_by_offerer}
@@ -67,11 +14,10 @@ use Rattle.kernel_calls.proofs.GivenUp.{offers_stay}
 use Rattle.kernel_calls.proofs.Runs.{kept-next}
 use Rattle.kernel_calls.proofs.Stays.{next_leaves, next_stays, sharing_stays, seen_mapped}
 use Rattle.kernel_calls.proofs.Untouched.{leaves_all}
-use borrow.Author.Tests.{eqb-true}
-
-either_no : (a b : Bool) → (a || b) ≡ false → (a ≡ false) × (b ≡ false)
-either_no false b h = (refl, h)
-either_no true b h = cc
+use Rattle.page_words.specs.FiniteMap as map
+use Rattle.page_words.specs.FiniteSet as set
+use Rattle.kernel_calls.specs.declared.calls.Call.TheVariants as call
+use Rattle.kernel_calls.specs.declared.calls.Reply.TheVariants as reply
 
 module _ (s : State) (e : Event) (Q : ℕ → Bool) (w : IsWellFormed s) (out : Q e.pid ≡ false)
     (done : completes (answer s e) ≡ true) (quiet : IsQuietCall s Q e.pid e.call) where
@@ -95,13 +41,7 @@ module _ (s : State) (e : Event) (Q : ℕ → Bool) (w : IsWellFormed s) (out : 
 
   -- a member's place in the book stays
   place_same : (q : ℕ) → Q q ≡ true → map.get s.book q ≡ map.get (next s e).book q
-  place_same q member = elim (places_stay s e q) [
-    | inl same_place ↦ sym same_place
-    | inr differs ↦ elim differs [
-      | inl born ↦ absurd (no_birth q member born)
-      | inr gone ↦ absurd (not_out q member gone.0)
-    ]
-  ]
+  place_same q member = grind (arith, places_stay, no_birth, not_out)
 
   lives : (q : ℕ) → Q q ≡ true → is_live s q ≡ is_live (next s e) q
   lives q member = ap is_some (place_same q member)
@@ -118,7 +58,7 @@ module _ (s : State) (e : Event) (Q : ℕ → Bool) (w : IsWellFormed s) (out : 
       by true live = let u = leaves_all s e q w live (not_out q member) in elim u.given [
         | inl same_given ↦ (sym same_given.0, sym same_given.1)
         | inr exits ↦ absurd (
-            let no = either_no (is_child_of s q e.pid) (is_offered s e.pid (at_page q 0))
+            let no = or_parts (is_child_of s q e.pid) (is_offered s e.pid (at_page q 0))
             ((quiet_as call.Exit exits.1).0 q 0 member) in
             let f = no.0 in
             let x = exits.0 in
@@ -223,8 +163,7 @@ module _ (s : State) (e : Event) (Q : ℕ → Bool) (w : IsWellFormed s) (out : 
   ]
     where
       nothing : (x : Option Cell) → option_map flags_of x ≡ None → x ≡ None
-      nothing None h = refl
-      nothing (Some d) h = cc
+      nothing x h = grind arith
 
   pages_same : (slot : Slot) → Sees s Q slot → shown_at s slot ≡ shown_at (next s e) slot
   pages_same slot seen = by (map.get s.spaces slot) refl
@@ -237,8 +176,7 @@ module _ (s : State) (e : Event) (Q : ℕ → Bool) (w : IsWellFormed s) (out : 
   same_page_same slot other seen = by (map.get s.spaces slot) refl
     where
       by : (x : Option Cell) → map.get s.spaces slot ≡ x → shares s slot other ≡ shares (next s e) slot other
-      by None none = ap (λ (x : Option Cell). unwrap_or (option_map (λ (k : Cell). set.contains k.holders other) x)
-          false) (none ∙ sym (still_none slot seen none))
+      by None none = grind (arith, still_none)
       by (Some c) at = groups_same slot seen c at other
 
   -- an offer by a member or to one
@@ -246,19 +184,15 @@ module _ (s : State) (e : Event) (Q : ℕ → Bool) (w : IsWellFormed s) (out : 
   Theirs key = (Q key.offerer ≡ true) ⊎ (Q key.target ≡ true)
 
   neither : (key : OfferKey) → Theirs key → Q key.offerer ≡ false → Q key.target ≡ false → ⊥
-  neither key (inl by) a b = cc
-  neither key (inr to) a b = cc
+  neither key h a b = grind arith
 
   no_new : (key : OfferKey) (right : Bool) → Theirs key
       → (e.pid ≡ key.offerer) × (e.call ≡ call.Offer key.page key.target right) → ⊥
-  no_new key right theirs new = neither key theirs (sym (ap Q new.0) ∙ out)
-      (quiet_as (call.Offer key.page key.target right) new.1)
+  no_new key right theirs new = grind (arith, neither, quiet_as)
 
   no_settled : (key : OfferKey) → Theirs key → Settles e key → ⊥
-  no_settled key theirs (inl withdrawn) = neither key theirs (sym (ap Q withdrawn.0) ∙ out)
-      (quiet_as (call.Withdraw key.page key.target) withdrawn.1)
-  no_settled key theirs (inr taken) = neither key theirs
-      (quiet_as (call.Accept key.offerer key.page taken.1.0) taken.1.1).0 (sym (ap Q taken.0) ∙ out)
+  no_settled key theirs (inl withdrawn) = grind (arith, neither, quiet_as)
+  no_settled key theirs (inr taken) = grind (arith, neither, quiet_as)
 
   no_left : (key : OfferKey) (right : Bool) → Theirs key → map.get s.offers key ≡ Some right
       → IsLeave e (at_page key.offerer key.page) → ⊥
@@ -270,13 +204,9 @@ module _ (s : State) (e : Event) (Q : ℕ → Bool) (w : IsWellFormed s) (out : 
         key.target,
         to,
         ap (λ b. is_of key.target slot || b) (ap is_some at)
-            ∙ or_yes (is_of key.target slot),
+            ∙ or-true (is_of key.target slot),
       ) in
       no_leave slot slot seen (shares_by s slot slot o.0 o.1 (w.cells slot o.0 o.1).own) leave
-    where
-      or_yes : (b : Bool) → (b || true) ≡ true
-      or_yes true = refl
-      or_yes false = refl
 
   -- and no exit ends one
   no_exit : (key : OfferKey) (right : Bool) → Theirs key → map.get s.offers key ≡ Some right
@@ -287,7 +217,7 @@ module _ (s : State) (e : Event) (Q : ℕ → Bool) (w : IsWellFormed s) (out : 
       (λ i. record { offerer = key.offerer; page = key.page; target = exit.0 i }) in
       let there : is_offered s e.pid (at_page key.offerer key.page) ≡ true =
       ap (map.contains_key s.offers) (sym here) ∙ ap is_some at in
-      let no = either_no (is_child_of s key.offerer e.pid) (is_offered s e.pid (at_page key.offerer key.page))
+      let no = or_parts (is_child_of s key.offerer e.pid) (is_offered s e.pid (at_page key.offerer key.page))
       ((quiet_as call.Exit exit.1).0 key.offerer key.page by) in
       let f = no.1 in
       cc
@@ -297,10 +227,7 @@ module _ (s : State) (e : Event) (Q : ℕ → Bool) (w : IsWellFormed s) (out : 
     where
       by : (x y : Option Bool) → map.get s.offers key ≡ x → map.get (next s e).offers key ≡ y → x ≡ y
       by None None before after = refl
-      by None (Some right) before after = elim (offers_by_offerer s e key right after) [
-        | inl old ↦ sym before ∙ old
-        | inr new ↦ absurd (no_new key right theirs new)
-      ]
+      by None (Some right) before after = grind (arith, offers_by_offerer, no_new)
       by (Some right) y before after = elim (offers_stay s e key right before) [
         | inl still ↦ sym still ∙ after
         | inr ends ↦ elim ends [
@@ -314,15 +241,8 @@ module _ (s : State) (e : Event) (Q : ℕ → Bool) (w : IsWellFormed s) (out : 
 
   done_unseen : LooksSame s (next s e) Q
   done_unseen = record {
-    standing = λ q h. λ i. record {
-      live = lives q h i;
-      quota = ap (λ (x : Option Member). unwrap_or (option_map (λ (m : Member). m.quota) x) 0) (place_same q h) i;
-      given = (gives_same q h).0 i;
-      children = (gives_same q h).1 i;
-    };
-    families = λ p q hp hq d.
-        ap (λ (x : Option Member). unwrap_or (option_map (λ (m : Member). is_child p (q, m)) x) false)
-        (place_same q hq);
+    standing = grind (arith, lives, place_same, gives_same);
+    families = grind (arith, place_same);
     flags = flags_same;
     offers = offers_same;
     pages = pages_same;
@@ -330,14 +250,7 @@ module _ (s : State) (e : Event) (Q : ℕ → Bool) (w : IsWellFormed s) (out : 
   }
 
 pub looks_refl : (s : State) (Q : ℕ → Bool) → LooksSame s s Q
-looks_refl s Q = record {
-  standing = λ q h. refl;
-  families = λ p q hp hq d. refl;
-  flags = λ slot h. refl;
-  offers = λ key h. refl;
-  pages = λ slot v. refl;
-  same_page = λ slot other v o. refl;
-}
+looks_refl s Q = grind arith
 
 pub outsiders_unseen : OutsidersUnseen
 outsiders_unseen s e Q w out quiet = by (completes (answer s e)) refl

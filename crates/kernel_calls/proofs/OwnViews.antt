@@ -1,95 +1,23 @@
 -- A process's replies, and what it has afterwards, depend on what it has, except for its offers.
-use Rattle.std.proofs.Common.{
-  ◌≡◌,
-  ℕ,
-  ◌+◌,
-  ◌&&◌,
-  ◌||◌,
-  ◌==◌,
-  not,
-  Bool,
-  true,
-  false,
-  cond,
-  refl,
-  sym,
-  ap,
-  ◌∙◌,
-  Option,
-  Some,
-  None,
-  is_some,
-  unwrap_or,
-  subst,
-  ◌≢◌,
-}
-use Rattle.std.specs.Option.{option_map}
-use Rattle.page_words.specs.Addresses.{byte_count, touched}
-use Rattle.page_words.specs.declared.addresses.Size.{Size}
-use Rattle.page_words.specs.FiniteMap as map
-use Rattle.page_words.specs.FiniteMap.{same}
-use Rattle.page_words.specs.FiniteSet as set
-use Rattle.page_words.proofs.MapLemmas.{same-true, get-insert}
-use Rattle.page_words.proofs.OptionLemmas.{no_value}
-use Rattle.address_space.specs.Spaces.{
-  Slot,
-  slot_order,
-  Cell,
-  Spaces,
-  is_of,
-  is_slot,
-  without,
-  bytes_of,
-  with_pages,
-  all_accessed,
-  all_stored,
-  copied,
-  fresh,
-  at_page,
-}
-use Rattle.address_space.proofs.costs.Copied.{copied-other}
-use Rattle.quota_tree.specs.Book.{Member, is_child, number_of_children, next_number}
-use Rattle.quota_tree.proofs.BookFacts.{get-insert_other}
-use Rattle.quota_tree.proofs.Sums.{given-insert, number-insert}
-use Rattle.page_sharing.specs.Offers.{OfferKey, Offers, offer_order, offer_key}
-use Rattle.process_table.specs.State.{State, is_live, child_of}
-use Rattle.process_table.specs.Calls.{
-  spawn_refusal,
-  fork_refusal,
-  exit_refusal,
-  after_load,
-  after_store,
-  after_map,
-  after_unmap,
-  after_protect,
-  after_offer,
-  after_withdraw,
-  after_spawn,
-  after_fork,
-  after_exit,
-}
-use Rattle.process_table.proofs.ApartOthers.{child_free, fork_free, live_differ}
-use Rattle.kernel_calls.specs.Authority.{Flags, flags_of, shown_of, shares, standing_of, HaveTheSame, found, OwnIsEnough}
-use Rattle.kernel_calls.specs.Machine.{answer, answer_of, after, next, completes}
-use Rattle.kernel_calls.specs.declared.calls.Call.{Call}
-use Rattle.kernel_calls.specs.declared.calls.Call.TheVariants as call
-use Rattle.kernel_calls.specs.declared.calls.Event.{Event}
+use Rattle.kernel_calls.proofs.Prelude
+use Prelude.{◌≡◌, ℕ, ◌&&◌, ◌==◌, not, Bool, true, false, refl, sym, ap, ◌∙◌, Option, None, is_some, unwrap_or, subst}
+use Prelude.{◌≢◌, arith, option_map, byte_count, touched, Size, same-true, get-insert, no_value, Slot, slot_order, Cell}
+use Prelude.{Spaces, is_of, is_slot, without, bytes_of, with_pages, all_accessed, all_stored, copied, fresh, at_page}
+use Prelude.{copied-other, number_of_children, next_number, get-insert_other, given-insert, number-insert, OfferKey}
+use Prelude.{Offers, offer_key, State, is_live, child_of, spawn_refusal, fork_refusal, exit_refusal, after_load}
+use Prelude.{after_store, after_map, after_unmap, after_protect, after_offer, after_withdraw, after_spawn, after_fork}
+use Prelude.{after_exit, child_free, fork_free, live_differ, Flags, flags_of, shown_of, HaveTheSame, found, OwnIsEnough}
+use Prelude.{answer, answer_of, after, next, completes, Call, Event, get-removed, eqb-true, eq-eqb}
 use Rattle.kernel_calls.proofs.Decided.{next-stays, next-goes}
 use Rattle.kernel_calls.proofs.Runs.{not-refused}
 use Rattle.kernel_calls.proofs.Seen.{kept_offers, no_children, exit_children, exit_given, exit_quota, exit_slot}
-use Rattle.kernel_calls.proofs.TogetherSpaces.{
-  SameSpaces,
-  pages_same,
-  accessed_same,
-  all_stored_same,
-  put_same,
-  set_same,
-  gone_same,
-}
+use Rattle.kernel_calls.proofs.TogetherSpaces.{SameSpaces, pages_same, accessed_same, all_stored_same, put_same}
+use Rattle.kernel_calls.proofs.TogetherSpaces.{set_same, gone_same}
 use Rattle.kernel_calls.proofs.Untouched.{caller_live}
 use Rattle.kernel_calls.proofs.Views.{HasTheSame, takes_offer, member_has, answer_of_same, told_by_own, child_is_same}
-use Rattle.page_words.proofs.SetLemmas.{get-removed}
-use borrow.Author.Tests.{eqb-true, eq-eqb}
+use Rattle.page_words.specs.FiniteMap as map
+use Rattle.page_words.specs.FiniteSet as set
+use Rattle.kernel_calls.specs.declared.calls.Call.TheVariants as call
 
 -- ---- What it has afterwards
 
@@ -104,16 +32,7 @@ own_slot : (q : ℕ) (slot : Slot) → Mine q slot → at_page q slot.page ≡ s
 own_slot q slot h = λ i. record { pid = sym (eqb-true slot.pid q h) i; page = slot.page }
 
 spaces_of : (s t : State) (q : ℕ) → HasTheSame s t q → SameSpaces (λ p. p == q) (Mine q) s.spaces t.spaces
-spaces_of s t q l = record {
-  flags = λ slot h. subst (λ x. option_map flags_of (map.get s.spaces x) ≡ option_map flags_of (map.get t.spaces x))
-      (own_slot q slot h) (l.flags slot.page);
-  pages = λ slot h. subst (λ x. option_map shown_of (map.get s.spaces x) ≡ option_map shown_of (map.get t.spaces x))
-      (own_slot q slot h) (l.pages slot.page);
-  groups = λ slot other h k.
-      subst (λ x. shares s x other ≡ shares t x other) (own_slot q slot h)
-      (subst (λ x. shares s (at_page q slot.page) x ≡ shares t (at_page q slot.page) x) (own_slot q other k)
-      (l.same_page slot.page other.page));
-}
+spaces_of s t q l = grind (arith, own_slot)
 
 -- where the book stays
 has : (s t : State) (q : ℕ) (S T : Spaces) (O P : Offers) → HasTheSame s t q
@@ -187,20 +106,11 @@ module _ (s t : State) (q : ℕ) (l : HasTheSame s t q) where
       (λ slot h. subst (Mine q) (same-true slot_order (at_page q page) slot h) (itself q)) start)
 
   withdraw_has : (page target : ℕ) → HasTheSame (after_withdraw s q page target) (after_withdraw t q page target) q
-  withdraw_has page target =
-      let stay : OfferKey → Bool = (λ k. not (same offer_order (offer_key q page target) k)) in
-      has s t q s.spaces t.spaces (map.retain_keys s.offers stay) (map.retain_keys t.offers stay) l
-      (λ n to. kept_offers s.offers t.offers stay (offer_key q n to) (l.made n to)) start
+  withdraw_has page target = grind (arith, has, kept_offers)
 
   offer_has : (page target : ℕ) (write : Bool) → HasTheSame (after_offer s q page target write)
       (after_offer t q page target write) q
-  offer_has page target write =
-      has s t q s.spaces t.spaces (map.insert s.offers (offer_key q page target) write)
-      (map.insert t.offers (offer_key q page target) write) l
-      (λ n to. get-insert s.offers (offer_key q page target) write (offer_key q n to)
-      ∙ (λ i. cond (same offer_order (offer_key q n to) (offer_key q page target)) (Some write) (l.made n to i))
-      ∙ sym (get-insert t.offers (offer_key q page target) write (offer_key q n to)))
-      start
+  offer_has page target write = grind (arith, has, get-insert)
 
   -- a child more
   child_has : (k quota : ℕ) (S T : Spaces) → is_live s q ≡ true → is_live s k ≡ false → is_live t k ≡ false
@@ -217,25 +127,7 @@ module _ (s t : State) (q : ℕ) (l : HasTheSame s t q) where
             t.offers;
       }) q
   child_has k quota S T live free free_t spaces =
-      let child : Member = record { parent = q; quota = quota } in
-      let none_s = no_value (map.get s.book k) free in
-      let none_t = no_value (map.get t.book k) free_t in
-      let live_t : is_live t q ≡ true = sym l.live ∙ live in
-      let here = get-insert_other s.book k child q (live_differ s q k live free) in
-      let here_t = get-insert_other t.book k child q (live_differ t q k live_t free_t) in
-      record {
-        live = ap is_some here ∙ l.live ∙ sym (ap is_some here_t);
-        quota = ap (λ (x : Option Member). unwrap_or (option_map (λ (m : Member). m.quota) x) 0) here ∙ l.quota
-            ∙ sym (ap (λ (x : Option Member). unwrap_or (option_map (λ (m : Member). m.quota) x) 0) here_t);
-        given = given-insert s.book k child none_s q ∙ ap (λ n. cond (is_child q (k, child)) quota 0 + n) l.given
-            ∙ sym (given-insert t.book k child none_t q);
-        children = number-insert s.book k child none_s q ∙ ap (λ n. cond (is_child q (k, child)) 1 0 + n) l.children
-            ∙ sym (number-insert t.book k child none_t q);
-        flags = λ page. spaces.flags (at_page q page) (itself q);
-        pages = λ page. spaces.pages (at_page q page) (itself q);
-        same_page = λ page other. spaces.groups (at_page q page) (at_page q other) (itself q) (itself q);
-        made = l.made;
-      }
+      grind (arith, no_value, get-insert_other, live_differ, given-insert, number-insert, itself)
 
   spawn_has : (quota : ℕ) → next_number s.book ≡ next_number t.book → is_live s q ≡ true → spawn_refusal s q quota ≡ None
       → spawn_refusal t q quota ≡ None → HasTheSame (after_spawn s q quota) (after_spawn t q quota) q
@@ -288,8 +180,7 @@ module _ (s t : State) (q : ℕ) (l : HasTheSame s t q) where
         ap (λ (y : Option Cell). unwrap_or (option_map (λ (e : Cell). set.contains e.holders (at_page q other)) y)
         false)
         (exit_slot s q (at_page q page) (itself q) ∙ sym (exit_slot t q (at_page q page) (itself q)));
-    made = λ page target. kept_offers s.offers t.offers (λ (k : OfferKey). not ((k.offerer == q) || (k.target == q)))
-        (offer_key q page target) (l.made page target);
+    made = grind (arith, kept_offers);
   }
     where
       childless : number_of_children s.book q ≡ 0
@@ -308,7 +199,6 @@ module _ (s t : State) (q : ℕ) (l : HasTheSame s t q) where
   after_has (call.Map page write) none finds live h = map_has page write
   after_has (call.Unmap page) none finds live h = unmap_has page
   after_has (call.Protect page write) none finds live h = protect_has page write
-  after_has (call.Info page) none finds live h = l
   after_has (call.Offer page target write) none finds live h = offer_has page target write
   after_has (call.Withdraw page target) none finds live h = withdraw_has page target
   after_has (call.Accept giver giver_page page) none finds live h = cc
@@ -321,7 +211,7 @@ module _ (s t : State) (q : ℕ) (l : HasTheSame s t q) where
       (not-refused (fork_refusal t q quota) _
       (sym (ap completes (answer_of_same s t q l (call.Fork quota) refl finds)) ∙ h))
   after_has call.Exit none finds live h = exit_has live (not-refused (exit_refusal s q) _ h)
-  after_has call.Quota none finds live h = l
+  after_has _ none finds live h = l
 
 next_has : (s t : State) (e : Event) → HasTheSame s t e.pid → takes_offer e.call ≡ false
     → found s e.call ≡ found t e.call → HasTheSame (next s e) (next t e) e.pid
@@ -331,13 +221,8 @@ next_has s t e l none finds = by (completes (answer s e)) refl
     told = told_by_own s t e l none finds
 
     by : (b : Bool) → completes (answer s e) ≡ b → HasTheSame (next s e) (next t e) e.pid
-    by true h =
-        let c = caller_live s e h in
-        subst (λ u. HasTheSame u (next t e) e.pid) (sym (next-goes s e h))
-        (subst (λ u. HasTheSame (after s e.pid e.call) u e.pid) (sym (next-goes t e (sym (ap completes told) ∙ h)))
-        (after_has s t e.pid l e.call none finds c.0 c.1))
-    by false h = subst (λ u. HasTheSame u (next t e) e.pid) (sym (next-stays s e h))
-        (subst (λ u. HasTheSame s u e.pid) (sym (next-stays t e (sym (ap completes told) ∙ h))) l)
+    by true h = grind (arith, caller_live, next-goes, told, after_has)
+    by false h = grind (arith, next-stays, told)
 
 -- ---- A process is the set of one
 
@@ -345,12 +230,10 @@ alone_has : (s t : State) (q : ℕ) → HasTheSame s t q → HaveTheSame s t (λ
 alone_has s t q l =
     let spaces = spaces_of s t q l in
     record {
-      standing = λ p h. subst (λ n. standing_of s n ≡ standing_of t n) (sym (eqb-true p q h))
-          (λ i. record { live = l.live i; quota = l.quota i; given = l.given i; children = l.children i });
+      standing = grind (arith, eqb-true);
       families = λ p r hp hr d. absurd (d (eqb-true p q hp ∙ sym (eqb-true r q hr)));
       flags = spaces.flags;
-      offers = λ key h. ap (map.get s.offers) (here key h) ∙ l.made key.page key.target
-          ∙ ap (map.get t.offers) (sym (here key h));
+      offers = grind (arith, here);
       pages = spaces.pages;
       same_page = spaces.groups;
     }
@@ -363,16 +246,4 @@ own_is_enough s t e l finds none = alone_has (next s e) (next t e) e.pid
     (next_has s t e (member_has s t (λ p. p == e.pid) e.pid (itself e.pid) l) (taken e.call refl) finds)
   where
     taken : (c : Call) → e.call ≡ c → takes_offer c ≡ false
-    taken (call.Accept giver giver_page page) is = absurd (none giver giver_page page is)
-    taken (call.Load addr size) is = refl
-    taken (call.Store addr size value) is = refl
-    taken (call.Map page write) is = refl
-    taken (call.Unmap page) is = refl
-    taken (call.Protect page write) is = refl
-    taken (call.Info page) is = refl
-    taken (call.Offer page target write) is = refl
-    taken (call.Withdraw page target) is = refl
-    taken (call.Spawn quota) is = refl
-    taken (call.Fork quota) is = refl
-    taken call.Exit is = refl
-    taken call.Quota is = refl
+    taken c is = grind arith

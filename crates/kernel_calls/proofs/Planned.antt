@@ -1,40 +1,19 @@
 -- Decisions on accesses, by their plans.
-use Rattle.std.proofs.Common.{◌≡◌, ℕ, Bool, true, false, refl, ap, sym, ◌∙◌, Option, None, Some}
-use Rattle.std.specs.Prelude.{if◌then◌else◌}
-use Rattle.std.specs.Option.{option_map}
-use Rattle.page_words.specs.Addresses.{page_number, second_page, touched}
-use Rattle.page_words.specs.declared.addresses.Size.{Size}
-use Rattle.address_space.specs.Spaces.{cost}
-use Rattle.process_table.specs.State.{State, is_live, overdrawn}
-use Rattle.process_table.specs.View.{View}
-use Rattle.process_table.specs.Calls.{loaded, after_load, after_store}
-use Rattle.process_table.specs.declared.causes.Cause.TheVariants as cause
-use Rattle.table_walk.specs.declared.Access.{Access}
-use Rattle.table_walk.specs.declared.Access.TheVariants.{Read, Write}
-use Rattle.fault_handler.specs.Plans.{outside, forbidden, fault_or, planned_by, plan_of, plan_at, step_of, step_at, goes_on}
+use Rattle.kernel_calls.proofs.Prelude.{◌≡◌, ℕ, true, false, refl, ap, sym, ◌∙◌, arith, if◌then◌else◌, Size, cost}
+use Rattle.kernel_calls.proofs.Prelude.{State, is_live, View, loaded, after_load, after_store, Access, Read, Write}
+use Rattle.kernel_calls.proofs.Prelude.{planned_by, plan_of, plan_at, step_of, step_at, goes_on, Plan, answer}
+use Rattle.kernel_calls.proofs.Prelude.{answer_of, after, completes, planned_or, judged_of, plan_of_call, plan_of_event}
+use Rattle.kernel_calls.proofs.Prelude.{charge_in, charge_after, planned, Event, Reply}
 use Rattle.fault_handler.specs.declared.plans.PageStep.{PageStep}
-use Rattle.fault_handler.specs.declared.plans.Plan.{Plan}
-use Rattle.fault_handler.specs.declared.plans.Plan.TheVariants as plan
-use Rattle.kernel_calls.specs.Machine.{answer, answer_of, after, completes, planned_or}
-use Rattle.kernel_calls.specs.Decisions.{judged_of, plan_of_call, plan_of_event, charge_in, charge_after, planned}
-use Rattle.kernel_calls.specs.declared.calls.Call.TheVariants as call
-use Rattle.kernel_calls.specs.declared.calls.Event.{Event}
-use Rattle.kernel_calls.specs.declared.calls.Reply.{Reply}
-use Rattle.kernel_calls.specs.declared.calls.Reply.TheVariants as reply
 use Rattle.kernel_calls.proofs.Decided.{next-stays, next-goes}
+use Rattle.process_table.specs.declared.causes.Cause.TheVariants as cause
+use Rattle.fault_handler.specs.declared.plans.Plan.TheVariants as plan
+use Rattle.kernel_calls.specs.declared.calls.Call.TheVariants as call
+use Rattle.kernel_calls.specs.declared.calls.Reply.TheVariants as reply
 
 -- the reply to an access doesn't tell the steps of its pages
 pub same_reply : (steps others : ℕ → PageStep) (s : State) (p address : ℕ) (size : Size) (access : Access) (r : Reply) → planned_or (planned_by steps s p address size access) r ≡ planned_or (planned_by others s p address size access) r
-same_reply steps others s p address size access r = by (outside address size) (forbidden s p address size access) (overdrawn s p (touched address size))
-  where
-    full : (ℕ → PageStep) → Plan
-    full t = plan.Ready (t (page_number address)) (option_map t (second_page address size))
-
-    by : (o f : Option ℕ) (b : Bool) → planned_or (fault_or o access false (fault_or f access true (if b then plan.Refused cause.Quota else full steps))) r ≡ planned_or (fault_or o access false (fault_or f access true (if b then plan.Refused cause.Quota else full others))) r
-    by (Some a) f b = refl
-    by None (Some a) b = refl
-    by None None true = refl
-    by None None false = refl
+same_reply steps others s p address size access r = grind arith
 
 -- an access is decided by its plan, where the reply is the definition's for one that goes on, and the charge that
 -- of today for one that does not
@@ -63,9 +42,7 @@ module _ (v : View) (e : Event) (address : ℕ) (size : Size) (access : Access) 
   by_plan (plan.Refused k) is =
       let told = reply-live (plan.Refused k) is in
       λ i. record { plan = sym (plan-live (plan.Refused k) is) i; reply = sym told i; used_after = sym (stopped (ap goes_on is) (ap completes told)) i }
-  by_plan (plan.Fault f) is =
-      let told = reply-live (plan.Fault f) is in
-      λ i. record { plan = sym (plan-live (plan.Fault f) is) i; reply = sym told i; used_after = sym (stopped (ap goes_on is) (ap completes told)) i }
+  by_plan (plan.Fault f) is = grind (arith, reply-live, plan-live, stopped)
   by_plan (plan.Ready first second) is =
       let told = reply-live (plan.Ready first second) is in
       let both = goes (ap goes_on is) in

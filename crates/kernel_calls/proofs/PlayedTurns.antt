@@ -1,14 +1,9 @@
 -- Turns on a core are the events that were taken.
-use Rattle.std.proofs.Common.{List, [], ◌∷◌, ◌++◌, refl, ap, sym, ◌∙◌, subst, Option, Some, None}
-use Rattle.std.specs.Option.{option_to_list}
-use Rattle.process_table.specs.View.{View}
-use Rattle.kernel_calls.specs.Processors.{IsCore, Processors}
-use Rattle.kernel_calls.specs.Turns.{IsTurn, AreTurns, event_of, taken, AnswerTurns}
-use Rattle.kernel_calls.specs.declared.calls.Reply.{Reply}
-use Rattle.kernel_calls.specs.declared.translations.Ended.{Ended}
-use Rattle.kernel_calls.specs.declared.turns.Turn.{Turn}
-use Rattle.kernel_calls.specs.declared.turns.Turn.TheVariants as turn
+use Rattle.kernel_calls.proofs.Prelude.{List, [], ◌∷◌, ◌++◌, refl, ap, sym, ◌∙◌, Option, Some, None, arith}
+use Rattle.kernel_calls.proofs.Prelude.{option_to_list, View, IsCore, Processors, AreTurns, Reply, Ended, Turn}
+use Rattle.kernel_calls.specs.Turns.{IsTurn, event_of, taken, AnswerTurns}
 use Rattle.kernel_calls.proofs.MixedRuns.{IsOne, is_event, is_none, one, all_steps}
+use Rattle.kernel_calls.specs.declared.turns.Turn.TheVariants as turn
 
 -- no processor keeps anything
 abbrev nobody : Processors
@@ -22,11 +17,9 @@ one_turn v w (turn.Call e) (Some r) x core h =
     record { replies = o.replies; state = o.state; core = o.core; kept = λ i. tt }
 one_turn v w (turn.Call e) None x core h = absurd h
 one_turn v w (turn.Walk e) (Some r) x core h = one (h.1 nobody) core (λ i. tt)
-one_turn v w (turn.Walk e) None x core h =
-    is_none v w nobody (ap (λ (u : View). u.state) h.1.1) (subst IsCore (sym h.1.1) core) (λ i. tt)
+one_turn v w (turn.Walk e) None x core h = grind (arith, is_none)
 one_turn v w (turn.Store e) (Some r) x core h = is_event v w e r nobody h.1.reply h.1.state h.1.core (λ i. tt)
-one_turn v w (turn.Store e) None x core h =
-    is_none v w nobody (ap (λ (u : View). u.state) h.1.1) (subst IsCore (sym h.1.1) core) (λ i. tt)
+one_turn v w (turn.Store e) None x core h = grind (arith, is_none)
 one_turn v w (turn.Mark pid page walked) (Some r) x core h = absurd h
 one_turn v w (turn.Mark pid page walked) None x core h =
     let o = all_steps (h.1.step nobody) core (λ i. tt) in

@@ -1,94 +1,20 @@
 -- What an event leaves of the flags of a slot that is mapped before and after it.
-use Rattle.std.proofs.Common.{
-  ◌≡◌,
-  ◌≢◌,
-  ℕ,
-  suc,
-  ◌+◌,
-  not,
-  Bool,
-  true,
-  false,
-  cond,
-  IsTrue,
-  List,
-  [],
-  ◌∷◌,
-  refl,
-  sym,
-  ap,
-  subst,
-  ◌∙◌,
-  Option,
-  Some,
-  None,
-  unwrap_or,
-  arith,
-  inl,
-  inr,
-}
-use Rattle.std.specs.Prelude.{◌⊎◌, if◌then◌else◌}
-use Rattle.std.specs.Option.{option_map}
-use Rattle.std.proofs.lemmas.Option.{same_Some}
-use Rattle.page_words.specs.Addresses.{offset_number, byte_count, touched}
-use Rattle.page_words.specs.FiniteMap as map
-use Rattle.page_words.specs.FiniteSet as set
-use Rattle.page_words.specs.FiniteSet.{Set}
-use Rattle.page_words.proofs.MapLemmas.{get-map_values}
-use Rattle.page_words.proofs.OptionLemmas.{no_value}
-use Rattle.page_words.proofs.SetLemmas.{same_cases}
-use Rattle.address_space.specs.Spaces.{
-  Slot,
-  slot_order,
-  Cell,
-  Spaces,
-  fresh,
-  cell_or_fresh,
-  with_bytes,
-  with_holders,
-  write_at,
-  bytes_of,
-  without,
-  is_slot,
-  is_of,
-  at_page,
-  slot_at,
-  accessed,
-  stored,
-  with_page,
-  with_pages,
-  all_accessed,
-  all_stored,
-}
-use Rattle.address_space.proofs.costs.Copied.{copied-other}
-use Rattle.address_space.proofs.steps.Departures.{left, get-without}
-use Rattle.process_table.specs.State.{State, child_of}
-use Rattle.process_table.specs.Calls.{
-  accept_refusal,
-  fork_refusal,
-  map_refusal,
-  offered,
-  after_load,
-  after_store,
-  after_map,
-  after_accept,
-  after_fork,
-}
-use Rattle.process_table.specs.WellFormed.{IsWellFormed}
-use Rattle.process_table.proofs.ApartOthers.{child_free, live_differ}
-use Rattle.process_table.proofs.CellLaws.{get-inserted, get-inserted_other}
-use Rattle.process_table.proofs.Forks.{may_fork}
-use Rattle.process_table.proofs.Refusals.{may_accept, may_map}
-use Rattle.process_table.proofs.SharingLaws.{giver_mapped}
-use Rattle.kernel_calls.specs.Authority.{ChangesAreRightful}
-use Rattle.kernel_calls.specs.Machine.{answer, answer_of, after, next, completes}
-use Rattle.kernel_calls.specs.declared.calls.Call.{Call}
-use Rattle.kernel_calls.specs.declared.calls.Call.TheVariants as call
-use Rattle.kernel_calls.specs.declared.calls.Event.{Event}
+use Rattle.kernel_calls.proofs.Prelude
+use Prelude.{◌≡◌, ◌≢◌, ℕ, suc, ◌+◌, Bool, true, false, List, [], ◌∷◌, refl, sym, ap, subst, ◌∙◌, Option, Some, None}
+use Prelude.{unwrap_or, arith, inl, inr, IsTrue, ◌⊎◌, if◌then◌else◌, option_map, same_Some, offset_number, byte_count}
+use Prelude.{touched, Set, get-map_values, no_value, same_cases, Slot, slot_order, Cell, Spaces, fresh, cell_or_fresh}
+use Prelude.{with_bytes, with_holders, write_at, bytes_of, without, is_slot, is_of, at_page, slot_at, accessed, stored}
+use Prelude.{with_page, with_pages, all_accessed, all_stored, copied-other, left, get-without, State, child_of}
+use Prelude.{accept_refusal, fork_refusal, map_refusal, offered, after_load, after_store, after_map, after_accept}
+use Prelude.{after_fork, IsWellFormed, child_free, live_differ, get-inserted, get-inserted_other, may_fork, may_accept}
+use Prelude.{may_map, giver_mapped, ChangesAreRightful, answer, answer_of, after, next, completes, Call, Event}
 use Rattle.kernel_calls.proofs.Decided.{next-stays, next-goes}
 use Rattle.kernel_calls.proofs.Runs.{not-refused}
 use Rattle.kernel_calls.proofs.Stays.{next_stays}
 use Rattle.kernel_calls.proofs.Untouched.{caller_live, get_joined, widen}
+use Rattle.page_words.specs.FiniteMap as map
+use Rattle.page_words.specs.FiniteSet as set
+use Rattle.kernel_calls.specs.declared.calls.Call.TheVariants as call
 
 -- ---- The right to write stays, and what was accessed and dirty
 
@@ -178,10 +104,8 @@ marks_stored S slot at new =
     (marks_changed S f (λ r d. either (set.contains c.holders r) d bytes))
     (marks_set (map.map_values f S) slot (record c { bytes = bytes; accessed = true; dirty = true })
     (record {
-      write = sym (ap (λ (x : Option Cell). (unwrap_or x (fresh slot true)).write) (get-map_values slot_order f S slot)
-          ∙ by c.holders bytes (map.get S slot));
-      may = sym (ap (λ (x : Option Cell). (unwrap_or x (fresh slot true)).may) (get-map_values slot_order f S slot)
-          ∙ by_may c.holders bytes (map.get S slot));
+      write = grind (arith, get-map_values, by);
+      may = grind (arith, get-map_values, by_may);
       accessed = λ h. refl;
       dirty = λ h. refl;
     }))
@@ -229,60 +153,20 @@ abbrev Keeps : State → State → Event → Type 0
 Keeps s t e = (slot : Slot) (before after : Cell) → map.get s.spaces slot ≡ Some before
     → map.get t.spaces slot ≡ Some after → FlagsChange e slot before after
 
-marked_kept : (e : Event) (slot : Slot) (before after : Cell) → Marked before after → FlagsChange e slot before after
-marked_kept e slot before after m = record { write = inl m.write; marks = (m.accessed, m.dirty) }
-
 marks_keep : (s t : State) (e : Event) → Marks s.spaces t.spaces → Keeps s t e
-marks_keep s t e marks slot before after at_s at_t =
-    let d = marks slot before at_s in
-    subst (λ (x : Cell). FlagsChange e slot before x) (same_Some d.0 after (sym d.1 ∙ at_t))
-    (marked_kept e slot before d.0 d.2)
+marks_keep s t e marks slot before after at_s at_t = grind (arith, same_Some)
 
 without_keep : (s t : State) (e : Event) (gone : Slot → Bool) → t.spaces ≡ without s.spaces gone → Keeps s t e
-without_keep s t e gone is slot before after at_s at_t =
-    by (not (gone slot)) (sym (get-without s.spaces gone slot
-    ∙ ap (λ x. cond (not (gone slot)) (option_map (left gone) x) None) at_s)
-    ∙ sym (ap (λ (S : Spaces). map.get S slot) is) ∙ at_t)
-  where
-    by : (b : Bool) → cond b (Some (left gone before)) None ≡ Some after → FlagsChange e slot before after
-    by true k = subst (λ (x : Cell). FlagsChange e slot before x) (same_Some (left gone before) after k)
-        (record { write = inl refl; marks = (λ h. h, λ h. h) })
-    by false k = cc
+without_keep s t e gone is slot before after at_s at_t = grind (arith, get-without, left, same_Some)
 
 module _ (s : State) (e : Event) (w : IsWellFormed s) where
   all_keep : (t : State) → t.spaces ≡ s.spaces → Keeps s t e
-  all_keep t is slot before after at_s at_t =
-      subst (λ (x : Cell). FlagsChange e slot before x)
-      (same_Some before after (sym at_s ∙ ap (λ (S : Spaces). map.get S slot) (sym is) ∙ at_t))
-      (marked_kept e slot before before (unmarked before))
+  all_keep t is slot before after at_s at_t = grind (arith, same_Some, unmarked)
 
   protect_keeps : (page : ℕ) (write : Bool) → e.call ≡ call.Protect page write
       → Keeps s (after s e.pid (call.Protect page write)) e
-  protect_keeps page write is slot before after_cell at_s at_t = elim (same_cases slot_order slot (at_page e.pid page)) [
-    | inl here ↦ (
-        let c : Cell = cell_or_fresh s.spaces (at_page e.pid page) in
-        let new : Cell = record c { write = write } in
-        let now : new ≡ after_cell = same_Some new after_cell (sym (ap (map.get (after s e.pid
-        (call.Protect page write)).spaces) here.0 ∙ get-inserted s.spaces (at_page e.pid page) new) ∙ at_t) in
-        let was : c ≡ before = ap (λ (o : Option Cell). unwrap_or o (fresh (at_page e.pid page) true))
-        (sym (ap (map.get s.spaces) here.0) ∙ at_s) in
-        record {
-          write = inr (
-            ap (λ (x : Slot). x.pid) here.0,
-            is ∙ (λ i. call.Protect (sym here.0 i).page (now i).write),
-          );
-          marks = (
-            subst (λ (x : Cell). IsTrue before.accessed → IsTrue x.accessed) now
-                (subst (λ (x : Cell). IsTrue x.accessed → IsTrue c.accessed) was (λ h. h)),
-            subst (λ (x : Cell). IsTrue before.dirty → IsTrue x.dirty) now
-                (subst (λ (x : Cell). IsTrue x.dirty → IsTrue c.dirty) was (λ h. h)),
-          );
-        })
-    | inr other ↦ subst (λ (x : Cell). FlagsChange e slot before x)
-        (same_Some before after_cell (sym (get-inserted_other s.spaces (at_page e.pid page)
-        (record (cell_or_fresh s.spaces (at_page e.pid page)) { write = write }) slot other.0 ∙ at_s) ∙ at_t))
-        (marked_kept e slot before before (unmarked before))
-  ]
+  protect_keeps page write is slot before after_cell at_s at_t =
+      grind (arith, same_cases, same_Some, get-inserted, get-inserted_other, unmarked)
 
   accept_keeps : (giver giver_page page : ℕ) → accept_refusal s e.pid giver giver_page page ≡ None
       → Marks s.spaces (after_accept s e.pid giver giver_page page).spaces
@@ -318,12 +202,9 @@ module _ (s : State) (e : Event) (w : IsWellFormed s) where
       (fresh (at_page e.pid page) write) (may_map s e.pid page (not-refused (map_refusal s e.pid page) _ h)).none)
   after_keeps (call.Unmap page) is h = without_keep s (after s e.pid (call.Unmap page)) e (is_slot e.pid page) refl
   after_keeps (call.Protect page write) is h = protect_keeps page write is
-  after_keeps (call.Info page) is h = all_keep s refl
   after_keeps (call.Offer page target write) is h = all_keep (after s e.pid (call.Offer page target write)) refl
   after_keeps (call.Withdraw page target) is h = all_keep (after s e.pid (call.Withdraw page target)) refl
-  after_keeps (call.Accept giver giver_page page) is h =
-      marks_keep s (after_accept s e.pid giver giver_page page) e (accept_keeps giver giver_page page
-      (not-refused (accept_refusal s e.pid giver giver_page page) _ h))
+  after_keeps (call.Accept giver giver_page page) is h = grind (arith, marks_keep, accept_keeps, not-refused)
   after_keeps (call.Spawn quota) is h = all_keep (after s e.pid (call.Spawn quota)) refl
   after_keeps (call.Fork quota) is h =
       let free = child_free s e.pid quota (may_fork s e.pid quota (not-refused (fork_refusal s e.pid quota) _ h)).spawn
@@ -335,7 +216,7 @@ module _ (s : State) (e : Event) (w : IsWellFormed s) where
         unmarked c,
       ))
   after_keeps call.Exit is h = without_keep s (after s e.pid call.Exit) e (is_of e.pid) refl
-  after_keeps call.Quota is h = all_keep s refl
+  after_keeps _ is h = all_keep s refl
 
   next_keeps : Keeps s (next s e) e
   next_keeps = by (completes (answer s e)) refl

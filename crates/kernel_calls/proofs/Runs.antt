@@ -1,31 +1,19 @@
 -- Each event keeps states well formed and leaves the root's entry in the book, and so does every run.
-use Rattle.std.proofs.Common.{◌≡◌, ℕ, ◌+◌, Bool, true, false, refl, sym, ap, subst, ◌∙◌, List, [], ◌∷◌, ◌++◌, Option, Some, None, unwrap_or, arith}
-use Rattle.std.specs.Prelude.{if◌then◌else◌}
-use Rattle.std.specs.Option.{option_map}
-use Rattle.page_words.specs.FiniteMap as map
-use Rattle.quota_tree.specs.Book.{Member, quota_of}
-use Rattle.table_walk.specs.declared.Access.TheVariants.{Read, Write}
-use Rattle.process_table.specs.State.{State, open_with, is_live}
-use Rattle.process_table.specs.Calls.{map_refusal, protect_refusal, offer_refusal, accept_refusal, spawn_refusal, exit_refusal, fork_refusal}
-use Rattle.process_table.specs.WellFormed.{IsWellFormed}
-use Rattle.process_table.specs.declared.causes.Cause.{Cause}
-use Rattle.process_table.specs.declared.causes.Cause.TheVariants as cause
-use Rattle.process_table.proofs.Forks.{well_formed-fork, root-fork}
-use Rattle.process_table.proofs.BookLaws.{well_formed-open, well_formed-unmap, well_formed-spawn, well_formed-exit, root-spawn, root-exit, total-within}
+use Rattle.kernel_calls.proofs.Prelude
+use Prelude.{◌≡◌, ℕ, ◌+◌, Bool, true, false, refl, sym, ap, subst, ◌∙◌, List, [], ◌∷◌, ◌++◌, Option, None, unwrap_or}
+use Prelude.{arith, if◌then◌else◌, option_map, Member, quota_of, Write, State, open_with, is_live, map_refusal}
+use Prelude.{protect_refusal, offer_refusal, accept_refusal, spawn_refusal, exit_refusal, fork_refusal, IsWellFormed}
+use Prelude.{Cause, well_formed-fork, root-fork, well_formed-open, well_formed-unmap, well_formed-spawn}
+use Prelude.{well_formed-exit, root-spawn, root-exit, total-within, well_formed-protect, well_formed-offer}
+use Prelude.{well_formed-withdraw, well_formed-accept, plan_of, step_of, goes_on, Plan, ready, all_user, answer}
+use Prelude.{answer_of, answers, after, next, end_of, completes, refused_or, planned_or, Call, Event, Reply}
 use Rattle.process_table.proofs.SpaceLaws.{well_formed-map, well_formed-load, well_formed-store}
-use Rattle.process_table.proofs.SharingLaws.{well_formed-protect, well_formed-offer, well_formed-withdraw, well_formed-accept}
-use Rattle.fault_handler.specs.Plans.{plan_of, step_of, goes_on}
-use Rattle.fault_handler.specs.declared.plans.Plan.{Plan}
-use Rattle.fault_handler.specs.declared.plans.Plan.TheVariants as plan
-use Rattle.fault_handler.proofs.Settled.{ready, all_user}
-use Rattle.kernel_calls.specs.Machine.{answer, answer_of, answers, after, next, end_of, completes, refused_or, planned_or}
 use Rattle.kernel_calls.specs.Laws.{RunsStayWellFormed}
-use Rattle.kernel_calls.specs.declared.calls.Call.{Call}
-use Rattle.kernel_calls.specs.declared.calls.Call.TheVariants as call
-use Rattle.kernel_calls.specs.declared.calls.Event.{Event}
-use Rattle.kernel_calls.specs.declared.calls.Reply.{Reply}
-use Rattle.kernel_calls.specs.declared.calls.Reply.TheVariants as reply
 use Rattle.kernel_calls.proofs.Decided.{next-stays, next-goes}
+use Rattle.page_words.specs.FiniteMap as map
+use Rattle.process_table.specs.declared.causes.Cause.TheVariants as cause
+use Rattle.kernel_calls.specs.declared.calls.Call.TheVariants as call
+use Rattle.kernel_calls.specs.declared.calls.Reply.TheVariants as reply
 
 -- ---- Runs, one behind another
 
@@ -39,30 +27,24 @@ end_of-append s (x ∷ xs) ys = end_of-append (next s x) xs ys
 
 -- a call that completes has no cause to be refused
 pub not-refused : (x : Option Cause) (r : Reply) → completes (refused_or x r) ≡ true → x ≡ None
-not-refused None r h = refl
-not-refused (Some k) r h = cc
+not-refused x r h = grind arith
 
 -- an access that completes goes on
 pub went-on : (x : Plan) (r : Reply) → completes (planned_or x r) ≡ true → goes_on x ≡ true
-went-on (plan.Refused k) r h = h
-went-on (plan.Fault f) r h = h
-went-on (plan.Ready first second) r h = refl
+went-on x r h = grind arith
 
 -- a well formed state, whose root has the entry that it has in another
 abbrev pub KeepsRoot : State → State → Type 0
 KeepsRoot s t = IsWellFormed t × (map.get t.book 0 ≡ map.get s.book 0)
 
 kept-call : (s : State) (p : ℕ) (c : Call) → IsWellFormed s → is_live s p ≡ true → completes (answer_of s p c) ≡ true → KeepsRoot s (after s p c)
-kept-call s p (call.Load address size) w live h =
-    let g = ready (step_of s p) s p address size Read (went-on (plan_of s p address size Read) _ h) in
-    (well_formed-load s p address size w live (all_user address size g.outside) g.room, refl)
+kept-call s p (call.Load address size) w live h = grind (arith, ready, went-on, well_formed-load, all_user)
 kept-call s p (call.Store address size value) w live h =
     let g = ready (step_of s p) s p address size Write (went-on (plan_of s p address size Write) _ h) in
     (well_formed-store s p address size value w live (all_user address size g.outside) g.room, refl)
 kept-call s p (call.Map page write) w live h = (well_formed-map s p page write w live (not-refused (map_refusal s p page) _ h), refl)
 kept-call s p (call.Unmap page) w live h = (well_formed-unmap s p page w, refl)
 kept-call s p (call.Protect page write) w live h = (well_formed-protect s p page write w live (not-refused (protect_refusal s p page write) _ h), refl)
-kept-call s p (call.Info page) w live h = (w, refl)
 kept-call s p (call.Offer page target write) w live h = (well_formed-offer s p page target write w (not-refused (offer_refusal s p page target write) _ h), refl)
 kept-call s p (call.Withdraw page target) w live h = (well_formed-withdraw s p page target w, refl)
 kept-call s p (call.Accept giver giver_page page) w live h = (well_formed-accept s p giver giver_page page w live (not-refused (accept_refusal s p giver giver_page page) _ h), refl)
@@ -75,14 +57,13 @@ kept-call s p (call.Fork quota) w live h =
 kept-call s p call.Exit w live h =
     let a = not-refused (exit_refusal s p) _ h in
     (well_formed-exit s p w live a, root-exit s p w live a)
-kept-call s p call.Quota w live h = (w, refl)
+kept-call s p _ w live h = (w, refl)
 
 pub kept-next : (s : State) (e : Event) → IsWellFormed s → KeepsRoot s (next s e)
 kept-next s e w = by (completes (answer s e)) refl
   where
     live : (b : Bool) → completes (if b then answer_of s e.pid e.call else reply.Refused cause.NoProcess) ≡ true → (b ≡ true) × (completes (answer_of s e.pid e.call) ≡ true)
-    live true h = (refl, h)
-    live false h = cc
+    live b h = grind arith
 
     by : (b : Bool) → completes (answer s e) ≡ b → KeepsRoot s (next s e)
     by true h = let l = live (is_live s e.pid) h in subst (KeepsRoot s) (sym (next-goes s e h)) (kept-call s e.pid e.call w l.0 l.1)

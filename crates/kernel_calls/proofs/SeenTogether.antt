@@ -1,101 +1,19 @@
 -- What the event of a member does to what all members see depends on what they see alone.
-use Rattle.std.proofs.Common.{
-  ◌≡◌,
-  ◌≢◌,
-  ℕ,
-  ◌+◌,
-  ◌&&◌,
-  ◌||◌,
-  ◌==◌,
-  not,
-  Bool,
-  true,
-  false,
-  cond,
-  refl,
-  sym,
-  ap,
-  subst,
-  ◌∙◌,
-  Option,
-  Some,
-  None,
-  is_some,
-  unwrap_or,
-  arith,
-  inl,
-  inr,
-}
-use Rattle.std.specs.Prelude.{◌⊎◌, if◌then◌else◌}
-use Rattle.std.specs.Option.{option_map}
-use Rattle.std.proofs.lemmas.Bool.{cases_eq, ne_eqb}
-use Rattle.page_words.specs.Addresses.{byte_count, touched}
-use Rattle.page_words.specs.declared.addresses.Size.{Size}
-use Rattle.page_words.specs.FiniteMap as map
-use Rattle.page_words.specs.FiniteMap.{same, nat_order}
-use Rattle.page_words.specs.FiniteSet as set
-use Rattle.page_words.specs.FiniteSet.{Set}
-use Rattle.page_words.proofs.MapLemmas.{same-true, get-insert}
-use Rattle.page_words.proofs.OptionLemmas.{some_value, no_value}
-use Rattle.page_words.proofs.SetLemmas.{same_cases, get-remove}
-use Rattle.address_space.specs.Spaces.{Slot, slot_order, Cell, Spaces, fresh, bytes_of, without, is_slot, is_of, at_page, with_pages, all_accessed, all_stored, copied}
-use Rattle.address_space.proofs.costs.Copied.{copied-own, copied-other}
-use Rattle.quota_tree.specs.Book.{Member, is_child, quota_of, given, number_of_children, next_number}
-use Rattle.quota_tree.proofs.Sums.{given-insert, given-remove, given-none, number-insert, number-remove, number-none}
-use Rattle.page_sharing.specs.Offers.{OfferKey, Offers, offer_order, offer_key}
-use Rattle.process_table.specs.State.{State, is_live, child_of}
-use Rattle.process_table.specs.Calls.{
-  accept_refusal,
-  spawn_refusal,
-  fork_refusal,
-  exit_refusal,
-  offered,
-  after_load,
-  after_store,
-  after_map,
-  after_unmap,
-  after_protect,
-  after_offer,
-  after_withdraw,
-  after_accept,
-  after_spawn,
-  after_fork,
-  after_exit,
-}
-use Rattle.process_table.specs.WellFormed.{IsWellFormed}
-use Rattle.process_table.specs.Apart.{lone}
-use Rattle.process_table.proofs.ApartOthers.{child_free, fork_free, no_page}
-use Rattle.process_table.proofs.BookLaws.{parents_in}
-use Rattle.process_table.proofs.Refusals.{may_accept}
-use Rattle.kernel_calls.specs.Authority.{
-  Flags,
-  flags_of,
-  Shown,
-  shown_of,
-  shares,
-  is_offered,
-  is_child_of,
-  Sees,
-  LooksSame,
-  found,
-  members_after,
-  MembersSeeTheSame,
-}
-use Rattle.kernel_calls.specs.Machine.{answer, answer_of, after, next, completes}
-use Rattle.kernel_calls.specs.declared.calls.Call.{Call}
-use Rattle.kernel_calls.specs.declared.calls.Call.TheVariants as call
-use Rattle.kernel_calls.specs.declared.calls.Event.{Event}
-use Rattle.kernel_calls.proofs.Births.{
-  with_child,
-  own_seen,
-  no_offer_by,
-  no_offer_to,
-  AreLone,
-  none_lone,
-  copy_lone,
-  copy_flags,
-  copy_shown,
-}
+use Rattle.kernel_calls.proofs.Prelude
+use Prelude.{◌≡◌, ◌≢◌, ℕ, ◌+◌, ◌&&◌, ◌||◌, ◌==◌, not, Bool, true, false, cond, refl, sym, ap, subst, ◌∙◌, Option, Some}
+use Prelude.{None, is_some, unwrap_or, arith, inl, inr, ◌⊎◌, option_map, cases_eq, ne_eqb, and_parts, byte_count}
+use Prelude.{touched, Size, same, nat_order, same-true, get-insert, some_value, no_value, same_cases, get-remove, Slot}
+use Prelude.{slot_order, Cell, Spaces, bytes_of, without, is_slot, is_of, at_page, with_pages, all_accessed, all_stored}
+use Prelude.{copied, copied-own, copied-other, Member, is_child, quota_of, given, number_of_children, next_number}
+use Prelude.{given-insert, given-remove, given-none, number-insert, number-remove, number-none, OfferKey, Offers}
+use Prelude.{offer_order, offer_key, State, is_live, child_of, accept_refusal, spawn_refusal, fork_refusal}
+use Prelude.{exit_refusal, offered, after_load, after_store, after_map, after_unmap, after_protect, after_offer}
+use Prelude.{after_withdraw, after_accept, after_spawn, after_fork, after_exit, IsWellFormed, lone, child_free}
+use Prelude.{fork_free, no_page, parents_in, may_accept, Flags, flags_of, Shown, shown_of, shares, is_offered}
+use Prelude.{is_child_of, Sees, LooksSame, found, members_after, MembersSeeTheSame, answer, answer_of, after, next}
+use Prelude.{completes, Call, Event, eqb-true, eq-eqb, or-true}
+use Rattle.kernel_calls.proofs.Births.{with_child, own_seen, no_offer_by, no_offer_to, AreLone, none_lone, copy_lone}
+use Rattle.kernel_calls.proofs.Births.{copy_flags, copy_shown}
 use Rattle.kernel_calls.proofs.Confined.{shared_live}
 use Rattle.kernel_calls.proofs.Decided.{next-stays, next-goes}
 use Rattle.kernel_calls.proofs.Runs.{not-refused}
@@ -103,53 +21,21 @@ use Rattle.kernel_calls.proofs.Seen.{kept_offers, kept_key, no_children, exit_ch
 use Rattle.kernel_calls.proofs.Standings.{live_in, quota_in, given_in, children_in}
 use Rattle.kernel_calls.proofs.Stays.{makes_child, next_live}
 use Rattle.kernel_calls.proofs.Untouched.{caller_live}
-use Rattle.kernel_calls.proofs.Views.{HasTheSame, sees, sees_own, child_is_same, process_told}
-use borrow.Author.Tests.{eqb-true, eq-eqb}
-use Rattle.kernel_calls.proofs.TogetherSpaces.{
-  shares_in,
-  SameSpaces,
-  put_same,
-  pages_same,
-  set_same,
-  accessed_same,
-  all_stored_same,
-  gone_same,
-  joined_same,
-}
+use Rattle.kernel_calls.proofs.Views.{sees, sees_own, child_is_same, process_told}
+use Rattle.kernel_calls.proofs.TogetherSpaces.{shares_in, SameSpaces, put_same, pages_same, set_same, accessed_same}
+use Rattle.kernel_calls.proofs.TogetherSpaces.{all_stored_same, gone_same, joined_same}
+use Rattle.page_words.specs.FiniteMap as map
+use Rattle.page_words.specs.FiniteSet as set
+use Rattle.kernel_calls.specs.declared.calls.Call.TheVariants as call
 
 -- ---- States that look the same
 
 pub weaken : (s t : State) (Q D : ℕ → Bool) → ((p : ℕ) → D p ≡ true → Q p ≡ true) → LooksSame s t Q → LooksSame s t D
-weaken s t Q D less l = record {
-  standing = λ q h. l.standing q (less q h);
-  families = λ p q hp hq d. l.families p q (less p hp) (less q hq) d;
-  flags = λ slot h. l.flags slot (less slot.pid h);
-  offers = λ key h. elim h [
-    | inl by ↦ l.offers key (inl (less key.offerer by))
-    | inr to ↦ l.offers key (inr (less key.target to))
-  ];
-  pages = λ slot v. l.pages slot (v.0, less v.0 v.1, v.2);
-  same_page = λ slot other v o. l.same_page slot other (v.0, less v.0 v.1, v.2) (o.0, less o.0 o.1, o.2);
-}
-
--- so each member has the same
-pub single : (s t : State) (Q : ℕ → Bool) (q : ℕ) → Q q ≡ true → LooksSame s t Q → HasTheSame s t q
-single s t Q q mine l = record {
-  live = ap live_in (l.standing q mine);
-  quota = ap quota_in (l.standing q mine);
-  given = ap given_in (l.standing q mine);
-  children = ap children_in (l.standing q mine);
-  flags = λ page. l.flags (at_page q page) mine;
-  pages = λ page. l.pages (at_page q page) (q, mine, sees_own s q page);
-  same_page = λ page other. l.same_page (at_page q page) (at_page q other) (q, mine, sees_own s q page)
-      (q, mine, sees_own s q other);
-  made = λ page target. l.offers (offer_key q page target) (inl mine);
-}
+weaken s t Q D less l = grind arith
 
 pub told_same : (s t : State) (e : Event) (Q : ℕ → Bool) → LooksSame s t Q → Q e.pid ≡ true
     → found s e.call ≡ found t e.call → answer s e ≡ answer t e
-told_same s t e Q l mine finds = process_told s t e (single s t Q e.pid mine l) finds
-    (λ giver page own is. ap is_some (l.offers (offer_key giver page e.pid) (inr mine)))
+told_same s t e Q l mine finds = grind (arith, process_told, live_in, quota_in, given_in, children_in, sees_own)
 
 spaces_same : (s t : State) (Q : ℕ → Bool) → LooksSame s t Q → SameSpaces Q (Sees s Q) s.spaces t.spaces
 spaces_same s t Q l = record { flags = l.flags; pages = l.pages; groups = l.same_page }
@@ -157,11 +43,7 @@ spaces_same s t Q l = record { flags = l.flags; pages = l.pages; groups = l.same
 -- where no offer is new, nothing new is seen
 fewer_seen : (s u : State) (Q : ℕ → Bool) → ((key : OfferKey) → map.contains_key u.offers key ≡ true
     → map.contains_key s.offers key ≡ true) → (slot : Slot) → Sees u Q slot → Sees s Q slot
-fewer_seen s u Q fewer slot v = (v.0, v.1, by (is_of v.0 slot) v.2)
-  where
-    by : (b : Bool) → (b || is_offered u v.0 slot) ≡ true → (b || is_offered s v.0 slot) ≡ true
-    by true h = refl
-    by false h = fewer (offer_key slot.pid slot.page v.0) h
+fewer_seen s u Q fewer slot v = grind arith
 
 -- where the book stays
 looks : (s t : State) (Q : ℕ → Bool) (S T : Spaces) (O P : Offers) → LooksSame s t Q
@@ -210,11 +92,7 @@ module _ (s t : State) (Q : ℕ → Bool) (q : ℕ) (mine : Q q ≡ true) (l : L
       (pages_same Q q mine (Sees s Q) own_pages s.spaces t.spaces pages (spaces_same s t Q l)))
 
   map_together : (page : ℕ) (write : Bool) → LooksSame (after_map s q page write) (after_map t q page write) Q
-  map_together page write =
-      let c : Cell = fresh (at_page q page) write in
-      looks_spaces s t Q (map.insert s.spaces (at_page q page) c) (map.insert t.spaces (at_page q page) c) l
-      (put_same Q q mine (Sees s Q) own_pages s.spaces t.spaces page c c (spaces_same s t Q l) refl refl
-      (λ other o. refl))
+  map_together page write = grind (arith, looks_spaces, put_same, own_pages, spaces_same)
 
   protect_together : (page : ℕ) (write : Bool) → LooksSame (after_protect s q page write) (after_protect t q page write)
       Q
@@ -235,12 +113,7 @@ module _ (s t : State) (Q : ℕ → Bool) (q : ℕ) (mine : Q q ≡ true) (l : L
       (spaces_same s t Q l))
 
   withdraw_together : (page target : ℕ) → LooksSame (after_withdraw s q page target) (after_withdraw t q page target) Q
-  withdraw_together page target =
-      let stay : OfferKey → Bool = (λ k. not (same offer_order (offer_key q page target) k)) in
-      looks s t Q s.spaces t.spaces (map.retain_keys s.offers stay) (map.retain_keys t.offers stay) l
-      (kept_offers s.offers t.offers stay)
-      (fewer_seen s (after_withdraw s q page target) Q (kept_key s.offers stay))
-      (spaces_same s t Q l)
+  withdraw_together page target = grind (arith, looks, kept_offers, fewer_seen, kept_key, spaces_same)
 
   offer_together : (page target : ℕ) (write : Bool)
       → LooksSame (after_offer s q page target write) (after_offer t q page target write) Q
@@ -254,26 +127,14 @@ module _ (s t : State) (Q : ℕ → Bool) (q : ℕ) (mine : Q q ≡ true) (l : L
       more : (k : OfferKey) → map.get s.offers k ≡ map.get t.offers k
           → map.get (map.insert s.offers (offer_key q page target) write) k ≡ map.get
           (map.insert t.offers (offer_key q page target) write) k
-      more k h = get-insert s.offers (offer_key q page target) write k
-          ∙ (λ i. cond (same offer_order k (offer_key q page target)) (Some write) (h i))
-          ∙ sym (get-insert t.offers (offer_key q page target) write k)
+      more k h = grind (arith, get-insert)
 
       seen : (slot : Slot) → Sees (after_offer s q page target write) Q slot → Sees s Q slot
       seen slot v = by (is_of v.0 slot) refl v.2
         where
           by : (b : Bool) → is_of v.0 slot ≡ b → (b || is_offered (after_offer s q page target write) v.0 slot) ≡ true
               → Sees s Q slot
-          by true is h = (v.0, v.1, ap (λ b. b || is_offered s v.0 slot) is)
-          by false is h = elim (same_cases offer_order (offer_key slot.pid slot.page v.0) (offer_key q page target)) [
-            | inl same_key ↦ own_slots slot (eq-eqb slot.pid q (ap (λ (k : OfferKey). k.offerer) same_key.0))
-            | inr other ↦ (
-              v.0,
-              v.1,
-              ap (λ b. b || is_offered s v.0 slot) is ∙ sym
-                  (ap is_some (get-insert s.offers (offer_key q page target) write (offer_key slot.pid slot.page v.0)
-                  ∙ ap (λ b. cond b (Some write) (map.get s.offers (offer_key slot.pid slot.page v.0))) other.1)) ∙ h,
-            )
-          ]
+          by b is h = grind (arith, same_cases, own_slots, eq-eqb, get-insert)
 
   accept_together : (giver giver_page page : ℕ) → map.contains_key s.offers (offer_key giver giver_page q) ≡ true
       → LooksSame (after_accept s q giver giver_page page) (after_accept t q giver giver_page page) Q
@@ -285,12 +146,8 @@ module _ (s t : State) (Q : ℕ → Bool) (q : ℕ) (mine : Q q ≡ true) (l : L
       (fewer_seen s (after_accept s q giver giver_page page) Q (kept_key s.offers stay))
       (joined_same Q q mine (Sees s Q) own_pages s.spaces t.spaces (at_page giver giver_page) page
       (offered s giver giver_page q) (offered t giver giver_page q) (spaces_same s t Q l)
-      (q, mine, ap (λ b. is_of q (at_page giver giver_page) || b) there ∙ or_yes (is_of q (at_page giver giver_page)))
+      (q, mine, ap (λ b. is_of q (at_page giver giver_page) || b) there ∙ or-true (is_of q (at_page giver giver_page)))
       (ap (λ (x : Option Bool). unwrap_or x false) (l.offers (offer_key giver giver_page q) (inr mine))))
-    where
-      or_yes : (b : Bool) → (b || true) ≡ true
-      or_yes true = refl
-      or_yes false = refl
 
   exit_together : is_live s q ≡ true → exit_refusal s q ≡ None → LooksSame (after_exit s q) (after_exit t q) Q
   exit_together live allowed =
@@ -299,12 +156,7 @@ module _ (s t : State) (Q : ℕ → Bool) (q : ℕ) (mine : Q q ≡ true) (l : L
       in
       let seen = fewer_seen s (after_exit s q) Q (kept_key s.offers stay) in
       record {
-        standing = λ r h. λ i. record {
-          live = live_same r h i;
-          quota = quota_same r h i;
-          given = given_same r h (cases_eq r q) i;
-          children = children_same r h (cases_eq r q) i;
-        };
+        standing = grind (arith, live_same, quota_same, given_same, cases_eq, children_same);
         families = λ p r hp hr d.
             ap (λ (x : Option Member). unwrap_or (option_map (λ (m : Member). is_child p (r, m)) x) false)
             (get-remove s.book q r)
@@ -319,14 +171,12 @@ module _ (s t : State) (Q : ℕ → Bool) (q : ℕ) (mine : Q q ≡ true) (l : L
     where
       by_live : (b : Bool) (p : ℕ) → Q p ≡ true
           → is_some (cond b None (map.get s.book p)) ≡ is_some (cond b None (map.get t.book p))
-      by_live true p h = refl
-      by_live false p h = ap live_in (l.standing p h)
+      by_live b p h = grind (arith, live_in)
 
       by_quota : (b : Bool) (r : ℕ) → Q r ≡ true → unwrap_or
           (option_map (λ (m : Member). m.quota) (cond b None (map.get s.book r))) 0 ≡ unwrap_or
           (option_map (λ (m : Member). m.quota) (cond b None (map.get t.book r))) 0
-      by_quota true r h = refl
-      by_quota false r h = ap quota_in (l.standing r h)
+      by_quota b r h = grind (arith, quota_in)
 
       live_same : (p : ℕ) → Q p ≡ true → map.contains_key (map.remove s.book q) p ≡ map.contains_key (map.remove t.book q) p
       live_same p h = ap is_some (get-remove s.book q p) ∙ by_live (same nat_order p q) p h
@@ -361,8 +211,7 @@ module _ (s t : State) (Q : ℕ → Bool) (q : ℕ) (mine : Q q ≡ true) (l : L
       n = some_value (map.get t.book q) live_t
 
       same_quota : m.0.quota ≡ n.0.quota
-      same_quota = sym (ap (λ (x : Option Member). unwrap_or (option_map (λ (m : Member). m.quota) x) 0) m.1)
-          ∙ ap quota_in (l.standing q mine) ∙ ap (λ (x : Option Member). unwrap_or (option_map (λ (m : Member). m.quota) x) 0) n.1
+      same_quota = grind (arith, m, quota_in, n)
 
       same_parent : (r : ℕ) → Q r ≡ true → r ≢ q → is_child r (q, m.0) ≡ is_child r (q, n.0)
       same_parent r h d =
@@ -372,8 +221,7 @@ module _ (s t : State) (Q : ℕ → Bool) (q : ℕ) (mine : Q q ≡ true) (l : L
 
       given_same : (r : ℕ) → Q r ≡ true → (r ≡ q) ⊎ (r ≢ q)
           → given (map.remove s.book q) r ≡ given (map.remove t.book q) r
-      given_same r h (inl is) = ap (given (map.remove s.book q)) is ∙ exit_given s q live childless
-          ∙ sym (ap (given (map.remove t.book q)) is ∙ exit_given t q live_t childless_t)
+      given_same r h (inl is) = grind (arith, exit_given, childless, live_t, childless_t)
       given_same r h (inr d) =
           let a = given-remove s.book q m.0 m.1 r in
           let b = given-remove t.book q n.0 n.1 r in
@@ -384,8 +232,7 @@ module _ (s t : State) (Q : ℕ → Bool) (q : ℕ) (mine : Q q ≡ true) (l : L
 
       children_same : (r : ℕ) → Q r ≡ true → (r ≡ q) ⊎ (r ≢ q)
           → number_of_children (map.remove s.book q) r ≡ number_of_children (map.remove t.book q) r
-      children_same r h (inl is) = ap (number_of_children (map.remove s.book q)) is ∙ exit_children s q live childless
-          ∙ sym (ap (number_of_children (map.remove t.book q)) is ∙ exit_children t q live_t childless_t)
+      children_same r h (inl is) = grind (arith, exit_children, childless, live_t, childless_t)
       children_same r h (inr d) =
           let a = number-remove s.book q m.0 m.1 r in
           let b = number-remove t.book q n.0 n.1 r in
@@ -398,20 +245,7 @@ module _ (s t : State) (Q : ℕ → Bool) (q : ℕ) (mine : Q q ≡ true) (l : L
 
 -- who is not live has no child
 pub no_parent : (s : State) (k r : ℕ) → IsWellFormed s → is_live s k ≡ false → is_child_of s k r ≡ false
-no_parent s k r w free = by (map.get s.book r) refl
-  where
-    by : (x : Option Member) → map.get s.book r ≡ x
-        → unwrap_or (option_map (λ (m : Member). is_child k (r, m)) x) false ≡ false
-    by None at = refl
-    by (Some m) at = either (not (r == 0)) (m.parent == k) refl
-      where
-        either : (a b : Bool) → (m.parent == k) ≡ b → (a && b) ≡ false
-        either true true is = absurd (
-            let parent = parents_in s w r m at in
-            let live : is_live s k ≡ true = ap (is_live s) (sym (eqb-true m.parent k is)) ∙ ap is_some parent.1 in
-            cc)
-        either true false is = refl
-        either false b is = refl
+no_parent s k r w free = grind (arith, parents_in, eqb-true)
 
 abbrev grown : (ℕ → Bool) → ℕ → ℕ → Bool
 grown Q k p = Q p || (p == k)
@@ -430,21 +264,13 @@ module _ (s t : State) (Q : ℕ → Bool) (q k quota : ℕ) (w : IsWellFormed s)
 
   -- who is not the child was a member
   was : (p : ℕ) → grown Q k p ≡ true → p ≢ k → Q p ≡ true
-  was p h d = by (Q p) (sym (ap (λ b. Q p || b) (ne_eqb p k d)) ∙ h)
-    where
-      by : (b : Bool) → (b || false) ≡ true → b ≡ true
-      by true h = refl
-      by false h = h
+  was p h d = grind (arith, ne_eqb)
 
   here : (slot : Slot) → slot.pid ≡ k → slot ≡ at_page k slot.page
   here slot is = λ i. record { pid = is i; page = slot.page }
 
   old : (slot : Slot) → Sees (with_child s q k quota S) (grown Q k) slot → slot.pid ≢ k → Sees s Q slot
-  old slot u d = elim (cases_eq u.0 k) [
-    | inl is ↦ absurd (d (ap (λ (x : Slot). x.pid)
-        (own_seen s q k quota S w free slot (ap (λ r. sees (with_child s q k quota S) r slot) (sym is) ∙ u.2))))
-    | inr differ ↦ (u.0, was u.0 u.1 differ, u.2)
-  ]
+  old slot u d = grind (arith, cases_eq, own_seen, sees, with_child, was)
 
   group_of : (page : ℕ) (other : Slot) → shares_in S (at_page k page) other ≡ shares_in T (at_page k page) other
   group_of page other = by (map.get S (at_page k page)) (map.get T (at_page k page)) refl refl (pages page)
@@ -453,30 +279,15 @@ module _ (s t : State) (Q : ℕ → Bool) (q k quota : ℕ) (w : IsWellFormed s)
           → option_map shown_of x ≡ option_map shown_of y
           → unwrap_or (option_map (λ (c : Cell). set.contains c.holders other) x) false ≡ unwrap_or
           (option_map (λ (c : Cell). set.contains c.holders other) y) false
-      by None None a b h = refl
-      by None (Some d) a b h = cc
-      by (Some c) None a b h = cc
-      by (Some c) (Some d) a b h = ap (λ (g : Set slot_order). set.contains g other)
-          (alone page c a ∙ sym (alone_too page d b))
+      by x y a b h = grind arith
 
   -- who is not live is in no group
   not_in : (u : State) → IsWellFormed u → is_live u k ≡ false → (slot other : Slot) → other.pid ≡ k → (b : Bool)
       → shares u slot other ≡ b → b ≡ false
-  not_in u x dead slot other is false h = refl
-  not_in u x dead slot other is true h = absurd (let a = (shared_live u slot other x h).1 in let b = ap (is_live u) is
-      ∙ dead in cc)
+  not_in u x dead slot other is b h = grind (arith, shared_live)
 
   no_offers : (key : OfferKey) → (key.offerer ≡ k) ⊎ (key.target ≡ k) → map.get s.offers key ≡ map.get t.offers key
-  no_offers key (inl is) =
-      let at : key ≡ offer_key k key.page key.target =
-      (λ i. record { offerer = is i; page = key.page; target = key.target }) in
-      ap (map.get s.offers) at ∙ no_offer_by s k key.page key.target w free
-      ∙ sym (ap (map.get t.offers) at ∙ no_offer_by t k key.page key.target v free_t)
-  no_offers key (inr is) =
-      let at : key ≡ offer_key key.offerer key.page k =
-      (λ i. record { offerer = key.offerer; page = key.page; target = is i }) in
-      ap (map.get s.offers) at ∙ no_offer_to s key.offerer key.page k w free
-      ∙ sym (ap (map.get t.offers) at ∙ no_offer_to t key.offerer key.page k v free_t)
+  no_offers key h = grind (arith, no_offer_by, no_offer_to)
 
   child_together : LooksSame (with_child s q k quota S) (with_child t q k quota T) (grown Q k)
   child_together = record {
@@ -492,24 +303,17 @@ module _ (s t : State) (Q : ℕ → Bool) (q k quota : ℕ) (w : IsWellFormed s)
       children = (number-insert s.book k child none r ∙ ap (λ n. cond (is_child r (k, child)) 1 0 + n)
           (children_same r h (cases_eq r k)) ∙ sym (number-insert t.book k child none_t r)) i;
     };
-    families = λ p r hp hr d.
-        ap (λ (x : Option Member). unwrap_or (option_map (λ (m : Member). is_child p (r, m)) x) false)
-        (get-insert s.book k child r)
-        ∙ by_family p r hp hr d (same_cases nat_order r k) (cases_eq p k)
-        ∙ sym (ap (λ (x : Option Member). unwrap_or (option_map (λ (m : Member). is_child p (r, m)) x) false)
-        (get-insert t.book k child r));
+    families = grind (arith, get-insert, by_family, same_cases, cases_eq);
     flags = λ slot h. elim (cases_eq slot.pid k) [
       | inl is ↦ subst (λ x. option_map flags_of (map.get S x) ≡ option_map flags_of (map.get T x)) (sym (here slot is))
           (flags slot.page)
-      | inr d ↦ ap (option_map flags_of) (others slot d) ∙ l.flags slot (was slot.pid h d)
-          ∙ sym (ap (option_map flags_of) (others_too slot d))
+      | inr d ↦ grind (arith, was)
     ];
     offers = λ key h. offers_same key h;
     pages = λ slot u. elim (cases_eq slot.pid k) [
       | inl is ↦ subst (λ x. option_map shown_of (map.get S x) ≡ option_map shown_of (map.get T x)) (sym (here slot is))
           (pages slot.page)
-      | inr d ↦ ap (option_map shown_of) (others slot d) ∙ l.pages slot (old slot u d)
-          ∙ sym (ap (option_map shown_of) (others_too slot d))
+      | inr d ↦ grind (arith, old)
     ];
     same_page = λ slot other u x. elim (cases_eq slot.pid k) [
       | inl is ↦ subst (λ y. shares_in S y other ≡ shares_in T y other) (sym (here slot is)) (group_of slot.page other)
@@ -536,11 +340,7 @@ module _ (s t : State) (Q : ℕ → Bool) (q k quota : ℕ) (w : IsWellFormed s)
           ⊎ ((p ≢ k) × (same nat_order p k ≡ false))
           → is_some (cond (same nat_order p k) (Some child) (map.get s.book p)) ≡ is_some
           (cond (same nat_order p k) (Some child) (map.get t.book p))
-      by_live p h (inl is) = ap (λ b. is_some (cond b (Some child) (map.get s.book p))) is.1
-          ∙ sym (ap (λ b. is_some (cond b (Some child) (map.get t.book p))) is.1)
-      by_live p h (inr other) = ap (λ b. is_some (cond b (Some child) (map.get s.book p))) other.1
-          ∙ ap live_in (l.standing p (was p h other.0))
-          ∙ sym (ap (λ b. is_some (cond b (Some child) (map.get t.book p))) other.1)
+      by_live p h k = grind (arith, live_in, was)
 
       by_family : (p r : ℕ) → grown Q k p ≡ true → grown Q k r ≡ true → p ≢ r
           → ((r ≡ k) × (same nat_order r k ≡ true)) ⊎ ((r ≢ k) × (same nat_order r k ≡ false)) → (p ≡ k) ⊎ (p ≢ k)
@@ -548,17 +348,12 @@ module _ (s t : State) (Q : ℕ → Bool) (q k quota : ℕ) (w : IsWellFormed s)
           (cond (same nat_order r k) (Some child) (map.get s.book r))) false ≡ unwrap_or
           (option_map (λ (m : Member). is_child p (r, m))
           (cond (same nat_order r k) (Some child) (map.get t.book r))) false
-      by_family p r hp hr d (inl is) c =
-          ap (λ b. unwrap_or (option_map (λ (m : Member). is_child p (r, m)) (cond b (Some child) (map.get s.book r)))
-          false) is.1
-          ∙ sym (ap (λ b. unwrap_or (option_map (λ (m : Member). is_child p (r, m))
-          (cond b (Some child) (map.get t.book r))) false) is.1)
+      by_family p r hp hr d (inl is) c = grind arith
       by_family p r hp hr d (inr other) c =
           ap (λ b. unwrap_or (option_map (λ (m : Member). is_child p (r, m)) (cond b (Some child) (map.get s.book r)))
           false) other.1
           ∙ (elim c [
-            | inl is ↦ ap (λ x. is_child_of s x r) is ∙ no_parent s k r w free
-                ∙ sym (ap (λ x. is_child_of t x r) is ∙ no_parent t k r v free_t)
+            | inl is ↦ grind (arith, no_parent)
             | inr n ↦ l.families p r (was p hp n) (was r hr other.0) d
           ])
           ∙ sym (ap (λ b. unwrap_or (option_map (λ (m : Member). is_child p (r, m))
@@ -569,15 +364,7 @@ module _ (s t : State) (Q : ℕ → Bool) (q k quota : ℕ) (w : IsWellFormed s)
           → unwrap_or (option_map (λ (m : Member). m.quota) (cond (same nat_order r k) (Some child) (map.get s.book r)))
           0 ≡ unwrap_or (option_map (λ (m : Member). m.quota)
           (cond (same nat_order r k) (Some child) (map.get t.book r))) 0
-      by_quota r h (inl is) = ap (λ b. unwrap_or (option_map (λ (m : Member). m.quota)
-          (cond b (Some child) (map.get s.book r))) 0) is.1
-          ∙ sym (ap (λ b. unwrap_or (option_map (λ (m : Member). m.quota) (cond b (Some child) (map.get t.book r))) 0)
-          is.1)
-      by_quota r h (inr other) =
-          ap (λ b. unwrap_or (option_map (λ (m : Member). m.quota) (cond b (Some child) (map.get s.book r))) 0) other.1
-          ∙ ap quota_in (l.standing r (was r h other.0))
-          ∙ sym (ap (λ b. unwrap_or (option_map (λ (m : Member). m.quota) (cond b (Some child) (map.get t.book r))) 0)
-          other.1)
+      by_quota r h k = grind (arith, quota_in, was)
 
       given_same : (r : ℕ) → grown Q k r ≡ true → (r ≡ k) ⊎ (r ≢ k) → given s.book r ≡ given t.book r
       given_same r h (inl is) = ap (given s.book) is ∙ given-none s.book k none (parents_in s w)
@@ -592,14 +379,7 @@ module _ (s t : State) (Q : ℕ → Bool) (q k quota : ℕ) (w : IsWellFormed s)
 
       offers_same : (key : OfferKey) → (grown Q k key.offerer ≡ true) ⊎ (grown Q k key.target ≡ true)
           → map.get s.offers key ≡ map.get t.offers key
-      offers_same key (inl h) = elim (cases_eq key.offerer k) [
-        | inl is ↦ no_offers key (inl is)
-        | inr d ↦ l.offers key (inl (was key.offerer h d))
-      ]
-      offers_same key (inr h) = elim (cases_eq key.target k) [
-        | inl is ↦ no_offers key (inr is)
-        | inr d ↦ l.offers key (inr (was key.target h d))
-      ]
+      offers_same key h = grind (arith, cases_eq, no_offers, was)
 
 module _ (s t : State) (Q : ℕ → Bool) (q quota : ℕ) (w : IsWellFormed s) (v : IsWellFormed t) (mine : Q q ≡ true)
     (l : LooksSame s t Q) where
@@ -654,12 +434,8 @@ module _ (s t : State) (Q D : ℕ → Bool) (q : ℕ) (w : IsWellFormed s) (v : 
   with_grown : (a b : State) (c : Call) → Small s Q D c → LooksSame a b (grown Q (child_of s)) → LooksSame a b D
   with_grown a b c small = weaken a b (grown Q (child_of s)) D (λ p h. elim (small p h) [
     | inl member ↦ ap (λ x. x || (p == child_of s)) member
-    | inr born ↦ ap (λ x. Q p || x) (eq-eqb p (child_of s) born.0) ∙ or_yes (Q p)
+    | inr born ↦ ap (λ x. Q p || x) (eq-eqb p (child_of s) born.0) ∙ or-true (Q p)
   ])
-    where
-      or_yes : (b : Bool) → (b || true) ≡ true
-      or_yes true = refl
-      or_yes false = refl
 
   with_same : (a b : State) (c : Call) → makes_child c ≡ false → Small s Q D c → LooksSame a b Q → LooksSame a b D
   with_same a b c none small = weaken a b Q D (λ p h. elim (small p h) [
@@ -705,33 +481,11 @@ module _ (s t : State) (Q D : ℕ → Bool) (q : ℕ) (w : IsWellFormed s) (v : 
 
 -- who lives on is a member where it was, and who is new is a child
 module _ (s : State) (Q : ℕ → Bool) (e : Event) where
-  second : (a b : Bool) → (a && b) ≡ true → (a ≡ true) × (b ≡ true)
-  second true b h = (refl, h)
-  second false b h = cc
-
   pub members_small : completes (answer s e) ≡ true → Small s Q (members_after s Q e) e.call
-  members_small done p h = by (is_live s p) refl (second (is_live (next s e) p) (if is_live s p then Q p else Q e.pid)
-      h).0 (second (is_live (next s e) p) (if is_live s p then Q p else Q e.pid) h).1
-    where
-      by : (b : Bool) → is_live s p ≡ b → is_live (next s e) p ≡ true → (if b then Q p else Q e.pid) ≡ true
-          → (Q p ≡ true) ⊎ ((p ≡ child_of s) × (makes_child e.call ≡ true))
-      by true is lives h = inl h
-      by false is lives h = elim (next_live s e p) [
-        | inl same_live ↦ absurd (let x = sym lives ∙ same_live ∙ is in cc)
-        | inr differs ↦ elim differs [
-          | inl born ↦ inr born
-          | inr gone ↦ absurd (let a = (caller_live s e done).0 in let b = ap (is_live s) gone.0 in let c = is in cc)
-        ]
-      ]
+  members_small done p h = grind (arith, and_parts, makes_child, next_live, caller_live)
 
   pub members_stay : completes (answer s e) ≡ false → (p : ℕ) → members_after s Q e p ≡ true → Q p ≡ true
-  members_stay none p h = by (is_live s p) (sym (ap (λ (u : State). is_live u p) (next-stays s e none))
-      ∙ (second (is_live (next s e) p) (if is_live s p then Q p else Q e.pid) h).0)
-      (second (is_live (next s e) p) (if is_live s p then Q p else Q e.pid) h).1
-    where
-      by : (b : Bool) → b ≡ true → (if b then Q p else Q e.pid) ≡ true → Q p ≡ true
-      by true is h = h
-      by false is h = cc
+  members_stay none p h = grind (arith, next-stays, and_parts)
 
 pub members_see_the_same : MembersSeeTheSame
 members_see_the_same s t e Q w v l mine finds = by (completes (answer s e)) refl
@@ -746,7 +500,4 @@ members_see_the_same s t e Q w v l mine finds = by (completes (answer s e)) refl
         subst (λ u. LooksSame u (next t e) (members_after s Q e)) (sym (next-goes s e h))
         (subst (λ u. LooksSame (after s e.pid e.call) u (members_after s Q e)) (sym (next-goes t e (sym told ∙ h)))
         (after_together s t Q (members_after s Q e) e.pid w v mine l e.call (members_small s Q e h) finds c.0 c.1 d.1))
-    by false h =
-        subst (λ u. LooksSame u (next t e) (members_after s Q e)) (sym (next-stays s e h))
-        (subst (λ u. LooksSame s u (members_after s Q e)) (sym (next-stays t e (sym told ∙ h)))
-        (weaken s t Q (members_after s Q e) (members_stay s Q e h) l))
+    by false h = grind (arith, next-stays, told, weaken, members_stay)

@@ -1,17 +1,13 @@
 -- A call that would complete still completes in a run, after events of others.
-use Rattle.std.proofs.Common.{◌≡◌, ℕ, zero, suc, ◌+◌, List, [], ◌∷◌, ◌++◌, take, drop, refl, sym, ap, ◌∙◌, arith, Some, inl, inr}
-use Rattle.process_table.specs.State.{State}
-use Rattle.process_table.specs.WellFormed.{IsWellFormed}
-use Rattle.kernel_calls.specs.Effects.{IsServed}
-use Rattle.kernel_calls.specs.Machine.{answer, answers, end_of, completes}
-use Rattle.kernel_calls.specs.declared.calls.Event.{Event}
+use Rattle.kernel_calls.proofs.Prelude.{◌≡◌, ℕ, zero, suc, ◌+◌, List, [], ◌∷◌, ◌++◌, take, drop, sym, ap, ◌∙◌, arith}
+use Rattle.kernel_calls.proofs.Prelude.{Some, inl, inr, State, IsWellFormed, IsServed, answer, answers, end_of}
+use Rattle.kernel_calls.proofs.Prelude.{completes, Event}
 use Rattle.kernel_calls.proofs.Availability.{runs_never_refuse}
 use Rattle.kernel_calls.proofs.Isolated.{answer_at}
 use Rattle.kernel_calls.proofs.Runs.{end_of-append, kept-run}
 
 take_none : (n : ℕ) → ◌≡◌ {A = List Event} (take n []) []
-take_none zero = refl
-take_none (suc n) = refl
+take_none n = grind arith
 
 -- the first events, and those that come then
 split : (k n : ℕ) (events : List Event) → take (k + n) events ≡ take k events ++ take n (drop k events)

@@ -1,6 +1,5 @@
 -- The parts of how a process stands.
-use Rattle.std.proofs.Common.{ℕ, Bool}
-use Rattle.kernel_calls.specs.Authority.{Standing}
+use Rattle.kernel_calls.proofs.Prelude.{ℕ, Bool, Standing}
 
 abbrev pub live_in : Standing → Bool
 live_in x = x.live

@@ -1,105 +1,23 @@
 -- What stays of a page, whichever process has it, while it is mapped.
-use Rattle.std.proofs.Common.{
-  ◌≡◌,
-  ◌≢◌,
-  ℕ,
-  ◌+◌,
-  ◌&&◌,
-  ◌||◌,
-  not,
-  Bool,
-  true,
-  false,
-  cond,
-  List,
-  [],
-  ◌∷◌,
-  refl,
-  sym,
-  ap,
-  subst,
-  ◌∙◌,
-  Option,
-  Some,
-  None,
-  is_some,
-  unwrap_or,
-  inl,
-  inr,
-}
-use Rattle.std.specs.Prelude.{◌⊎◌, if◌then◌else◌, slice_index}
-use Rattle.std.specs.Option.{option_map}
-use Rattle.std.proofs.lemmas.Bool.{ne_eqb}
-use Rattle.std.proofs.lemmas.Option.{same_Some}
-use Rattle.page_words.specs.Addresses.{offset_number, byte_count, touched}
-use Rattle.page_words.specs.declared.addresses.Size.{Size}
-use Rattle.page_words.specs.FiniteMap as map
-use Rattle.page_words.specs.FiniteMap.{same, nat_order}
-use Rattle.page_words.specs.FiniteSet as set
-use Rattle.page_words.specs.FiniteSet.{Set}
-use Rattle.page_words.proofs.MapLemmas.{same-true, get-insert, get-map_values, contains-retain}
-use Rattle.page_words.proofs.OptionLemmas.{some_value, no_value}
-use Rattle.page_words.proofs.SetLemmas.{same_cases, same_apart, get-remove_other}
-use Rattle.address_space.specs.Spaces.{
-  Slot,
-  slot_order,
-  Cell,
-  Spaces,
-  fresh,
-  cell_or_fresh,
-  with_bytes,
-  write_at,
-  bytes_of,
-  without,
-  is_slot,
-  is_of,
-  at_page,
-  slot_at,
-  accessed,
-  stored,
-  with_page,
-  with_pages,
-  all_accessed,
-  all_stored,
-  copied,
-}
-use Rattle.address_space.proofs.costs.Copied.{copied-other}
-use Rattle.address_space.proofs.steps.Departures.{left, get-without}
-use Rattle.page_sharing.specs.Offers.{offer_key}
-use Rattle.process_table.specs.State.{State, is_live, child_of}
-use Rattle.process_table.specs.Calls.{
-  accept_refusal,
-  fork_refusal,
-  map_refusal,
-  offered,
-  after_load,
-  after_store,
-  after_map,
-  after_unmap,
-  after_protect,
-  after_offer,
-  after_withdraw,
-  after_accept,
-  after_spawn,
-  after_fork,
-  after_exit,
-}
-use Rattle.process_table.specs.WellFormed.{IsWellFormed}
-use Rattle.process_table.proofs.ApartOthers.{child_free, live_differ}
-use Rattle.process_table.proofs.CellLaws.{get-inserted, get-inserted_other}
-use Rattle.process_table.proofs.Forks.{may_fork}
-use Rattle.process_table.proofs.Refusals.{may_accept, may_map}
-use Rattle.process_table.proofs.SharingLaws.{giver_mapped}
-use Rattle.kernel_calls.specs.Authority.{shares, is_offered, IsStoreInto, IsLeave, SharingStays}
-use Rattle.kernel_calls.specs.Machine.{answer, answer_of, after, next, completes}
-use Rattle.kernel_calls.specs.declared.calls.Call.{Call}
-use Rattle.kernel_calls.specs.declared.calls.Call.TheVariants as call
-use Rattle.kernel_calls.specs.declared.calls.Event.{Event}
+use Rattle.kernel_calls.proofs.Prelude
+use Prelude.{◌≡◌, ◌≢◌, ℕ, ◌+◌, ◌||◌, Bool, true, false, List, [], ◌∷◌, refl, sym, ap, subst, ◌∙◌, Option, Some, None}
+use Prelude.{is_some, unwrap_or, inl, inr, arith, ◌⊎◌, if◌then◌else◌, slice_index, option_map, ne_eqb, same_Some}
+use Prelude.{offset_number, byte_count, touched, Size, same, nat_order, Set, same-true, get-insert, get-map_values}
+use Prelude.{contains-retain, some_value, no_value, same_cases, same_apart, get-remove_other, Slot, slot_order, Cell}
+use Prelude.{Spaces, fresh, cell_or_fresh, with_bytes, write_at, bytes_of, without, is_slot, is_of, at_page, slot_at}
+use Prelude.{accessed, stored, with_page, with_pages, all_accessed, all_stored, copied, copied-other, left, get-without}
+use Prelude.{offer_key, State, is_live, child_of, accept_refusal, fork_refusal, map_refusal, offered, after_load}
+use Prelude.{after_store, after_map, after_unmap, after_protect, after_offer, after_withdraw, after_accept, after_spawn}
+use Prelude.{after_fork, after_exit, IsWellFormed, child_free, live_differ, get-inserted, get-inserted_other, may_fork}
+use Prelude.{may_accept, may_map, giver_mapped, shares, is_offered, IsStoreInto, IsLeave, SharingStays, answer}
+use Prelude.{answer_of, after, next, completes, Call, Event, eqb-true}
 use Rattle.kernel_calls.proofs.Decided.{next-stays, next-goes}
 use Rattle.kernel_calls.proofs.Runs.{not-refused}
 use Rattle.kernel_calls.proofs.UntouchedSlots.{store_bytes, Untouched}
 use Rattle.kernel_calls.proofs.Untouched.{caller_live, get_joined, widen, widen_kept}
-use borrow.Author.Tests.{eqb-true}
+use Rattle.page_words.specs.FiniteMap as map
+use Rattle.page_words.specs.FiniteSet as set
+use Rattle.kernel_calls.specs.declared.calls.Call.TheVariants as call
 
 -- ---- Something of a cell that stays
 
@@ -116,37 +34,24 @@ module _ {A : Type 0} (P : Cell → A) where
     where
       by : (x : Option Cell) → map.get T slot ≡ x → option_map P x ≡ Some (P c)
           → option_map P (map.get U slot) ≡ Some (P c)
-      by None at k = cc
-      by (Some d) at k = b slot d at ∙ k
+      by x at k = grind arith
 
   keeps_insert : (S : Spaces) (at : Slot) (x : Cell) → ((c : Cell) → map.get S at ≡ Some c → P x ≡ P c)
       → Keeps P S (map.insert S at x)
-  keeps_insert S at x own slot c h = elim (same_cases slot_order slot at) [
-    | inl is ↦ ap (option_map P) (ap (map.get (map.insert S at x)) is.0 ∙ get-inserted S at x)
-        ∙ ap Some (own c (sym (ap (map.get S) is.0) ∙ h))
-    | inr other ↦ ap (option_map P) (get-inserted_other S at x slot other.0 ∙ h)
-  ]
+  keeps_insert S at x own slot c h = grind (arith, same_cases, get-inserted, get-inserted_other)
 
   keeps_new : (S : Spaces) (at : Slot) (x : Cell) → map.get S at ≡ None → Keeps P S (map.insert S at x)
   keeps_new S at x none = keeps_insert S at x (λ c h. let n = none in absurd (let e : None ≡ Some c = sym n ∙ h in cc))
 
   keeps_set : (S : Spaces) (at : Slot) (x : Cell) → P x ≡ P (cell_or_fresh S at) → Keeps P S (map.insert S at x)
-  keeps_set S at x same = keeps_insert S at x (λ c h. same
-      ∙ ap (λ (o : Option Cell). P (unwrap_or o (fresh at true))) h)
+  keeps_set S at x same = grind (arith, keeps_insert)
 
   keeps_changed : (S : Spaces) (f : Slot → Cell → Cell)
       → ((slot : Slot) (c : Cell) → map.get S slot ≡ Some c → P (f slot c) ≡ P c) → Keeps P S (map.map_values f S)
-  keeps_changed S f same slot c h = ap (option_map P) (get-map_values slot_order f S slot ∙ ap (option_map (f slot)) h)
-      ∙ ap Some (same slot c h)
+  keeps_changed S f same slot c h = grind (arith, get-map_values)
 
   keeps_page : (S : Spaces) (q page : ℕ) → Keeps P S (with_page S q page)
-  keeps_page S q page = by (map.contains_key S (at_page q page)) refl
-    where
-      by : (b : Bool) → map.contains_key S (at_page q page) ≡ b
-          → Keeps P S (if b then S else map.insert S (at_page q page) (fresh (at_page q page) true))
-      by true is = keeps_all S
-      by false is = keeps_new S (at_page q page) (fresh (at_page q page) true)
-          (no_value (map.get S (at_page q page)) is)
+  keeps_page S q page = grind (arith, keeps_all, keeps_new, no_value)
 
   keeps_pages : (S : Spaces) (q : ℕ) (pages : List ℕ) → Keeps P S (with_pages S q pages)
   keeps_pages S q [] = keeps_all S
@@ -230,12 +135,7 @@ Stays s e t = (slot other : Slot) (before after : Cell) → Bystands s e t other
 
 whole_same : (s t : State) (e : Event) (slot other : Slot) (before after : Cell)
     → whole_of other after ≡ whole_of other before → Same s t e slot other before after
-whole_same s t e slot other before after h = record {
-  may = ap (λ (k : Whole). k.0) h;
-  group =
-      ap (λ (k : Whole). k.1.1) h;
-  bytes = λ place. inl (ap (λ (k : Whole). slice_index k.1.0 place) h);
-}
+whole_same s t e slot other before after h = grind arith
 
 kept_stays : (s : State) (e : Event) (t : State)
     → ((other : Slot) → Bystands s e t other → Keeps (whole_of other) s.spaces t.spaces) → Stays s e t
@@ -246,45 +146,14 @@ kept_stays s e t keeps slot other before after o at_s at_t =
 without_stays : (s : State) (e : Event) (t : State) (gone : Slot → Bool) → t.spaces ≡ without s.spaces gone
     → ((other : Slot) → other.pid ≢ e.pid → gone other ≡ false) → Stays s e t
 without_stays s e t gone is stays slot other before after o at_s at_t =
-    by (not (gone slot)) (sym (get-without s.spaces gone slot
-    ∙ ap (λ x. cond (not (gone slot)) (option_map (left gone) x) None) at_s)
-    ∙ sym (ap (λ (S : Spaces). map.get S slot) is) ∙ at_t)
-  where
-    and_true : (b : Bool) → (b && true) ≡ b
-    and_true true = refl
-    and_true false = refl
-
-    stays_too : gone other ≡ false
-    stays_too = elim o [
-      | inl apart ↦ stays other apart
-      | inr there ↦ not_gone (gone other) refl (sym
-          (ap is_some (ap (λ (S : Spaces). map.get S other) is ∙ get-without s.spaces gone other)) ∙ there.1)
-    ]
-      where
-        not_gone : (b : Bool) → gone other ≡ b → is_some
-            (cond (not (gone other)) (option_map (left gone) (map.get s.spaces other)) None) ≡ true → b ≡ false
-        not_gone false h k = refl
-        not_gone true h k = absurd (let f : is_some (cond (not (gone other))
-            (option_map (left gone) (map.get s.spaces other)) None) ≡ false =
-            ap (λ b. is_some (cond (not b) (option_map (left gone) (map.get s.spaces other)) None)) h in cc)
-
-    same_whole : whole_of other (left gone before) ≡ whole_of other before
-    same_whole = ap (λ b. (before.may, (before.bytes, b)))
-        (contains-retain before.holders (λ s. not (gone s)) other
-        ∙ ap (λ b. set.contains before.holders other && not b) stays_too ∙ and_true (set.contains before.holders other))
-
-    by : (b : Bool) → cond b (Some (left gone before)) None ≡ Some after → Same s t e slot other before after
-    by true k = whole_same s t e slot other before after
-        (ap (whole_of other) (sym (same_Some (left gone before) after k)) ∙ same_whole)
-    by false k = cc
+    grind (arith, get-without, left, contains-retain, whole_same, same_Some)
 
 module _ (s : State) (e : Event) (w : IsWellFormed s) (live : is_live s e.pid ≡ true) where
   abbrev q : ℕ
   q = e.pid
 
   all_stay : (t : State) → t.spaces ≡ s.spaces → Stays s e t
-  all_stay t is = kept_stays s e t (λ other o slot c h.
-      ap (option_map (whole_of other)) (ap (λ (S : Spaces). map.get S slot) is ∙ h))
+  all_stay t is = grind (arith, kept_stays)
 
   load_stays : (addr : ℕ) (size : Size) → Stays s e (after_load s e.pid addr size)
   load_stays addr size =
@@ -310,9 +179,7 @@ module _ (s : State) (e : Event) (w : IsWellFormed s) (live : is_live s e.pid �
         may = ap (λ (k : Rest). k.0) rest;
         group = ap (λ (k : Rest). k.1) rest;
         bytes = λ place. elim (store_bytes s e addr value size is w live done slot before place at_s) [
-          | inl same_byte ↦ inl (
-              sym (ap (λ (x : Option Cell). slice_index (unwrap_or x (fresh slot true)).bytes place) at_t) ∙ same_byte
-              ∙ ap (λ (x : Option Cell). slice_index (unwrap_or x (fresh slot true)).bytes place) at_s)
+          | inl same_byte ↦ grind arith
           | inr into ↦ inr into
         ];
       }
@@ -334,14 +201,7 @@ module _ (s : State) (e : Event) (w : IsWellFormed s) (live : is_live s e.pid �
     where
       not_new : (other : Slot) → Bystands s e (after_accept s e.pid giver giver_page page) other
           → other ≢ at_page e.pid page
-      not_new other o is = elim o [
-        | inl apart ↦ apart (ap (λ (x : Slot). x.pid) is)
-        | inr there ↦ (
-            let t = there.0 in
-            let f : map.contains_key s.spaces other ≡ false =
-            ap is_some (ap (map.get s.spaces) is ∙ (may_accept s e.pid giver giver_page page allowed).none) in
-            cc)
-      ]
+      not_new other o is = grind (arith, may_accept)
 
   after_stays : (c : Call) → e.call ≡ c → completes (answer_of s e.pid c) ≡ true → Stays s e (after s e.pid c)
   after_stays (call.Load addr size) is h = load_stays addr size
@@ -357,7 +217,6 @@ module _ (s : State) (e : Event) (w : IsWellFormed s) (live : is_live s e.pid �
       kept_stays s e (after_protect s e.pid page write)
       (λ other o. keeps_set (whole_of other) s.spaces (at_page e.pid page)
       (record (cell_or_fresh s.spaces (at_page e.pid page)) { write = write }) refl)
-  after_stays (call.Info page) is h = all_stay s refl
   after_stays (call.Offer page target write) is h = all_stay (after_offer s e.pid page target write) refl
   after_stays (call.Withdraw page target) is h = all_stay (after_withdraw s e.pid page target) refl
   after_stays (call.Accept giver giver_page page) is h =
@@ -371,7 +230,7 @@ module _ (s : State) (e : Event) (w : IsWellFormed s) (live : is_live s e.pid �
       (live_differ s slot.pid (child_of s) (w.owners slot c k) free) ∙ k))
   after_stays call.Exit is h = without_stays s e (after_exit s e.pid) (is_of e.pid) refl
       (λ other o. ne_eqb other.pid e.pid o)
-  after_stays call.Quota is h = all_stay s refl
+  after_stays _ is h = all_stay s refl
 
 -- after any event, at a slot that is mapped before and after it
 pub next_stays : (s : State) (e : Event) → IsWellFormed s → Stays s e (next s e)
@@ -380,8 +239,7 @@ next_stays s e w = by (completes (answer s e)) refl
     by : (b : Bool) → completes (answer s e) ≡ b → Stays s e (next s e)
     by true h = let l = caller_live s e h in subst (Stays s e) (sym (next-goes s e h))
         (after_stays s e w l.0 e.call refl l.1)
-    by false h = subst (Stays s e) (sym (next-stays s e h))
-        (kept_stays s e s (λ other o slot c k. ap (option_map (whole_of other)) k))
+    by false h = grind (arith, next-stays, kept_stays)
 
 -- ---- Slots that go
 
@@ -390,18 +248,12 @@ kept_there : {A : Type 0} (P : Cell → A) (S T : Spaces) → Keeps P S T → (s
 kept_there P S T keeps slot c at = by (map.get T slot) (keeps slot c at)
   where
     by : (x : Option Cell) → option_map P x ≡ Some (P c) → is_some x ≡ true
-    by None h = cc
-    by (Some d) h = refl
+    by x h = grind arith
 
 -- a slot of spaces that some leave is there, or leaves
 without_or : (S : Spaces) (gone : Slot → Bool) (slot : Slot) (c : Cell) → map.get S slot ≡ Some c
     → (map.contains_key (without S gone) slot ≡ true) ⊎ (gone slot ≡ true)
-without_or S gone slot c at = by (gone slot) refl
-  where
-    by : (b : Bool) → gone slot ≡ b → (map.contains_key (without S gone) slot ≡ true) ⊎ (b ≡ true)
-    by true is = inr refl
-    by false is = inl (ap is_some (get-without S gone slot)
-        ∙ (λ i. is_some (cond (not (is i)) (option_map (left gone) (at i)) None)))
+without_or S gone slot c at = grind (arith, get-without, left)
 
 module _ (s : State) (e : Event) (w : IsWellFormed s) (slot : Slot) (cell : Cell)
     (at : map.get s.spaces slot ≡ Some cell) where
@@ -428,23 +280,11 @@ module _ (s : State) (e : Event) (w : IsWellFormed s) (slot : Slot) (cell : Cell
       inl (kept_there may_of s.spaces (map.insert s.spaces (at_page e.pid page) new)
       (keeps_new may_of s.spaces (at_page e.pid page) new
       (may_map s e.pid page (not-refused (map_refusal s e.pid page) _ h)).none) slot cell at)
-  after_leaves (call.Unmap page) is h = elim (without_or s.spaces (is_slot e.pid page) slot cell at) [
-    | inl there ↦ inl there
-    | inr goes ↦ (
-        let same_slot : at_page e.pid page ≡ slot = same-true slot_order (at_page e.pid page) slot goes in
-        inr (record {
-          own = ap (λ (x : Slot). x.pid) (sym same_slot);
-          how =
-              inl (is ∙ ap (λ (x : Slot). call.Unmap x.page) same_slot);
-        }))
-  ]
+  after_leaves (call.Unmap page) is h = grind (arith, without_or, same-true)
   after_leaves (call.Protect page write) is h =
       let c : Cell = record (cell_or_fresh s.spaces (at_page e.pid page)) { write = write } in
       inl (kept_there may_of s.spaces (map.insert s.spaces (at_page e.pid page) c)
       (keeps_set may_of s.spaces (at_page e.pid page) c refl) slot cell at)
-  after_leaves (call.Info page) is h = inl (ap is_some at)
-  after_leaves (call.Offer page target write) is h = inl (ap is_some at)
-  after_leaves (call.Withdraw page target) is h = inl (ap is_some at)
   after_leaves (call.Accept giver giver_page page) is h =
       let may = may_accept s e.pid giver giver_page page
       (not-refused (accept_refusal s e.pid giver giver_page page) _ h) in
@@ -454,26 +294,16 @@ module _ (s : State) (e : Event) (w : IsWellFormed s) (slot : Slot) (cell : Cell
       ∙ may.none in cc) in
       inl (ap is_some (get_joined s e.pid giver giver_page page right w g.0 g.1 slot apart
       ∙ ap (option_map (widen s e.pid giver giver_page page right w g.0 g.1 slot)) at))
-  after_leaves (call.Spawn quota) is h = inl (ap is_some at)
   after_leaves (call.Fork quota) is h =
       let free = child_free s e.pid quota (may_fork s e.pid quota (not-refused (fork_refusal s e.pid quota) _ h)).spawn
       in
       inl (ap is_some (copied-other s.spaces e.pid (child_of s) slot
       (live_differ s slot.pid (child_of s) (w.owners slot cell at) free) ∙ at))
-  after_leaves call.Exit is h = elim (without_or s.spaces (is_of e.pid) slot cell at) [
-    | inl there ↦ inl there
-    | inr goes ↦ inr (record { own = eqb-true slot.pid e.pid goes; how = inr is })
-  ]
-  after_leaves call.Quota is h = inl (ap is_some at)
+  after_leaves call.Exit is h = grind (arith, without_or, eqb-true)
+  after_leaves _ is h = inl (ap is_some at)
 
   pub next_leaves : (map.contains_key (next s e).spaces slot ≡ true) ⊎ IsLeave e slot
-  next_leaves = by (completes (answer s e)) refl
-    where
-      by : (b : Bool) → completes (answer s e) ≡ b → (map.contains_key (next s e).spaces slot ≡ true) ⊎ IsLeave e slot
-      by true h = let l = caller_live s e h in subst
-          (λ (t : State). (map.contains_key t.spaces slot ≡ true) ⊎ IsLeave e slot) (sym (next-goes s e h))
-          (after_leaves e.call refl l.1)
-      by false h = inl (ap (λ (t : State). map.contains_key t.spaces slot) (next-stays s e h) ∙ ap is_some at)
+  next_leaves = grind (arith, caller_live, next-goes, after_leaves, next-stays)
 
 pub sharing_stays : SharingStays
 sharing_stays s e slot other w h = by (map.get s.spaces slot) refl h
@@ -486,11 +316,7 @@ sharing_stays s e slot other w h = by (map.get s.spaces slot) refl h
       | inr goes ↦ inr (inl goes)
       | inl there ↦ elim (next_leaves s e w other o.0 o.1) [
         | inr goes ↦ inr (inr goes)
-        | inl also ↦ (
-            let d = some_value (map.get (next s e).spaces slot) there in
-            inl (ap (λ (x : Option Cell). unwrap_or (option_map (λ (c : Cell). set.contains c.holders other) x) false)
-            d.1
-            ∙ (next_stays s e w slot other c d.0 (inr (ap is_some o.1, also)) at d.1).group ∙ k))
+        | inl also ↦ grind (arith, some_value, next_stays, o)
       ]
     ]
       where
@@ -529,27 +355,17 @@ child_live : (s : State) (e : Event) (quota : ℕ) (S : Spaces) → makes_child 
     }) e
 child_live s e quota S makes p = elim (same_cases nat_order p (child_of s)) [
   | inl is ↦ inr (inl (is.0, makes))
-  | inr other ↦ inl (ap is_some (get-insert s.book (child_of s) (record { parent = e.pid; quota = quota }) p
-      ∙ ap (λ b. cond b (Some (record { parent = e.pid; quota = quota })) (map.get s.book p)) other.1))
+  | inr other ↦ grind (arith, get-insert)
 ]
 
 after_live : (s : State) (e : Event) (c : Call) → e.call ≡ c → LiveBut s (after s e.pid c) e
-after_live s e (call.Load addr size) is = λ p. inl refl
-after_live s e (call.Store addr size value) is = λ p. inl refl
-after_live s e (call.Map page write) is = λ p. inl refl
-after_live s e (call.Unmap page) is = λ p. inl refl
-after_live s e (call.Protect page write) is = λ p. inl refl
-after_live s e (call.Info page) is = λ p. inl refl
-after_live s e (call.Offer page target write) is = λ p. inl refl
-after_live s e (call.Withdraw page target) is = λ p. inl refl
-after_live s e (call.Accept giver giver_page page) is = λ p. inl refl
 after_live s e (call.Spawn quota) is = child_live s e quota s.spaces (ap makes_child is)
 after_live s e (call.Fork quota) is = child_live s e quota (copied s.spaces e.pid (child_of s)) (ap makes_child is)
 after_live s e call.Exit is = λ p. elim (same_cases nat_order p e.pid) [
   | inl same_number ↦ inr (inr (same_number.0, is))
   | inr other ↦ inl (ap is_some (get-remove_other s.book e.pid p other.0))
 ]
-after_live s e call.Quota is = λ p. inl refl
+after_live s e _ is = λ p. inl refl
 
 pub next_live : (s : State) (e : Event) → LiveBut s (next s e) e
 next_live s e = by (completes (answer s e)) refl

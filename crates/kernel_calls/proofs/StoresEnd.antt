@@ -1,30 +1,19 @@
 -- What changes of one page leave of the translations that processors keep.
-use Rattle.std.proofs.Common.{◌≡◌, ◌≢◌, ℕ, ◌+◌, ◌-◌, ◌<◌, ◌≤◌, ◌==◌, ◌&&◌, Bool, true, false, List, refl, sym, ap, ◌∙◌, is_some, Option, Some, None, length, arith}
-use Rattle.std.specs.Prelude.{if◌then◌else◌, nat_le}
-use Rattle.std.specs.Option.{option_map}
-use Rattle.std.proofs.lemmas.Bool.{eq-eqb, leb-true}
-use Rattle.std.proofs.lemmas.Option.{same_Some}
-use Rattle.page_words.specs.Addresses.{page_number, offset_number}
-use Rattle.page_words.specs.FiniteMap as map
-use Rattle.page_words.specs.FiniteSet as set
-use Rattle.page_words.proofs.MapLemmas.{same_itself, get-map_values}
-use Rattle.page_words.proofs.OptionLemmas.{some_value}
-use Rattle.table_walk.specs.Walk.{walk_of}
-use Rattle.address_space.specs.Spaces.{Slot, slot_order, Cell, Spaces, cell_or_fresh, with_bytes, set_bytes, write_at, stored, is_slot, at_page, slot_at}
-use Rattle.address_space.specs.Stays.{Gone, FramesStay}
-use Rattle.process_table.specs.Image.{StandsFor, image_of, memory_of}
-use Rattle.process_table.specs.View.{View}
-use Rattle.process_table.proofs.CellLaws.{get-inserted_other}
-use Rattle.kernel_calls.specs.Cleaned.{EndsMarks}
-use Rattle.kernel_calls.specs.Transfers.{of_lazy_pages}
-use Rattle.kernel_calls.specs.Translations.{is_ended, is_all_of}
-use Rattle.kernel_calls.specs.declared.translations.Ended.{Ended}
-use Rattle.kernel_calls.specs.declared.translations.Ended.TheVariants as end
+use Rattle.kernel_calls.proofs.Prelude
+use Prelude.{◌≡◌, ◌≢◌, ℕ, ◌+◌, ◌-◌, ◌<◌, ◌≤◌, ◌==◌, ◌&&◌, Bool, true, false, List, refl, sym, ap, ◌∙◌, is_some, Option}
+use Prelude.{Some, None, length, arith, if◌then◌else◌, nat_le, option_map, eq-eqb, leb-true, same_Some, page_number}
+use Prelude.{offset_number, same_itself, get-map_values, some_value, walk_of, Slot, slot_order, Cell, Spaces}
+use Prelude.{cell_or_fresh, with_bytes, set_bytes, write_at, stored, is_slot, at_page, slot_at, Gone, FramesStay}
+use Prelude.{StandsFor, image_of, memory_of, View, get-inserted_other, EndsMarks, of_lazy_pages, is_ended, is_all_of}
+use Prelude.{Ended, and-false}
 use Rattle.kernel_calls.proofs.Flags.{has}
 use Rattle.kernel_calls.proofs.Leaving.{Standing}
 use Rattle.kernel_calls.proofs.Linked.{mapped_way, tables_map}
 use Rattle.kernel_calls.proofs.Translated.{walk_takes, walk_finds, has_right}
 use Rattle.kernel_calls.proofs.Unmaps.{slot_test}
+use Rattle.page_words.specs.FiniteMap as map
+use Rattle.page_words.specs.FiniteSet as set
+use Rattle.kernel_calls.specs.declared.translations.Ended.TheVariants as end
 
 -- ---- One change after another
 
@@ -33,9 +22,7 @@ pub marks_same : (ended : Ended) (v : View) → StandsFor (image_of v) v.state �
 marks_same ended v image = record {
   translations = λ q d a f access small spared gives. gives;
   slots = λ slot spared there. there;
-  flags = λ slot c d spared was is.
-      let one : c ≡ d = same_Some c d (sym was ∙ is) in
-      (λ h. ap (λ (x : Cell). x.accessed) (sym one) ∙ h, λ h. ap (λ (x : Cell). x.dirty) (sym one) ∙ h);
+  flags = grind (arith, same_Some);
   directories = λ q d some live. live;
   tables = λ slot t spared there linked. linked;
   linked = tables_map v image;
@@ -57,11 +44,7 @@ pub marks_then : (ended : Ended) (v u w : View) → EndsMarks ended v u → Ends
 marks_then ended v u w first second = record {
   translations = λ q d a f access small spared gives. second.translations q d a f access small spared (first.translations q d a f access small spared gives);
   slots = λ slot spared there. second.slots slot spared (first.slots slot spared there);
-  flags = λ slot c d spared was is.
-      let x = some_value (map.get u.state.spaces slot) (first.slots slot spared (ap is_some was)) in
-      let a = first.flags slot c x.0 spared was x.1 in
-      let b = second.flags slot x.0 d spared x.1 is in
-      (λ h. b.0 (a.0 h), λ h. b.1 (a.1 h));
+  flags = grind (arith, some_value);
   directories = λ q d some live. second.directories q d some (first.directories q d some live);
   tables = λ slot t spared there linked. second.tables slot t spared (first.slots slot spared there) (first.tables slot t spared there linked);
   linked = first.linked;
@@ -74,14 +57,10 @@ abbrev marks_of : Cell → Bool × Bool × Bool
 marks_of c = (c.write, c.accessed, c.dirty)
 
 write_kept : (x y : Option Cell) → option_map marks_of y ≡ option_map marks_of x → has (λ c. c.write) x ≡ true → has (λ c. c.write) y ≡ true
-write_kept None y same h = cc
-write_kept (Some c) None same h = cc
-write_kept (Some c) (Some d) same h = ap (λ (m : Bool × Bool × Bool). m.0) (same_Some (marks_of d) (marks_of c) same) ∙ h
+write_kept x y same h = grind (arith, same_Some)
 
 mapped_kept : (x y : Option Cell) → option_map marks_of y ≡ option_map marks_of x → is_some x ≡ true → is_some y ≡ true
-mapped_kept None y same h = cc
-mapped_kept (Some c) None same h = cc
-mapped_kept (Some c) (Some d) same h = refl
+mapped_kept x y same h = grind arith
 
 pub page_ends : (gone : Gone) (v w : View) (p page : ℕ) → Standing v → Standing w → FramesStay gone (memory_of v) (memory_of w)
     → ((slot : Slot) (f : ℕ) → is_slot p page slot ≡ false → gone slot f ≡ false) → ((q : ℕ) → gone (at_page q 0) 1 ≡ false)
@@ -100,9 +79,7 @@ page_ends gone v w p page now later stay own some_way same = record {
             (write_kept (map.get v.state.spaces slot) (map.get w.state.spaces slot) (same slot spared) right.0, later.ways.lazy slot d f way' ∙ sym (now.ways.lazy slot d f way) ∙ right.1)),
       );
   slots = λ slot spared there. mapped_kept (map.get v.state.spaces slot) (map.get w.state.spaces slot) (same slot spared) there;
-  flags = λ slot c d spared was is.
-      let one = same_Some (marks_of d) (marks_of c) (sym (ap (option_map marks_of) is) ∙ same slot spared ∙ ap (option_map marks_of) was) in
-      (λ h. ap (λ (m : Bool × Bool × Bool). m.1) one ∙ h, λ h. ap (λ (m : Bool × Bool × Bool). m.2) one ∙ h);
+  flags = grind (arith, same_Some);
   directories = λ q d some live. stay.directories q d (record { page = 0; frame = 1; stays = some_way q }) live;
   tables = λ slot t spared there linked.
       let way = mapped_way v now.image slot there in
@@ -130,25 +107,7 @@ marks_stored S at place bytes slot apart =
 -- the lazy pages in which bytes of one page lie are that page
 lazy_apart : (p a count : ℕ) (slot : Slot) (f : ℕ) → offset_number a + count ≤ 4096 → 0 < count → is_slot p (page_number a) slot ≡ false
     → of_lazy_pages p a count slot f ≡ false
-lazy_apart p a count slot f within some apart =
-    by (slot.pid == p) (nat_le (page_number a) slot.page) (nat_le slot.page (page_number (a + count - 1))) refl refl refl
-  where
-    by : (x y z : Bool) → (slot.pid == p) ≡ x → nat_le (page_number a) slot.page ≡ y → nat_le slot.page (page_number (a + count - 1)) ≡ z
-        → of_lazy_pages p a count slot f ≡ false
-    by false y z h k l = ap (λ b. (b && (nat_le (page_number a) slot.page && nat_le slot.page (page_number (a + count - 1)))) && (f == 0)) h
-    by true false z h k l = (λ i. (h i && (k i && nat_le slot.page (page_number (a + count - 1)))) && (f == 0))
-    by true true false h k l = (λ i. (h i && (k i && l i)) && (f == 0))
-    by true true true h k l =
-        let same : page_number (a + count - 1) ≡ page_number a = omega (arith, within, some) in
-        let low = leb-true (page_number a) slot.page k in
-        let high = leb-true slot.page (page_number (a + count - 1)) l in
-        let here : slot.page ≡ page_number a = omega (arith, same, low, high) in
-        let is = slot_test p (page_number a) slot.pid slot.page ∙ (λ i. h i && eq-eqb slot.page (page_number a) here i) in
-        absurd (let t : false ≡ true = sym apart ∙ is in cc)
-
-and_false : (b : Bool) → (b && false) ≡ false
-and_false true = refl
-and_false false = refl
+lazy_apart p a count slot f within some apart = grind (arith, leb-true, slot_test, eq-eqb)
 
 pub stores_end : (v w : View) (p a : ℕ) (bytes : List ℕ) → Standing v → Standing w → offset_number a + length bytes ≤ 4096 → 0 < length bytes
     → w.state.spaces ≡ stored v.state.spaces (slot_at p a) (offset_number a) bytes
@@ -156,7 +115,7 @@ pub stores_end : (v w : View) (p a : ℕ) (bytes : List ℕ) → Standing v → 
 stores_end v w p a bytes now later within some state stay =
     page_ends (of_lazy_pages p a (length bytes)) v w p (page_number a) now later stay
     (λ slot f spared. lazy_apart p a (length bytes) slot f within some spared)
-    (λ q. and_false ((q == p) && (nat_le (page_number a) 0 && nat_le 0 (page_number (a + length bytes - 1)))))
+    (λ q. and-false ((q == p) && (nat_le (page_number a) 0 && nat_le 0 (page_number (a + length bytes - 1)))))
     (λ slot spared. ap (λ S. option_map marks_of (map.get S slot)) state
     ∙ marks_stored v.state.spaces (slot_at p a) (offset_number a) bytes slot (λ e. absurd (
     let t : is_slot p (page_number a) slot ≡ true = ap (is_slot p (page_number a)) e ∙ same_itself slot_order (slot_at p a) in

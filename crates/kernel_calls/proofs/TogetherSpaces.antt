@@ -1,71 +1,15 @@
 -- Spaces that look the same to a set of processes.
-use Rattle.std.proofs.Common.{
-  ◌≡◌,
-  ◌≢◌,
-  ℕ,
-  ◌+◌,
-  ◌&&◌,
-  ◌||◌,
-  not,
-  Bool,
-  true,
-  false,
-  cond,
-  List,
-  [],
-  ◌∷◌,
-  length,
-  filter,
-  refl,
-  sym,
-  ap,
-  ◌∙◌,
-  Option,
-  Some,
-  None,
-  is_some,
-  unwrap_or,
-  arith,
-  inl,
-  inr,
-}
-use Rattle.std.specs.Prelude.{◌⊎◌, if◌then◌else◌}
-use Rattle.std.specs.Option.{option_map}
-use Rattle.std.proofs.lemmas.Option.{same_Some}
-use Rattle.page_words.specs.Addresses.{page_number, offset_number}
+use Rattle.kernel_calls.proofs.Prelude
+use Prelude.{◌≡◌, ◌≢◌, ℕ, ◌+◌, ◌&&◌, ◌||◌, not, Bool, true, false, cond, List, [], ◌∷◌, length, filter, refl, sym, ap}
+use Prelude.{◌∙◌, Option, Some, None, is_some, unwrap_or, arith, inl, inr, ◌⊎◌, if◌then◌else◌, option_map, same_Some}
+use Prelude.{page_number, offset_number, same, Set, get-map_values, contains-insert, contains-retain, same_set}
+use Prelude.{is_some-map, same_cases, Slot, slot_order, Cell, Spaces, fresh, cell_or_fresh, with_bytes, with_holders}
+use Prelude.{set_bytes, set_holders, write_at, without, at_page, slot_at, accessed, stored, with_page, with_pages}
+use Prelude.{all_accessed, all_stored, joined, left, get-without, get-inserted, get-inserted_other, Flags, flags_of}
+use Prelude.{Shown, shown_of}
+use Rattle.page_words.proofs.MapLemmas.{len-insert}
 use Rattle.page_words.specs.FiniteMap as map
-use Rattle.page_words.specs.FiniteMap.{same}
 use Rattle.page_words.specs.FiniteSet as set
-use Rattle.page_words.specs.FiniteSet.{Set}
-use Rattle.page_words.proofs.MapLemmas.{get-map_values, contains-insert, contains-retain, len-insert, same_set}
-use Rattle.page_words.proofs.OptionLemmas.{is_some-map}
-use Rattle.page_words.proofs.SetLemmas.{same_cases}
-use Rattle.address_space.specs.Spaces.{
-  Slot,
-  slot_order,
-  Cell,
-  Spaces,
-  fresh,
-  cell_or_fresh,
-  with_bytes,
-  with_holders,
-  set_bytes,
-  set_holders,
-  write_at,
-  without,
-  at_page,
-  slot_at,
-  accessed,
-  stored,
-  with_page,
-  with_pages,
-  all_accessed,
-  all_stored,
-  joined,
-}
-use Rattle.address_space.proofs.steps.Departures.{left, get-without}
-use Rattle.process_table.proofs.CellLaws.{get-inserted, get-inserted_other}
-use Rattle.kernel_calls.specs.Authority.{Flags, flags_of, Shown, shown_of}
 
 -- ---- How many of a set pass a test, and how many don't
 
@@ -81,8 +25,7 @@ split_list p (e ∷ es) = by (p e.0) (split_list p es)
         (filter (λ (e : Slot × Unit {0}). p e.0) es)) + length
         (cond (not b) (e ∷ filter (λ (e : Slot × Unit {0}). not (p e.0)) es)
         (filter (λ (e : Slot × Unit {0}). not (p e.0)) es))
-    by true rest = omega (arith, rest)
-    by false rest = omega (arith, rest)
+    by b rest = grind arith
 
 len_split : (g : Set slot_order) (p : Slot → Bool)
     → set.len g ≡ set.len (set.retain g p) + set.len (set.retain g (λ x. not (p x)))

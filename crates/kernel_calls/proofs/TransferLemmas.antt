@@ -1,15 +1,12 @@
 -- Runs that stop at the first event that is refused or faults, and transfers one behind another.
-use Rattle.std.proofs.Common.{◌≡◌, ℕ, zero, suc, ◌+◌, ◌<◌, Bool, true, false, List, [], ◌∷◌, ◌++◌, length, take, drop, refl, ap, sym, ◌∙◌, subst, arith, ◌-◌, ◌≤◌, Option, Some, None, length-drop, length-append, append_assoc}
-use Rattle.std.specs.Prelude.{if◌then◌else◌, slice_index}
-use borrow.Rule.Slice.PartMut.{put_mid}
-use Rattle.std.proofs.lemmas.List.{append-nil, take-append-drop, length-take-le, take_at, drop_at, drop-drop}
-use Rattle.process_table.specs.State.{State}
-use Rattle.kernel_calls.specs.Machine.{answer, answers, next, end_of, completes}
-use Rattle.kernel_calls.specs.Transfers.{load_byte, store_byte, loads, stores, carried, stop_of, value_in, values, AreLoaded, AreStored}
-use Rattle.kernel_calls.specs.declared.calls.Event.{Event}
-use Rattle.kernel_calls.specs.declared.calls.Reply.{Reply}
-use Rattle.kernel_calls.specs.declared.calls.Reply.TheVariants as reply
+use Rattle.kernel_calls.proofs.Prelude.{◌≡◌, ℕ, zero, suc, ◌+◌, ◌<◌, Bool, true, false, List, [], ◌∷◌, ◌++◌, length}
+use Rattle.kernel_calls.proofs.Prelude.{take, drop, refl, ap, sym, ◌∙◌, subst, arith, ◌-◌, ◌≤◌, Option, Some, None}
+use Rattle.kernel_calls.proofs.Prelude.{length-drop, append_assoc, length-append, append-nil, take-append-drop}
+use Rattle.kernel_calls.proofs.Prelude.{length-take-le, take_at, drop_at, drop-drop, if◌then◌else◌, slice_index, State}
+use Rattle.kernel_calls.proofs.Prelude.{answer, answers, next, end_of, completes, load_byte, store_byte, loads, stores}
+use Rattle.kernel_calls.proofs.Prelude.{carried, stop_of, value_in, values, AreLoaded, AreStored, Event, Reply, put_mid}
 use Rattle.kernel_calls.proofs.Runs.{answers-append, end_of-append}
+use Rattle.kernel_calls.specs.declared.calls.Reply.TheVariants as reply
 
 -- ---- A run of which all is carried out, and then more
 
@@ -17,16 +14,11 @@ record Goes (s : State) (e : Event) (events : List Event) : Type 0 where
   first : completes (answer s e) ≡ true
   rest : carried (next s e) events ≡ events
 
-abbrev tail_of : List Event → List Event
-tail_of [] = []
-tail_of (e ∷ events) = events
-
 goes : (s : State) (e : Event) (events : List Event) → carried s (e ∷ events) ≡ e ∷ events → Goes s e events
 goes s e events all = by (completes (answer s e)) refl all
   where
     by : (b : Bool) → completes (answer s e) ≡ b → (if b then e ∷ carried (next s e) events else []) ≡ e ∷ events → Goes s e events
-    by true is h = record { first = is; rest = ap tail_of h }
-    by false is h = cc
+    by b is h = grind arith
 
 pub carried-append : (s : State) (xs ys : List Event) → carried s xs ≡ xs → carried s (xs ++ ys) ≡ xs ++ carried (end_of s xs) ys
 carried-append s [] ys all = refl
@@ -57,10 +49,7 @@ stop_of-first s e events stops = ap (λ b. if b then stop_of (next s e) events e
 -- ---- Loads and stores in a row
 
 pub loads-append : (p a k m : ℕ) → loads p a (k + m) ≡ loads p a k ++ loads p (a + k) m
-loads-append p a zero m =
-    let n : 0 + m ≡ m = omega arith in
-    let e : a ≡ a + 0 = omega arith in
-    ap (loads p a) n ∙ ap (λ x. loads p x m) e
+loads-append p a zero m = grind arith
 loads-append p a (suc k) m =
     let n : suc k + m ≡ suc (k + m) = omega arith in
     let e : a + 1 + k ≡ a + suc k = omega arith in
@@ -91,44 +80,21 @@ loaded-none s p a = record { all = refl; told = refl; after = refl }
 
 pub loaded-first : (s t u : State) (p a k v : ℕ) (bytes : List ℕ) → answer s (load_byte p a) ≡ reply.Value v → next s (load_byte p a) ≡ t
     → AreLoaded t p (a + 1) k bytes u → AreLoaded s p a (suc k) (v ∷ bytes) u
-loaded-first s t u p a k v bytes told moved rest = record {
-  all = (λ i. if completes (told i) then load_byte p a ∷ carried (moved i) (loads p (a + 1) k) else []) ∙ ap (λ es. load_byte p a ∷ es) rest.all;
-  told = (λ i. value_in (told i) ∷ values (answers (moved i) (loads p (a + 1) k))) ∙ ap (λ vs. v ∷ vs) rest.told;
-  after = ap (λ x. end_of x (loads p (a + 1) k)) moved ∙ rest.after;
-}
+loaded-first s t u p a k v bytes told moved rest = grind arith
 
 pub loaded-then : (s t u : State) (p a k m : ℕ) (xs ys : List ℕ) → AreLoaded s p a k xs t → AreLoaded t p (a + k) m ys u → AreLoaded s p a (k + m) (xs ++ ys) u
 loaded-then s t u p a k m xs ys first rest =
-    let es = loads p a k in
-    let fs = loads p (a + k) m in
-    record {
-      all = ap (carried s) (loads-append p a k m) ∙ carried-append s es fs first.all
-          ∙ ap (λ x. es ++ carried x fs) first.after ∙ ap (λ x. es ++ x) rest.all ∙ sym (loads-append p a k m);
-      told = ap (λ x. values (answers s x)) (loads-append p a k m) ∙ ap values (answers-append s es fs)
-          ∙ values-append (answers s es) (answers (end_of s es) fs)
-          ∙ (λ i. first.told i ++ values (answers (first.after i) fs)) ∙ ap (λ x. xs ++ x) rest.told;
-      after = ap (end_of s) (loads-append p a k m) ∙ end_of-append s es fs ∙ ap (λ x. end_of x fs) first.after ∙ rest.after;
-    }
+    grind (arith, loads-append, carried-append, answers-append, values-append, end_of-append)
 
 pub stored-none : (s : State) (p a : ℕ) → AreStored s p a [] s
 stored-none s p a = record { all = refl; after = refl }
 
 pub stored-first : (s t u : State) (p a b : ℕ) (bytes : List ℕ) → answer s (store_byte p a b) ≡ reply.Done → next s (store_byte p a b) ≡ t
     → AreStored t p (a + 1) bytes u → AreStored s p a (b ∷ bytes) u
-stored-first s t u p a b bytes done moved rest = record {
-  all = (λ i. if completes (done i) then store_byte p a b ∷ carried (moved i) (stores p (a + 1) bytes) else []) ∙ ap (λ es. store_byte p a b ∷ es) rest.all;
-  after = ap (λ x. end_of x (stores p (a + 1) bytes)) moved ∙ rest.after;
-}
+stored-first s t u p a b bytes done moved rest = grind arith
 
 pub stored-then : (s t u : State) (p a : ℕ) (xs ys : List ℕ) → AreStored s p a xs t → AreStored t p (a + length xs) ys u → AreStored s p a (xs ++ ys) u
-stored-then s t u p a xs ys first rest =
-    let es = stores p a xs in
-    let fs = stores p (a + length xs) ys in
-    record {
-      all = ap (carried s) (stores-append p a xs ys) ∙ carried-append s es fs first.all
-          ∙ ap (λ x. es ++ carried x fs) first.after ∙ ap (λ x. es ++ x) rest.all ∙ sym (stores-append p a xs ys);
-      after = ap (end_of s) (stores-append p a xs ys) ∙ end_of-append s es fs ∙ ap (λ x. end_of x fs) first.after ∙ rest.after;
-    }
+stored-then s t u p a xs ys first rest = grind (arith, stores-append, carried-append, end_of-append)
 
 -- ---- What a transfer tells at its end
 
@@ -148,13 +114,7 @@ pub record Written (s : State) (p a : ℕ) (bytes : List ℕ) (n : ℕ) (told : 
 -- so many of some loads are carried out, and this stops the rest
 read_by : (s t : State) (p a done : ℕ) (old new : List ℕ) (stop : Option Reply) → AreLoaded s p a done (take done new) t → drop done new ≡ drop done old → take done new ++ drop done new ≡ new
     → carried s (loads p a (length old)) ≡ loads p a done → stop ≡ stop_of s (loads p a (length old)) → Read s p a old new done stop t
-read_by s t p a done old new stop loaded rest whole here stops = record {
-  count = sym (length-loads p a done) ∙ sym (ap length here);
-  stop = stops;
-  bytes = sym whole ∙ ap (λ xs. xs ++ drop done new) (sym loaded.told) ∙ ap (λ xs. values (answers s (loads p a done)) ++ xs) rest
-      ∙ sym (ap (λ es. values (answers s es) ++ drop done old) here);
-  state = sym loaded.after ∙ sym (ap (end_of s) here);
-}
+read_by s t p a done old new stop loaded rest whole here stops = grind (arith, length-loads)
 
 pub read_whole : (s t : State) (p a done : ℕ) (old new : List ℕ) → AreLoaded s p a done (take done new) t → drop done new ≡ drop done old → done ≡ length old → Read s p a old new done None t
 read_whole s t p a done old new loaded rest is =
@@ -232,8 +192,7 @@ take_more xs zero count = let n : 0 + count ≡ count = omega arith in ap (λ k.
 take_more [] (suc done) count = nothing (suc done + count) ∙ sym (nothing count)
   where
     nothing : (k : ℕ) → take {A = ℕ} k [] ≡ []
-    nothing zero = refl
-    nothing (suc k) = refl
+    nothing k = grind arith
 take_more (x ∷ xs) (suc done) count = let n : suc done + count ≡ suc (done + count) = omega arith in ap (λ k. take k (x ∷ xs)) n ∙ ap (λ ys. x ∷ ys) (take_more xs done count)
 
 -- a list with a part of it replaced
@@ -256,11 +215,7 @@ module _ (xs part : List ℕ) (done count k : ℕ) (same : k ≡ count) (size : 
   mid_drop = ap (drop (done + count)) split ∙ drop_at (take done xs ++ part) (drop (done + count) xs) (done + count) whole
 
   pub mid_long : length (put_mid done k xs part) ≡ length xs
-  mid_long =
-      let a = ap length split ∙ length-append (take done xs ++ part) (drop (done + count) xs) in
-      let b = whole in
-      let c = length-drop (done + count) xs in
-      omega (arith, a, b, c, fits)
+  mid_long = grind (arith, split, length-append, whole, length-drop)
 
 -- a list with a part replaced by itself
 pub mid_same : (xs part : List ℕ) (done k : ℕ) → part ≡ take k (drop done xs) → put_mid done k xs part ≡ xs

@@ -1,75 +1,27 @@
 -- Which walks find the same frame after an event.
-use Rattle.std.proofs.Common.{◌≡◌, ◌<◌, ◌^◌, ℕ, Bool, true, false, not, ◌&&◌, ◌||◌, ◌==◌, refl, ap, sym, ◌∙◌, subst, inl, inr, Option, Some, None, eqb-true, eq-eqb}
-use Rattle.std.specs.Prelude.{◌⊎◌, if◌then◌else◌, is_some, MatchBool, Ok}
-use Rattle.std.specs.Option.{option_map, option_and_then, unwrap_or}
-use Rattle.page_words.specs.Addresses.{page_number, slot_number, index_number, second_page}
-use Rattle.page_words.specs.declared.addresses.Size.{Size}
-use Rattle.page_words.specs.FiniteMap as map
-use Rattle.page_words.proofs.MapLemmas.{same-true, same_itself}
-use Rattle.page_words.specs.Words.{frame_number, is_lazy}
-use Rattle.table_walk.specs.declared.Access.{Access}
-use Rattle.table_walk.specs.declared.Access.TheVariants.{Read, Write}
-use Rattle.table_walk.specs.Walk.{walk_of, is_write, not_present, not_allowed}
-use Rattle.address_space.specs.Image.{directory_at, word_of, named_by, present_word, page_word, is_lazy_at, takes_stores, SlotStands}
-use Rattle.address_space.specs.Spaces.{Slot, slot_order, Cell, at_page, slot_at, is_slot, cell_or_fresh, fresh}
-use Rattle.address_space.specs.Stays.{way_of, FramesStay, WaysAgree, of_lazy}
-use Rattle.address_space.specs.Walks.{FindsBytes, WalkEndsBy, WalksAgree}
-use Rattle.address_space.proofs.standing.FramesStand.{way_parts}
-use Rattle.process_table.specs.Image.{StandsFor, image_of, memory_of}
-use Rattle.process_table.specs.State.{State, is_live, is_mapped}
-use Rattle.process_table.specs.View.{View}
-use Rattle.process_table.specs.WellFormed.{IsWellFormed}
-use Rattle.process_table.specs.declared.causes.Cause.TheVariants as cause
-use Rattle.fault_handler.specs.Plans.{goes_on, plan_at, step_at, takes_no_frame}
-use Rattle.fault_handler.specs.Fills.{lazy_second, lazy_touched}
-use Rattle.fault_handler.specs.declared.plans.PageStep.TheVariants as step
-use Rattle.fault_handler.specs.declared.plans.Plan.{Plan}
-use Rattle.fault_handler.proofs.Settled.{ready}
-use Rattle.kernel_calls.specs.Machine.{answer, answer_of, next, completes}
-use Rattle.kernel_calls.specs.Decisions.{plan_of_call, plan_of_event}
-use Rattle.process_table.proofs.Refusals.{may_unmap}
-use Rattle.kernel_calls.specs.Walked.{finds_call, finds_event}
-use Rattle.fault_handler.specs.declared.plans.Plan.TheVariants as plan
-use Rattle.kernel_calls.specs.Translations.{
-  is_ended,
-  is_all_of,
-  page_filled,
-  second_filled,
-  of_pages,
-  of_plan,
-  of_call,
-  ended_by,
-  TranslationsStay,
-  FindsFrame,
-  EndsFound,
-  SlotsStay,
-}
-use Rattle.kernel_calls.specs.Gone.{gone_of_call, gone_by}
-use Rattle.kernel_calls.specs.declared.calls.Call.{Call}
-use Rattle.kernel_calls.specs.declared.calls.Call.TheVariants as call
-use Rattle.kernel_calls.specs.declared.calls.Event.{Event}
-use Rattle.kernel_calls.specs.declared.calls.Reply.TheVariants as reply
-use Rattle.kernel_calls.specs.declared.translations.Ended.TheVariants as end
+use Rattle.kernel_calls.proofs.Prelude
+use Prelude.{◌≡◌, ◌<◌, ◌^◌, ℕ, Bool, true, false, not, ◌&&◌, ◌||◌, ◌==◌, refl, ap, sym, ◌∙◌, inl, inr, Option, Some}
+use Prelude.{None, is_some, arith, eqb-true, eq-eqb, ◌⊎◌, if◌then◌else◌, MatchBool, Ok, option_map, option_and_then}
+use Prelude.{page_number, slot_number, index_number, second_page, Size, same-true, same_itself, frame_number, Access}
+use Prelude.{Read, Write, walk_of, is_write, not_allowed, directory_at, word_of, named_by, present_word, page_word}
+use Prelude.{is_lazy_at, takes_stores, SlotStands, Slot, slot_order, Cell, at_page, slot_at, is_slot, way_of}
+use Prelude.{FramesStay, WaysAgree, of_lazy, FindsBytes, WalkEndsBy, WalksAgree, way_parts, StandsFor, image_of}
+use Prelude.{memory_of, State, is_mapped, View, IsWellFormed, goes_on, plan_at, step_at, takes_no_frame, lazy_second}
+use Prelude.{lazy_touched, ready, answer, answer_of, next, completes, plan_of_call, plan_of_event, may_unmap}
+use Prelude.{finds_event, is_ended, is_all_of, page_filled, second_filled, of_pages, of_plan, of_call, ended_by}
+use Prelude.{TranslationsStay, FindsFrame, EndsFound, SlotsStay, gone_of_call, gone_by, Call, Event}
 use Rattle.kernel_calls.proofs.Decided.{goes-event, next-stays, next-goes}
-use Rattle.kernel_calls.proofs.Flags.{IsFlag, has, not_refused, own, right_is_flag, Spared, keeps_call}
+use Rattle.kernel_calls.proofs.Flags.{IsFlag, has, own, right_is_flag, Spared, keeps_call}
+use Rattle.page_words.specs.FiniteMap as map
+use Rattle.process_table.specs.declared.causes.Cause.TheVariants as cause
+use Rattle.fault_handler.specs.declared.plans.PageStep.TheVariants as step
+use Rattle.fault_handler.specs.declared.plans.Plan.TheVariants as plan
+use Rattle.kernel_calls.specs.declared.calls.Call.TheVariants as call
+use Rattle.kernel_calls.specs.declared.translations.Ended.TheVariants as end
+use Rattle.kernel_calls.proofs.Runs.{not-refused}
+use Rattle.kernel_calls.proofs.Untouched.{caller_live}
 
 -- ---- Tests
-
-neither : (a b : Bool) → (a || b) ≡ false → (a ≡ false) × (b ≡ false)
-neither false false h = (refl, refl)
-neither false true h = cc
-neither true b h = cc
-
--- what completes is of a live process
-pub live_answer : (s : State) (e : Event) → completes (answer s e) ≡ true
-    → (is_live s e.pid ≡ true) × (completes (answer_of s e.pid e.call) ≡ true)
-live_answer s e h = by (is_live s e.pid) refl h
-  where
-    by : (b : Bool) → is_live s e.pid ≡ b → completes
-        (if b then answer_of s e.pid e.call else reply.Refused cause.NoProcess) ≡ true
-        → (is_live s e.pid ≡ true) × (completes (answer_of s e.pid e.call) ≡ true)
-    by true is k = (is, k)
-    by false is k = cc
 
 -- ---- A slot that has a way
 
@@ -98,14 +50,11 @@ module _ (v : View) (stands : StandsFor (image_of v) v.state) (walks : WalksAgre
       by_right : (c : Cell) (b : Bool) → (c.write && not lazy) ≡ b → map.get v.state.spaces (slot_at p a) ≡ Some c
           → MatchBool (not b) (walk_of v.bytes d a Write ≡ not_allowed a Write) (FindsBytes v.bytes d a Write c)
           → takes_stores v.state.spaces (memory_of v) (slot_at p a) ≡ true
-      by_right c true right is h = ap (λ (x : Option Cell).
-          is_some x && ((unwrap_or x (fresh (slot_at p a) true)).write && not lazy)) is ∙ right
-      by_right c false right is h = absurd (let k : Ok f ≡ not_allowed a Write = sym walk ∙ h in cc)
+      by_right c b right is h = grind (arith, lazy)
 
       by : (x : Option Cell) → map.get v.state.spaces (slot_at p a) ≡ x → WalkEndsBy v.bytes d a Write lazy x
           → takes_stores v.state.spaces (memory_of v) (slot_at p a) ≡ true
-      by None is h = absurd (let k : Ok f ≡ not_present a Write = sym walk ∙ h in cc)
-      by (Some c) is h = by_right c (c.write && not lazy) refl is h
+      by x is h = grind (arith, by_right, lazy)
 
   -- where a slot with a way has the right, or for a read, its walk finds the way's frame
   pub walk_finds : (p d a f : ℕ) (access : Access) → a < 2 ^ 32 → way_of (memory_of v) (slot_at p a) ≡ Some (d, f)
@@ -134,17 +83,11 @@ module _ (v : View) (stands : StandsFor (image_of v) v.state) (walks : WalksAgre
 
       may : (c : Cell) (k : Access) → (k ≡ Write → (c.write ≡ true) × (lazy ≡ false))
           → (is_write k && not (c.write && not lazy)) ≡ false
-      may c Read h = refl
-      may c Write h = let r = h refl in (λ i. not (r.0 i && not (r.1 i)))
+      may c k h = grind arith
 
       at : (x : Option Cell) → x ≡ Some cell.0 → WalkEndsBy v.bytes d a access lazy x
           → (access ≡ Write → (has (λ c. c.write) x ≡ true) × (lazy ≡ false)) → walk_of v.bytes d a access ≡ Ok f
-      at None is h r = cc
-      at (Some c) is h r =
-          let found : FindsBytes v.bytes d a access c =
-          subst (λ b. MatchBool b (walk_of v.bytes d a access ≡ not_allowed a access)
-          (FindsBytes v.bytes d a access c)) (may c access r) h in
-          same found.frame found.found
+      at x is h r = grind (arith, may, same)
 
   -- ---- Ways that an event leaves
 
@@ -155,10 +98,7 @@ module _ (v : View) (stands : StandsFor (image_of v) v.state) (walks : WalksAgre
 
   ended_pages : (p : ℕ) (x y : Option ℕ) (slot : Slot) → is_ended (of_pages p x y) slot ≡ false
       → (named p x slot ≡ false) × (named p y slot ≡ false)
-  ended_pages p None None slot h = (refl, refl)
-  ended_pages p (Some page) None slot h = (h, refl)
-  ended_pages p None (Some page) slot h = (refl, h)
-  ended_pages p (Some first) (Some second) slot h = neither (is_slot p first slot) (is_slot p second slot) h
+  ended_pages p x y slot h = grind arith
 
   -- a lazy page of a store that isn't ended isn't there
   page_spared : (p page : ℕ) (slot : Slot) (d f : ℕ) → way_of (memory_of v) slot ≡ Some (d, f)
@@ -218,21 +158,13 @@ module _ (v : View) (stands : StandsFor (image_of v) v.state) (walks : WalksAgre
       → ((addr : ℕ) (size : Size) (value : ℕ) → c ≡ call.Store addr size value
       → goes_on (plan_at v p addr size Write) ≡ true)
       → is_ended (of_call v p c) slot ≡ false → gone_of_call p c slot f ≡ false
-  call_spared p (call.Load addr size) slot d f way goes stays = refl
   call_spared p (call.Store addr size value) slot d f way goes stays =
       store_spared p addr size slot d f way (goes addr size value refl) stays
-  call_spared p (call.Map page write) slot d f way goes stays = refl
   call_spared p (call.Unmap page) slot d f way goes stays = stays
-  call_spared p (call.Protect page write) slot d f way goes stays = refl
-  call_spared p (call.Info page) slot d f way goes stays = refl
-  call_spared p (call.Offer page target write) slot d f way goes stays = refl
-  call_spared p (call.Withdraw page target) slot d f way goes stays = refl
   call_spared p (call.Accept giver giver_page page) slot d f way goes stays =
       accept_spared giver giver_page slot d f way stays
-  call_spared p (call.Spawn quota) slot d f way goes stays = refl
-  call_spared p (call.Fork quota) slot d f way goes stays = refl
   call_spared p call.Exit slot d f way goes stays = stays
-  call_spared p call.Quota slot d f way goes stays = refl
+  call_spared p _ slot d f way goes stays = refl
 
   pub event_spared : (e : Event) (slot : Slot) (d f : ℕ) → way_of (memory_of v) slot ≡ Some (d, f)
       → is_ended (ended_by v e) slot ≡ false → gone_by v.state e slot f ≡ false
@@ -245,7 +177,7 @@ module _ (v : View) (stands : StandsFor (image_of v) v.state) (walks : WalksAgre
       by true is h =
           call_spared e.pid e.call slot d f way
           (λ addr size value store.
-          let live = (live_answer v.state e is).0 in
+          let live = (caller_live v.state e is).0 in
           sym (ap (λ c. goes_on (plan_of_call v e.pid c)) store)
           ∙ sym (ap (λ b. goes_on (if b then plan_of_call v e.pid e.call else plan.Refused cause.NoProcess)) live)
           ∙ goes-event v e ∙ is) h
@@ -277,19 +209,7 @@ module _ (v : View) (stands : StandsFor (image_of v) v.state) (walks : WalksAgre
 
   pub has_right : (slot : Slot) → takes_stores v.state.spaces (memory_of v) slot ≡ true
       → (has (λ c. c.write) (map.get v.state.spaces slot) ≡ true) × (is_lazy_at (memory_of v) slot ≡ false)
-  has_right slot takes = by (map.get v.state.spaces slot) (is_lazy_at (memory_of v) slot) refl takes
-    where
-      by : (x : Option Cell) (b : Bool) → is_lazy_at (memory_of v) slot ≡ b
-          → (is_some x && ((unwrap_or x (fresh slot true)).write && not b)) ≡ true
-          → (has (λ c. c.write) x ≡ true) × (is_lazy_at (memory_of v) slot ≡ false)
-      by None b is h = cc
-      by (Some c) b is h = both c.write b is h refl
-        where
-          both : (w b : Bool) → is_lazy_at (memory_of v) slot ≡ b → (w && not b) ≡ true → c.write ≡ w
-              → (c.write ≡ true) × (is_lazy_at (memory_of v) slot ≡ false)
-          both true false is h same = (same, is)
-          both true true is h same = cc
-          both false b is h same = cc
+  has_right slot takes = grind (arith, has)
 
   right_stays : (e : Event) (slot : Slot) → IsWellFormed v.state → takes_stores v.state.spaces (memory_of v) slot ≡ true
       → is_ended (ended_by v e) slot ≡ false → has (λ c. c.write) (map.get (next v.state e).spaces slot) ≡ true
@@ -298,11 +218,10 @@ module _ (v : View) (stands : StandsFor (image_of v) v.state) (walks : WalksAgre
       by : (b : Bool) → completes (answer v.state e) ≡ b
           → is_ended (if b then of_call v e.pid e.call else end.Nothing) slot ≡ false
           → has (λ c. c.write) (map.get (next v.state e).spaces slot) ≡ true
-      by false is h = ap (λ (t : State). has (λ c. c.write) (map.get t.spaces slot)) (next-stays v.state e is)
-          ∙ (has_right slot takes).0
+      by false is h = grind (arith, has, next-stays, has_right)
       by true is h =
           ap (λ (t : State). has (λ c. c.write) (map.get t.spaces slot)) (next-goes v.state e is)
-          ∙ keeps_call (λ c. c.write) right_is_flag v.state e.pid e.call slot w (live_answer v.state e is).1
+          ∙ keeps_call (λ c. c.write) right_is_flag v.state e.pid e.call slot w (caller_live v.state e is).1
           (right_spared e.pid e.call slot takes h) (has_right slot takes).0
 
 -- each walk that finds a frame and isn't ended finds it afterwards
@@ -337,21 +256,7 @@ translations_stay v w e stands walks ways well stands' walks' ways' state stay p
 flag_spared : (flag : Cell → Bool) (F : IsFlag flag) → ((c : Cell) (w : Bool) → flag (record c { write = w }) ≡ flag c)
     → (v : View) (p : ℕ) (c : Call) (slot : Slot) → has flag (map.get v.state.spaces slot) ≡ true
     → is_ended (of_call v p c) slot ≡ false → Spared flag F v.state p c slot
-flag_spared flag F alike v p (call.Load addr size) slot h stays = tt
-flag_spared flag F alike v p (call.Store addr size value) slot h stays = tt
-flag_spared flag F alike v p (call.Map page write) slot h stays = tt
-flag_spared flag F alike v p (call.Unmap page) slot h stays = stays
-flag_spared flag F alike v p (call.Protect page write) slot h stays = λ here.
-    alike (cell_or_fresh v.state.spaces (at_page p page)) write
-    ∙ own flag F v.state.spaces (at_page p page) (sym (ap (λ q. has flag (map.get v.state.spaces q)) here) ∙ h)
-flag_spared flag F alike v p (call.Info page) slot h stays = tt
-flag_spared flag F alike v p (call.Offer page target write) slot h stays = tt
-flag_spared flag F alike v p (call.Withdraw page target) slot h stays = tt
-flag_spared flag F alike v p (call.Accept giver giver_page page) slot h stays = tt
-flag_spared flag F alike v p (call.Spawn quota) slot h stays = tt
-flag_spared flag F alike v p (call.Fork quota) slot h stays = tt
-flag_spared flag F alike v p call.Exit slot h stays = stays
-flag_spared flag F alike v p call.Quota slot h stays = tt
+flag_spared flag F alike v p c slot h stays = grind (arith, own, has)
 
 flag_stays : (flag : Cell → Bool) → IsFlag flag → ((c : Cell) (w : Bool) → flag (record c { write = w }) ≡ flag c)
     → (v : View) (e : Event) (slot : Slot) → IsWellFormed v.state → is_ended (ended_by v e) slot ≡ false
@@ -364,7 +269,7 @@ flag_stays flag F alike v e slot w stays h = by (completes (answer v.state e)) r
     by false is k = ap (λ (t : State). has flag (map.get t.spaces slot)) (next-stays v.state e is) ∙ h
     by true is k =
         ap (λ (t : State). has flag (map.get t.spaces slot)) (next-goes v.state e is)
-        ∙ keeps_call flag F v.state e.pid e.call slot w (live_answer v.state e is).1
+        ∙ keeps_call flag F v.state e.pid e.call slot w (caller_live v.state e is).1
         (flag_spared flag F alike v e.pid e.call slot h k) h
 
 -- a mapped slot that isn't ended is mapped afterwards
@@ -376,57 +281,14 @@ slots_stay v w e well state slot stays there =
     ∙ flag_stays (λ _. true) (record { accessed = λ c h. refl; stored = λ c b h. refl; bytes = λ c b. refl; holders = λ c g. refl }) (λ c w. refl) v e slot well stays (any (map.get v.state.spaces slot) ∙ there)
   where
     mapped_has : (x : Option Cell) → has (λ _. true) x ≡ is_some x
-    mapped_has None = refl
-    mapped_has (Some c) = refl
+    mapped_has x = grind arith
 
 -- ---- An access that a processor makes by its walk
-
-of_frameless : (p address : ℕ) (size : Size) (x : Plan) → takes_no_frame x ≡ true
-    → of_plan p address size x ≡ end.Nothing
-of_frameless p address size (plan.Refused k) h = refl
-of_frameless p address size (plan.Fault f) h = refl
-of_frameless p address size (plan.Ready step.Complete None) h = by (second_page address size)
-  where
-    by : (x : Option ℕ) → of_pages p None (second_filled x None) ≡ end.Nothing
-    by None = refl
-    by (Some page) = refl
-of_frameless p address size (plan.Ready step.Complete (Some step.Complete)) h = by (second_page address size)
-  where
-    by : (x : Option ℕ) → of_pages p None (second_filled x (Some step.Complete)) ≡ end.Nothing
-    by None = refl
-    by (Some page) = refl
-of_frameless p address size (plan.Ready step.Complete (Some step.MapZero)) h = cc
-of_frameless p address size (plan.Ready step.Complete (Some step.Fill)) h = cc
-of_frameless p address size (plan.Ready step.MapZero second) h = cc
-of_frameless p address size (plan.Ready step.Fill second) h = cc
-
-call_ends_none : (v : View) (p : ℕ) (c : Call) → finds_call v p c ≡ true → takes_no_frame (plan_of_call v p c) ≡ true
-    → of_call v p c ≡ end.Nothing
-call_ends_none v p (call.Load addr size) found h = refl
-call_ends_none v p (call.Store addr size value) found h = of_frameless p addr size (plan_at v p addr size Write) h
-call_ends_none v p (call.Map page write) found h = refl
-call_ends_none v p (call.Unmap page) found h = cc
-call_ends_none v p (call.Protect page write) found h = cc
-call_ends_none v p (call.Info page) found h = refl
-call_ends_none v p (call.Offer page target write) found h = refl
-call_ends_none v p (call.Withdraw page target) found h = refl
-call_ends_none v p (call.Accept giver giver_page page) found h = cc
-call_ends_none v p (call.Spawn quota) found h = refl
-call_ends_none v p (call.Fork quota) found h = refl
-call_ends_none v p call.Exit found h = cc
-call_ends_none v p call.Quota found h = refl
 
 -- it ends no translation
 pub accessed_ends_none : (v : View) (e : Event) → finds_event v e ≡ true → takes_no_frame (plan_of_event v e) ≡ true
     → ended_by v e ≡ end.Nothing
-accessed_ends_none v e found h = by (completes (answer v.state e)) refl
-  where
-    by : (b : Bool) → completes (answer v.state e) ≡ b
-        → (if b then of_call v e.pid e.call else end.Nothing) ≡ end.Nothing
-    by false is = refl
-    by true is = call_ends_none v e.pid e.call found
-        (sym (ap (λ b. takes_no_frame (if b then plan_of_call v e.pid e.call else plan.Refused cause.NoProcess))
-        (live_answer v.state e is).0) ∙ h)
+accessed_ends_none v e found h = grind (arith, caller_live)
 
 -- ---- What is ended had a walk
 
@@ -443,26 +305,15 @@ module _ (v : View) (stands : StandsFor (image_of v) v.state) (walks : WalksAgre
       by (Some d) live = at (page_word (memory_of v) (slot_at p a)) (map.get v.state.spaces (slot_at p a)) there (stands.memory.cells (slot_at p a)) (walks p d a Read live small)
         where
           at : (x : Option ℕ) (y : Option Cell) → is_some x ≡ true → SlotStands (memory_of v) (slot_at p a) x y → WalkEndsBy v.bytes d a Read (is_lazy_at (memory_of v) (slot_at p a)) y → FindsFrame (memory_of v) p a
-          at None y h s e = cc
-          at (Some w) None h s e = absurd s
-          at (Some w) (Some c) h s e = (d, e.frame, (live, e.found))
+          at x y h s e = grind arith
 
   -- a slot that has a cell has a word
   cell_word : (slot : Slot) → is_some (map.get v.state.spaces slot) ≡ true → is_some (page_word (memory_of v) slot) ≡ true
-  cell_word slot h = by (page_word (memory_of v) slot) (map.get v.state.spaces slot) h (stands.memory.cells slot)
-    where
-      by : (x : Option ℕ) (y : Option Cell) → is_some y ≡ true → SlotStands (memory_of v) slot x y → is_some x ≡ true
-      by None None k s = cc
-      by None (Some c) k s = absurd s
-      by (Some w) y k s = refl
+  cell_word slot h = grind arith
 
   -- and so has one with a lazy page
   lazy_word : (slot : Slot) → is_lazy_at (memory_of v) slot ≡ true → is_some (page_word (memory_of v) slot) ≡ true
-  lazy_word slot h = by (page_word (memory_of v) slot) h
-    where
-      by : (x : Option ℕ) → unwrap_or (option_map is_lazy x) false ≡ true → is_some x ≡ true
-      by None k = cc
-      by (Some w) k = refl
+  lazy_word slot h = grind arith
 
   -- a page that a store fills is lazy
   filled_lazy : (q page : ℕ) (slot : Slot) → named v stands walks ways q (page_filled page (step_at v q Write page)) slot ≡ true → is_lazy_at (memory_of v) slot ≡ true
@@ -474,19 +325,11 @@ module _ (v : View) (stands : StandsFor (image_of v) v.state) (walks : WalksAgre
       by true true lazy k = sym (ap (is_lazy_at (memory_of v)) (same-true slot_order (at_page q page) slot k)) ∙ lazy
 
   filled_pages : (q : ℕ) (x y : Option ℕ) (slot : Slot) → is_ended (of_pages q x y) slot ≡ true → (named v stands walks ways q x slot ≡ true) ⊎ (named v stands walks ways q y slot ≡ true)
-  filled_pages q None None slot h = cc
-  filled_pages q (Some page) None slot h = inl h
-  filled_pages q None (Some page) slot h = inr h
-  filled_pages q (Some first) (Some second) slot h = by (is_slot q first slot) refl h
-    where
-      by : (b : Bool) → is_slot q first slot ≡ b → (b || is_slot q second slot) ≡ true → (is_slot q first slot ≡ true) ⊎ (is_slot q second slot ≡ true)
-      by true is k = inl is
-      by false is k = inr k
+  filled_pages q x y slot h = grind arith
 
   -- a slot that a call which completes ends has a word, or its process goes
   ended_word : (q : ℕ) (c : Call) (slot : Slot) → completes (answer_of v.state q c) ≡ true → ((addr : ℕ) (size : Size) (value : ℕ) → c ≡ call.Store addr size value → goes_on (plan_at v q addr size Write) ≡ true)
       → is_ended (of_call v q c) slot ≡ true → (is_all_of (of_call v q c) slot.pid ≡ true) ⊎ (is_some (page_word (memory_of v) slot) ≡ true)
-  ended_word q (call.Load addr size) slot done goes h = cc
   ended_word q (call.Store addr size value) slot done goes h =
       let is = (ready (step_at v q Write) v.state q addr size Write (goes addr size value refl)).is in
       let pages = filled_pages q (page_filled (page_number addr) (step_at v q Write (page_number addr))) (second_filled (second_page addr size) (option_map (step_at v q Write) (second_page addr size))) slot
@@ -497,17 +340,14 @@ module _ (v : View) (stands : StandsFor (image_of v) v.state) (walks : WalksAgre
       ]
     where
       by : (x : Option ℕ) → named v stands walks ways q (second_filled x (option_map (step_at v q Write) x)) slot ≡ true → (is_all_of (of_call v q (call.Store addr size value)) slot.pid ≡ true) ⊎ (is_some (page_word (memory_of v) slot) ≡ true)
-      by None k = cc
-      by (Some page) k = inr (lazy_word slot (filled_lazy q page slot k))
-  ended_word q (call.Map page write) slot done goes h = cc
+      by x k = grind (arith, lazy_word, filled_lazy)
   ended_word q (call.Unmap page) slot done goes h =
       let here = same-true slot_order (at_page q page) slot h in
-      inr (cell_word slot (sym (ap (λ s. is_some (map.get v.state.spaces s)) here) ∙ may_unmap v.state q page (not_refused _ _ done)))
+      inr (cell_word slot (sym (ap (λ s. is_some (map.get v.state.spaces s)) here) ∙ may_unmap v.state q page (not-refused _ _ done)))
   ended_word q (call.Protect page write) slot done goes h = by (not write) (takes_stores v.state.spaces (memory_of v) (at_page q page)) refl h
     where
       mapped : (x y : Bool) → (x && y) ≡ true → x ≡ true
-      mapped true y k = refl
-      mapped false y k = cc
+      mapped x y k = grind arith
 
       by : (x y : Bool) → takes_stores v.state.spaces (memory_of v) (at_page q page) ≡ y → is_ended (if x && y then end.Page q page else end.Nothing) slot ≡ true
           → (is_all_of (of_call v q (call.Protect page write)) slot.pid ≡ true) ⊎ (is_some (page_word (memory_of v) slot) ≡ true)
@@ -516,22 +356,17 @@ module _ (v : View) (stands : StandsFor (image_of v) v.state) (walks : WalksAgre
       by true true takes k =
           let here = same-true slot_order (at_page q page) slot k in
           inr (cell_word slot (sym (ap (λ s. is_some (map.get v.state.spaces s)) here) ∙ mapped _ _ takes))
-  ended_word q (call.Info page) slot done goes h = cc
-  ended_word q (call.Offer page target write) slot done goes h = cc
-  ended_word q (call.Withdraw page target) slot done goes h = cc
   ended_word q (call.Accept giver giver_page page) slot done goes h = by (is_lazy_at (memory_of v) (at_page giver giver_page)) refl h
     where
       by : (x : Bool) → is_lazy_at (memory_of v) (at_page giver giver_page) ≡ x → is_ended (if x then end.Page giver giver_page else end.Nothing) slot ≡ true
           → (is_all_of (of_call v q (call.Accept giver giver_page page)) slot.pid ≡ true) ⊎ (is_some (page_word (memory_of v) slot) ≡ true)
       by false lazy k = cc
       by true lazy k = inr (lazy_word slot (sym (ap (is_lazy_at (memory_of v)) (same-true slot_order (at_page giver giver_page) slot k)) ∙ lazy))
-  ended_word q (call.Spawn quota) slot done goes h = cc
-  ended_word q (call.Fork quota) slot done goes h = cc
   ended_word q call.Exit slot done goes h = inl (same_number slot.pid q h)
     where
       same_number : (a b : ℕ) → (a == b) ≡ true → (b == a) ≡ true
       same_number a b k = let e : b ≡ a = sym (eqb-true a b k) in eq-eqb b a e
-  ended_word q call.Quota slot done goes h = cc
+  ended_word q _ slot done goes h = cc
 
   -- each page that an event ends had a walk that found a frame
   pub found_by : (e : Event) → EndsFound (ended_by v e) (memory_of v)
@@ -541,9 +376,9 @@ module _ (v : View) (stands : StandsFor (image_of v) v.state) (walks : WalksAgre
           → (is_all_of (if b then of_call v e.pid e.call else end.Nothing) p ≡ true) ⊎ FindsFrame (memory_of v) p a
       by false is k = cc
       by true is k =
-          elim (ended_word e.pid e.call (slot_at p a) (live_answer v.state e is).1
+          elim (ended_word e.pid e.call (slot_at p a) (caller_live v.state e is).1
           (λ addr size value store.
-          sym (ap (λ c. goes_on (plan_of_call v e.pid c)) store) ∙ sym (ap (λ b. goes_on (if b then plan_of_call v e.pid e.call else plan.Refused cause.NoProcess)) (live_answer v.state e is).0) ∙ goes-event v e ∙ is) k) [
+          sym (ap (λ c. goes_on (plan_of_call v e.pid c)) store) ∙ sym (ap (λ b. goes_on (if b then plan_of_call v e.pid e.call else plan.Refused cause.NoProcess)) (caller_live v.state e is).0) ∙ goes-event v e ∙ is) k) [
             | inl all ↦ inl all
             | inr word ↦ inr (mapped_found p a small word)
           ]

@@ -1,84 +1,37 @@
 -- The other slots of a group are unmapped, one after another.
-use Rattle.std.proofs.Common.{◌≡◌, ◌≢◌, ℕ, ◌+◌, ◌<◌, ◌≤◌, Bool, true, false, cond, not, ◌&&◌, ◌||◌, ◌==◌, length, take, set, List, [], ◌∷◌, ◌++◌, refl, sym, ap, subst, ◌∙◌, is_some, Option, Some, None, unwrap_or, arith, inl, inr}
-use Rattle.std.specs.Prelude.{if◌then◌else◌}
-use Rattle.std.specs.List.{All}
-use Rattle.std.specs.Option.{option_map}
+use Rattle.kernel_calls.proofs.Prelude
+use Prelude.{◌≡◌, ◌≢◌, ℕ, ◌+◌, ◌<◌, ◌≤◌, Bool, true, false, cond, not, ◌&&◌, ◌||◌, ◌==◌, length, take, set, List, []}
+use Prelude.{◌∷◌, ◌++◌, refl, sym, ap, subst, ◌∙◌, is_some, Option, Some, None, unwrap_or, arith, inl, inr}
+use Prelude.{if◌then◌else◌, All, option_map, cases_lt, and_parts, same_Some, map-append, take_more_set, All-append}
+use Prelude.{All-cons, list_any-append, same, Set, same_map, same_set, same-true, same_itself, get-retain_keys}
+use Prelude.{contains-retain, some_value, same_cases, same_sym, Slot, slot_order, slot_cmp, Cell, without, is_slot}
+use Prelude.{at_page, is_lazy_at, left, get-without, OfferKey, without_page, State, is_live, is_mapped, after_unmap}
+use Prelude.{View, IsWellFormed, memory_of, page_is_user, ungrouped, shares, IsAlone, answer, next, completes}
+use Prelude.{refused_or, unmap_of, is_beside, is_held, without_slots, TakesBack, Taking, Unmapped, ended_by, Holder}
+use Prelude.{eqb-true, eq-eqb, and-true, or-false}
 use Rattle.std.specs.FinMap.Entries.{find}
-use Rattle.std.proofs.lemmas.Bool.{cases_lt}
-use Rattle.std.proofs.lemmas.Option.{same_Some}
-use Rattle.std.proofs.lemmas.List.{map-append, take_more_set}
-use Rattle.std.proofs.lemmas.List.Elements.{All-append, All-cons}
-use Rattle.std.proofs.lemmas.List.Folds.{list_any-append}
-use Rattle.page_words.specs.FiniteMap as map
-use Rattle.page_words.specs.FiniteMap.{same}
-use Rattle.page_words.specs.FiniteSet as set
-use Rattle.page_words.specs.FiniteSet.{Set}
-use Rattle.page_words.proofs.MapLemmas.{same_map, same_set, same-true, same_itself, get-retain_keys, contains-retain}
-use Rattle.page_words.proofs.OptionLemmas.{some_value}
-use Rattle.page_words.proofs.SetLemmas.{same_cases, same_sym}
-use Rattle.address_space.specs.Spaces.{Slot, slot_order, slot_cmp, Cell, without, is_slot, at_page}
-use Rattle.address_space.specs.Image.{is_lazy_at}
 use Rattle.address_space.specs.Shown.{shown}
-use Rattle.address_space.proofs.steps.Departures.{left, get-without}
-use Rattle.page_sharing.specs.Offers.{OfferKey, without_page}
-use Rattle.process_table.specs.State.{State, is_live, is_mapped}
-use Rattle.process_table.specs.Calls.{after_unmap}
-use Rattle.process_table.specs.View.{View}
-use Rattle.process_table.specs.WellFormed.{IsWellFormed}
-use Rattle.process_table.specs.Image.{memory_of}
-use Rattle.process_table.specs.declared.causes.Cause.TheVariants as cause
-use Rattle.process_table.proofs.Placed.{page_is_user}
-use Rattle.kernel_calls.specs.Acts.{all_done, ungrouped}
-use Rattle.kernel_calls.specs.Authority.{shares}
-use Rattle.kernel_calls.specs.Effects.{IsAlone}
-use Rattle.kernel_calls.specs.Machine.{answer, answers, next, end_of, completes, refused_or}
 use Rattle.kernel_calls.specs.Pages.{page_in}
-use Rattle.kernel_calls.specs.TakenBack.{unmap_of, unmaps, pages_of_all, is_beside, is_held, without_slots, TakesBack, Taking, Unmapped}
-use Rattle.kernel_calls.specs.Translations.{ended_by, EndAlong}
-use Rattle.kernel_calls.specs.declared.calls.Event.{Event}
-use Rattle.kernel_calls.specs.declared.calls.Reply.TheVariants as reply
 use Rattle.kernel_calls.specs.declared.pages.PageState.{PageState}
-use Rattle.kernel_calls.specs.declared.taking.Holder.{Holder}
-use Rattle.kernel_calls.specs.declared.translations.Ended.{Ended}
-use Rattle.kernel_calls.specs.declared.translations.Ended.TheVariants as end
 use Rattle.kernel_calls.proofs.Beside.{shares_there}
 use Rattle.kernel_calls.proofs.Decided.{next-goes}
 use Rattle.kernel_calls.proofs.FamilyEnds.{without_both, stays_twice, along_more}
 use Rattle.kernel_calls.proofs.Runs.{answers-append, end_of-append}
-use borrow.Author.Tests.{eqb-true, eq-eqb}
-
-and_both : (a b : Bool) → (a && b) ≡ true → (a ≡ true) × (b ≡ true)
-and_both true b h = (refl, h)
-and_both false b h = cc
-
-not_yes : (b : Bool) → not b ≡ true → b ≡ false
-not_yes true e = cc
-not_yes false e = refl
+use Rattle.page_words.specs.FiniteMap as map
+use Rattle.page_words.specs.FiniteSet as set
+use Rattle.process_table.specs.declared.causes.Cause.TheVariants as cause
+use Rattle.kernel_calls.specs.declared.calls.Reply.TheVariants as reply
+use Rattle.kernel_calls.specs.declared.translations.Ended.TheVariants as end
 
 -- ---- Who shares, without some slots
 
 pub shares_without : (s : State) (gone : Slot → Bool) (slot other : Slot)
     → shares (without_slots s gone) slot other ≡ (shares s slot other && (not (gone slot) && not (gone other)))
-shares_without s gone slot other =
-    ap (λ (x : Option Cell). unwrap_or (option_map (λ (c : Cell). set.contains c.holders other) x) false) (get-without s.spaces gone slot)
-    ∙ by (not (gone slot)) (map.get s.spaces slot)
-  where
-    none : (b : Bool) → false ≡ (b && false)
-    none true = refl
-    none false = refl
-
-    by : (b : Bool) (x : Option Cell) → unwrap_or (option_map (λ (c : Cell). set.contains c.holders other) (cond b (option_map (left gone) x) None)) false
-        ≡ (unwrap_or (option_map (λ (c : Cell). set.contains c.holders other) x) false && (b && not (gone other)))
-    by false x = none (unwrap_or (option_map (λ (c : Cell). set.contains c.holders other) x) false)
-    by true None = refl
-    by true (Some c) = contains-retain c.holders (λ s. not (gone s)) other
+shares_without s gone slot other = grind (arith, get-without, left, contains-retain)
 
 -- who is beside a slot without some slots is so with them
 pub beside_before : (s : State) (gone : Slot → Bool) (slot other : Slot) → is_beside (without_slots s gone) slot other ≡ true → is_beside s slot other ≡ true
-beside_before s gone slot other h =
-    let two = and_both (not (is_slot slot.pid slot.page other)) (shares (without_slots s gone) slot other) h in
-    let one = and_both (shares s slot other) (not (gone slot) && not (gone other)) (sym (shares_without s gone slot other) ∙ two.1) in
-    (λ i. two.0 i && one.0 i)
+beside_before s gone slot other h = grind (arith, and_parts, shares_without)
 
 -- ---- One slot less
 
@@ -89,9 +42,7 @@ slot_test p page q n = elim (same_cases slot_order (at_page p page) (at_page q n
 ]
   where
     by : at_page p page ≢ at_page q n → (a b : Bool) → (q == p) ≡ a → (n == page) ≡ b → false ≡ ((q == p) && (n == page))
-    by apart true true h k = absurd (apart (λ i. at_page (sym (eqb-true q p h) i) (sym (eqb-true n page k) i)))
-    by apart true false h k = sym (λ i. h i && k i)
-    by apart false b h k = sym (λ i. h i && (n == page))
+    by apart a b h k = grind (arith, eqb-true)
 
 abbrev of_page : OfferKey → Slot
 of_page key = at_page key.offerer key.page
@@ -109,18 +60,14 @@ without_slots_more s gone p page = λ i. record s { spaces = without_both s.spac
         ∙ ap (λ b. cond (not (gone (of_page key) || b)) (map.get s.offers key) None) (sym (slot_test p page key.offerer key.page))
         ∙ sym (get-retain_keys s.offers (λ key. not (gone (of_page key) || is_slot p page (of_page key))) key))
 
-or_false : (b : Bool) → (b || false) ≡ b
-or_false true = refl
-or_false false = refl
-
 held-more : (holders : List Holder) (h : Holder) (x : Slot) → is_held (holders ++ h ∷ []) x ≡ (is_held holders x || is_slot h.pid h.page x)
-held-more holders h x = list_any-append (λ (k : Holder). is_slot k.pid k.page x) holders (h ∷ []) ∙ ap (λ b. is_held holders x || b) (or_false (is_slot h.pid h.page x))
+held-more holders h x = list_any-append (λ (k : Holder). is_slot k.pid k.page x) holders (h ∷ []) ∙ ap (λ b. is_held holders x || b) (or-false (is_slot h.pid h.page x))
 
 -- ---- One Unmap more
 
 module _ (t : State) (own : Slot) (h : Holder) (w : IsWellFormed t) (beside : is_beside t own (at_page h.pid h.page) ≡ true) where
   there : is_mapped t (at_page h.pid h.page) ≡ true
-  there = shares_there t own (at_page h.pid h.page) w (and_both (not (is_slot own.pid own.page (at_page h.pid h.page))) (shares t own (at_page h.pid h.page)) beside).1
+  there = shares_there t own (at_page h.pid h.page) w (and_parts (not (is_slot own.pid own.page (at_page h.pid h.page))) (shares t own (at_page h.pid h.page)) beside).1
 
   pub unmap_done : answer t (unmap_of h) ≡ reply.Done
   unmap_done =
@@ -133,29 +80,14 @@ module _ (t : State) (own : Slot) (h : Holder) (w : IsWellFormed t) (beside : is
   unmap_after = next-goes t (unmap_of h) (ap completes unmap_done)
 
   apart : is_slot h.pid h.page own ≡ false
-  apart = same_sym slot_order (at_page h.pid h.page) own
-      ∙ not_yes (is_slot own.pid own.page (at_page h.pid h.page)) (and_both (not (is_slot own.pid own.page (at_page h.pid h.page))) (shares t own (at_page h.pid h.page)) beside).0
+  apart = grind (arith, same_sym, and_parts)
 
   unmap_kept : option_map ungrouped (map.get (next t (unmap_of h)).spaces own) ≡ option_map ungrouped (map.get t.spaces own)
-  unmap_kept =
-      ap (λ (k : State). option_map ungrouped (map.get k.spaces own)) unmap_after
-      ∙ ap (option_map ungrouped) (get-without t.spaces (is_slot h.pid h.page) own)
-      ∙ ap (λ b. option_map ungrouped (cond (not b) (option_map (left (is_slot h.pid h.page)) (map.get t.spaces own)) None)) apart
-      ∙ bare (map.get t.spaces own)
-    where
-      bare : (o : Option Cell) → option_map ungrouped (option_map (left (is_slot h.pid h.page)) o) ≡ option_map ungrouped o
-      bare None = refl
-      bare (Some c) = refl
+  unmap_kept = grind (arith, unmap_after, get-without, left, apart)
 
   -- nobody is beside a slot then who was not before
   pub unmap_beside : (x : Slot) → is_beside t own x ≡ false → is_beside (next t (unmap_of h)) own x ≡ false
-  unmap_beside x none = by (is_beside (next t (unmap_of h)) own x) refl
-    where
-      by : (b : Bool) → is_beside (next t (unmap_of h)) own x ≡ b → is_beside (next t (unmap_of h)) own x ≡ false
-      by false is = is
-      by true is = absurd (
-          let k : is_beside t own x ≡ true = beside_before t (is_slot h.pid h.page) own x (sym (ap (λ (k : State). is_beside k own x) unmap_after) ∙ is) in
-          cc)
+  unmap_beside x none = grind (arith, beside_before, unmap_after)
 
   -- the slot itself is no more
   pub unmap_gone : is_beside (next t (unmap_of h)) own (at_page h.pid h.page) ≡ false
@@ -166,10 +98,7 @@ module _ (t : State) (own : Slot) (h : Holder) (w : IsWellFormed t) (beside : is
       ∙ three (not (is_slot own.pid own.page (at_page h.pid h.page))) (shares t own (at_page h.pid h.page)) (not (is_slot h.pid h.page own))
     where
       three : (a b c : Bool) → (a && (b && (c && false))) ≡ false
-      three true true true = refl
-      three true true false = refl
-      three true false c = refl
-      three false b c = refl
+      three a b c = grind arith
 
 all_none : (P : Holder → Type 0) → All P []
 all_none P k d h = absurd (omega (arith, h))
@@ -189,12 +118,8 @@ takes_none s own = record {
   kept = refl;
 }
   where
-    and_true : (b : Bool) → (b && true) ≡ b
-    and_true true = refl
-    and_true false = refl
-
     all_stay : (h : Set slot_order) → set.retain h (λ _. true) ≡ h
-    all_stay h = same_set _ _ (λ x. contains-retain h (λ _. true) x ∙ and_true (set.contains h x))
+    all_stay h = same_set _ _ (λ x. contains-retain h (λ _. true) x ∙ and-true (set.contains h x))
 
     same : (x : Option Cell) → option_map (left (λ _. false)) x ≡ x
     same None = refl
@@ -205,12 +130,8 @@ pub takes_more : (s t : State) (own : Slot) (holders : List Holder) (h : Holder)
 takes_more s t own holders h x w beside = record {
   beside = all_more (λ (k : Holder). is_beside s own (at_page k.pid k.page) ≡ true) holders h x.beside
       (beside_before s (is_held holders) own (at_page h.pid h.page) (sym (ap (λ (k : State). is_beside k own (at_page h.pid h.page)) x.left) ∙ beside));
-  done = ap (answers s) (map-append unmap_of holders (h ∷ [])) ∙ answers-append s (unmaps holders) (unmap_of h ∷ [])
-      ∙ (λ i. x.done i ++ (ap (λ k. answer k (unmap_of h)) x.after ∙ unmap_done t own h w beside) i ∷ [])
-      ∙ sym (map-append (λ _. reply.Done) (unmaps holders) (unmap_of h ∷ []))
-      ∙ ap all_done (sym (map-append unmap_of holders (h ∷ [])));
-  after = ap (end_of s) (map-append unmap_of holders (h ∷ [])) ∙ end_of-append s (unmaps holders) (unmap_of h ∷ [])
-      ∙ ap (λ k. next k (unmap_of h)) x.after;
+  done = grind (arith, map-append, answers-append, unmap_done);
+  after = grind (arith, map-append, end_of-append);
   left = unmap_after t own h w beside ∙ ap (λ k. after_unmap k h.pid h.page) x.left ∙ without_slots_more s (is_held holders) h.pid h.page
       ∙ (λ i. without_slots s (λ q. sym (held-more holders h q) i));
   kept = unmap_kept t own h w beside ∙ x.kept;
@@ -224,11 +145,7 @@ taking_on v w u own count lost h ww g l within = record {
   taken = subst (λ (o : List Holder). TakesBack v.state own o u.state) (sym more)
       (subst (λ (k : State). TakesBack v.state own (take count lost ++ h ∷ []) k) (sym l.state)
       (takes_more v.state w.state own (take count lost) h g.taken ww l.beside));
-  along =
-      subst (λ (o : List Holder). EndAlong (unmaps o) (pages_of_all o) v u) (sym more)
-      (subst (λ (es : List Event). EndAlong es (pages_of_all (take count lost ++ h ∷ [])) v u) (sym (map-append unmap_of (take count lost) (h ∷ [])))
-      (subst (λ (xs : List Ended). EndAlong (unmaps (take count lost) ++ unmap_of h ∷ []) xs v u) (sym (map-append (λ (k : Holder). end.Page k.pid k.page) (take count lost) (h ∷ [])))
-      (along_more (unmaps (take count lost)) (pages_of_all (take count lost)) v w u (unmap_of h) (end.Page h.pid h.page) g.along l.ended l.state l.ends)));
+  along = grind (arith, more, map-append, along_more);
 }
   where
     more : take (count + 1) (set lost count h) ≡ take count lost ++ h ∷ []
@@ -260,8 +177,7 @@ one_member h x y one = by h.entries one
     first k e c = is (same slot_order k e.0) refl c
       where
         is : (b : Bool) → same slot_order k e.0 ≡ b → is_some (cond b (Some e.1) None) ≡ true → k ≡ e.0
-        is true t d = same-true slot_order k e.0 t
-        is false t d = cc
+        is b t d = grind (arith, same-true)
 
     by : (es : List (Slot × Unit {0})) → length es ≡ 1 → is_some (find slot_cmp x es) ≡ true → is_some (find slot_cmp y es) ≡ true → y ≡ x
     by [] l a b = cc

@@ -1,108 +1,25 @@
 -- What an event leaves of the other processes.
-use Rattle.std.proofs.Common.{
-  ◌≡◌,
-  ◌≢◌,
-  ℕ,
-  ◌&&◌,
-  ◌||◌,
-  ◌==◌,
-  not,
-  Bool,
-  true,
-  false,
-  cond,
-  [],
-  ◌∷◌,
-  refl,
-  sym,
-  ap,
-  subst,
-  ◌∙◌,
-  Option,
-  Some,
-  None,
-  is_some,
-  unwrap_or,
-  arith,
-  inl,
-  inr,
-}
-use Rattle.std.specs.Prelude.{◌⊎◌, if◌then◌else◌, slice_index}
-use Rattle.std.specs.Option.{option_map}
-use Rattle.std.proofs.lemmas.Bool.{ne_eqb}
-use Rattle.std.proofs.lemmas.List.Elements.{All-head, All-tail}
-use Rattle.std.proofs.lemmas.Option.{same_Some}
-use Rattle.page_words.specs.Addresses.{byte_count, touched}
-use Rattle.page_words.specs.declared.addresses.Size.{Size}
-use Rattle.page_words.specs.FiniteMap as map
-use Rattle.page_words.specs.FiniteMap.{same}
-use Rattle.page_words.specs.FiniteSet as set
-use Rattle.page_words.specs.FiniteSet.{Set}
-use Rattle.page_words.proofs.MapLemmas.{get-insert, get-map_values, contains-insert, get-retain_keys}
-use Rattle.page_words.proofs.OptionLemmas.{some_value, no_value, is_some-map}
-use Rattle.page_words.proofs.SetLemmas.{same_cases, same_apart, get-remove_other, get-removed}
-use Rattle.address_space.specs.Spaces.{Slot, slot_order, Cell, Spaces, cost, cost_of, fresh, cell_or_fresh, with_holders, set_holders, bytes_of, is_slot, is_of, at_page, with_pages, all_stored, joined, copied}
-use Rattle.address_space.proofs.costs.Costs.{same_pages}
-use Rattle.address_space.proofs.costs.Copied.{copied-other}
-use Rattle.quota_tree.specs.Book.{Member, given, is_child, number_of_children}
-use Rattle.quota_tree.proofs.BookFacts.{child_no, get-insert_other}
-use Rattle.quota_tree.proofs.Sums.{given-insert, given-remove, number-insert, number-remove}
-use Rattle.page_sharing.specs.Offers.{OfferKey, Offers, offer_order, offer_key}
-use Rattle.process_table.specs.State.{State, is_live, child_of}
-use Rattle.process_table.specs.Calls.{
-  accept_refusal,
-  spawn_refusal,
-  fork_refusal,
-  offered,
-  after_load,
-  after_store,
-  after_unmap,
-  after_offer,
-  after_withdraw,
-  after_accept,
-  after_exit,
-}
-use Rattle.process_table.specs.WellFormed.{IsWellFormed}
-use Rattle.process_table.proofs.ApartOthers.{child_free, live_differ}
-use Rattle.process_table.proofs.CellLaws.{get-inserted_other}
-use Rattle.process_table.proofs.Forks.{may_fork}
-use Rattle.process_table.proofs.Refusals.{may_accept}
-use Rattle.process_table.proofs.SharingLaws.{giver_mapped}
-use Rattle.kernel_calls.specs.Authority.{
-  flags_of,
-  flags_at,
-  byte_in,
-  shares,
-  is_child_of,
-  IsStoreInto,
-  Integrity,
-  NobodyTakesBack,
-}
-use Rattle.kernel_calls.specs.Machine.{answer, answer_of, after, next, completes}
-use Rattle.kernel_calls.specs.declared.calls.Call.{Call}
-use Rattle.kernel_calls.specs.declared.calls.Call.TheVariants as call
-use Rattle.kernel_calls.specs.declared.calls.Event.{Event}
-use Rattle.kernel_calls.specs.declared.calls.Reply.TheVariants as reply
-use Rattle.process_table.specs.declared.causes.Cause.TheVariants as cause
+use Rattle.kernel_calls.proofs.Prelude
+use Prelude.{◌≡◌, ◌≢◌, ℕ, ◌&&◌, ◌||◌, ◌==◌, not, Bool, true, false, cond, [], ◌∷◌, refl, sym, ap, subst, ◌∙◌, Option}
+use Prelude.{Some, None, is_some, unwrap_or, arith, inl, inr, ◌⊎◌, if◌then◌else◌, slice_index, option_map, ne_eqb}
+use Prelude.{All-head, All-tail, same_Some, byte_count, touched, Size, same, Set, get-insert, get-map_values}
+use Prelude.{contains-insert, get-retain_keys, some_value, no_value, is_some-map, same_cases, same_apart}
+use Prelude.{get-remove_other, get-removed, Slot, slot_order, Cell, Spaces, cost, fresh, cell_or_fresh, with_holders}
+use Prelude.{set_holders, bytes_of, is_slot, is_of, at_page, with_pages, all_stored, joined, copied, same_pages}
+use Prelude.{copied-other, Member, given, is_child, number_of_children, child_no, get-insert_other, given-insert}
+use Prelude.{given-remove, number-insert, number-remove, OfferKey, Offers, offer_order, offer_key, State, is_live}
+use Prelude.{child_of, accept_refusal, spawn_refusal, fork_refusal, offered, after_load, after_store, after_unmap}
+use Prelude.{after_offer, after_withdraw, after_accept, after_exit, IsWellFormed, child_free, live_differ}
+use Prelude.{get-inserted_other, may_fork, may_accept, giver_mapped, flags_of, flags_at, byte_in, shares, is_child_of}
+use Prelude.{IsStoreInto, Integrity, NobodyTakesBack, answer, answer_of, after, next, completes, Call, Event, eqb-true}
 use Rattle.kernel_calls.proofs.Decided.{next-stays, next-goes}
 use Rattle.kernel_calls.proofs.Runs.{not-refused, kept-next}
-use borrow.Author.Tests.{eqb-true}
-use Rattle.kernel_calls.proofs.UntouchedSlots.{
-  kept_of,
-  kept_at,
-  kept_flags,
-  kept_bytes,
-  kept_shares,
-  of_others,
-  Rest,
-  rest_of,
-  insert_same,
-  pages_same,
-  accessed_same,
-  without_kept,
-  all_stored_rest,
-  store_bytes,
-}
+use Rattle.kernel_calls.proofs.UntouchedSlots.{kept_of, kept_at, kept_flags, kept_bytes, kept_shares, of_others, Rest}
+use Rattle.kernel_calls.proofs.UntouchedSlots.{rest_of, insert_same, pages_same, accessed_same, without_kept}
+use Rattle.kernel_calls.proofs.UntouchedSlots.{all_stored_rest, store_bytes}
+use Rattle.page_words.specs.FiniteMap as map
+use Rattle.page_words.specs.FiniteSet as set
+use Rattle.kernel_calls.specs.declared.calls.Call.TheVariants as call
 
 -- ---- A slot that joins a group
 
@@ -156,12 +73,7 @@ module _ (s : State) (q giver giver_page page : ℕ) (right : Bool) (w : IsWellF
 
   pub joined_kept : (slot other : Slot) → slot ≢ at_page q page → other ≢ at_page q page
       → kept_at after_join slot other ≡ kept_at s.spaces slot other
-  joined_kept slot other d o = ap (option_map (kept_of other)) (get_joined slot d) ∙ by (map.get s.spaces slot) refl
-    where
-      by : (x : Option Cell) → map.get s.spaces slot ≡ x
-          → option_map (kept_of other) (option_map (widen slot) x) ≡ option_map (kept_of other) x
-      by None is = refl
-      by (Some c) is = ap Some (widen_kept slot other c is o)
+  joined_kept slot other d o = grind (arith, kept_of, get_joined, widen_kept)
 
 -- ---- Integrity, call by call
 
@@ -203,9 +115,7 @@ untouched : (s t : State) (e : Event) (p : ℕ)
 untouched s t e p member flags bytes holders given offers = record {
   member = member;
   flags = flags;
-  cost = ap cost_of (same_pages t.spaces s.spaces p p
-      (λ page. sym (is_some-map flags_of (map.get t.spaces (at_page p page))) ∙ ap is_some (flags page)
-      ∙ is_some-map flags_of (map.get s.spaces (at_page p page))));
+  cost = grind (arith, same_pages, is_some-map);
   bytes = bytes;
   holders = holders;
   given = given;
@@ -257,15 +167,7 @@ more_given : (s : State) (q p k quota : ℕ) → q ≢ p → is_live s k ≡ fal
     → (given (map.insert s.book k (record { parent = q; quota = quota })) p ≡ given s.book p)
     × (number_of_children (map.insert s.book k (record { parent = q; quota = quota })) p ≡ number_of_children s.book
     p)
-more_given s q p k quota d free =
-    let child : Member = record { parent = q; quota = quota } in
-    let none = no_value (map.get s.book k) free in
-    let a = given-insert s.book k child none p in
-    let b = number-insert s.book k child none p in
-    let no = child_no q p k quota d in
-    let x : ◌≡◌ {A = ℕ} (cond (is_child p (k, child)) quota 0) 0 = ap (λ t. cond t quota 0) no in
-    let y : ◌≡◌ {A = ℕ} (cond (is_child p (k, child)) 1 0) 0 = ap (λ t. cond t 1 0) no in
-    (omega (arith, a, x), omega (arith, b, y))
+more_given s q p k quota d free = grind (arith, no_value, given-insert, number-insert, child_no)
 
 -- one child less, where q was one of p
 less_given : (s : State) (e : Event) (p : ℕ) → e.call ≡ call.Exit → (m : Member) → map.get s.book e.pid ≡ Some m
@@ -278,10 +180,7 @@ less_given s e p exit m here = by (is_child p (e.pid, m)) refl
         → ((given (map.remove s.book e.pid) p ≡ given s.book p)
         × (number_of_children (map.remove s.book e.pid) p ≡ number_of_children s.book p))
         ⊎ IsChildsExit s e p
-    by true is = inr (
-      ap (λ (x : Option Member). unwrap_or (option_map (λ (m : Member). is_child p (e.pid, m)) x) false) here ∙ is,
-      exit,
-    )
+    by true is = grind arith
     by false is = inl (
         let a = given-remove s.book e.pid m here p in
         let b = number-remove s.book e.pid m here p in
@@ -331,9 +230,7 @@ module _ (s : State) (e : Event) (p : ℕ) (w : IsWellFormed s) (live_p : is_liv
 
       rest : (page : ℕ) (other : Slot) → option_map (rest_of other) (map.get U (at_page p page)) ≡ option_map
           (rest_of other) (map.get s.spaces (at_page p page))
-      rest page other =
-          all_stored_rest e.pid (at_page p page) d T addr (bytes_of (byte_count size) value) other
-          ∙ ap (option_map (rest_of other)) (pages_same e.pid (at_page p page) d s.spaces (touched addr size))
+      rest page other = grind (arith, all_stored_rest, T, rest_of, pages_same)
 
       flags_from : (page : ℕ) → option_map (rest_of (at_page p page)) (map.get U (at_page p page)) ≡ option_map
           (rest_of (at_page p page)) (map.get s.spaces (at_page p page))
@@ -343,8 +240,7 @@ module _ (s : State) (e : Event) (p : ℕ) (w : IsWellFormed s) (live_p : is_liv
         where
           by : (x : Option Cell) → option_map (λ (k : Rest). k.0) (option_map (rest_of (at_page p page)) x) ≡ option_map
               flags_of x
-          by None = refl
-          by (Some c) = refl
+          by x = grind arith
 
       shares_from : (page : ℕ) (other : Slot) → option_map (rest_of other) (map.get U (at_page p page)) ≡ option_map
           (rest_of other) (map.get s.spaces (at_page p page))
@@ -355,8 +251,7 @@ module _ (s : State) (e : Event) (p : ℕ) (w : IsWellFormed s) (live_p : is_liv
         where
           by : (x : Option Cell) → unwrap_or (option_map (λ (k : Rest). k.1) (option_map (rest_of other) x))
               false ≡ unwrap_or (option_map (λ (c : Cell). set.contains c.holders other) x) false
-          by None = refl
-          by (Some c) = refl
+          by x = grind arith
 
       bytes : (page place : ℕ) → (byte_in (after_store s e.pid addr size value) (at_page p page) place ≡ byte_in s
           (at_page p page) place) ⊎ IsStoreInto s (after_store s e.pid addr size value) e (at_page p page) place
@@ -372,8 +267,7 @@ module _ (s : State) (e : Event) (p : ℕ) (w : IsWellFormed s) (live_p : is_liv
               ∙ ap (option_map flags_of) none) ∙ sym none))
             where
               nothing : (x : Option Cell) → option_map flags_of x ≡ None → x ≡ None
-              nothing None h = refl
-              nothing (Some c) h = cc
+              nothing x h = grind arith
 
   unmap_untouched : (page : ℕ) → LeavesAll s (after_unmap s e.pid page) e p
   unmap_untouched page =
@@ -388,11 +282,7 @@ module _ (s : State) (e : Event) (p : ℕ) (w : IsWellFormed s) (live_p : is_liv
       stays slot n = same_apart slot_order (at_page e.pid page) slot (λ x. of_others e.pid page slot n (sym x))
 
   offer_untouched : (page target : ℕ) (write : Bool) → LeavesAll s (after_offer s e.pid page target write) e p
-  offer_untouched page target write =
-      same_untouched s (after_offer s e.pid page target write) e p d refl (λ n. refl) (inl (refl, refl))
-      (λ key own. inl (get-insert s.offers (offer_key e.pid page target) write key
-      ∙ ap (λ b. cond b (Some write) (map.get s.offers key))
-      (same_apart offer_order key (offer_key e.pid page target) (other_offerer p e.pid page target key d own))))
+  offer_untouched page target write = grind (arith, same_untouched, get-insert, same_apart, other_offerer)
 
   withdraw_untouched : (page target : ℕ) → LeavesAll s (after_withdraw s e.pid page target) e p
   withdraw_untouched page target =
@@ -460,13 +350,7 @@ module _ (s : State) (e : Event) (p : ℕ) (w : IsWellFormed s) (live_p : is_liv
       offers : (key : OfferKey) (b : Bool) → (key.target == e.pid) ≡ b → (key.offerer == e.pid) ≡ false
           → (map.get (after_exit s e.pid).offers key ≡ map.get s.offers key)
           ⊎ ((map.get (after_exit s e.pid).offers key ≡ None) × EndsOffer e key)
-      offers key true target other = inr (
-        retain_gone s.offers (λ (k : OfferKey). not ((k.offerer == e.pid) || (k.target == e.pid))) key
-            (λ i. not (other i || target i)),
-        record { target = eqb-true key.target e.pid target; how = inr is },
-      )
-      offers key false target other = inl (retain_same s.offers
-          (λ (k : OfferKey). not ((k.offerer == e.pid) || (k.target == e.pid))) key (λ i. not (other i || target i)))
+      offers key b target other = grind (arith, retain_gone, eqb-true, retain_same)
 
   nothing_untouched : LeavesAll s s e p
   nothing_untouched = same_untouched s s e p d refl (λ n. refl) (inl (refl, refl)) offers_same
@@ -479,11 +363,9 @@ module _ (s : State) (e : Event) (p : ℕ) (w : IsWellFormed s) (live_p : is_liv
   after_untouched (call.Unmap page) is h = unmap_untouched page
   after_untouched (call.Protect page write) is h =
       map_untouched page (record (cell_or_fresh s.spaces (at_page e.pid page)) { write = write })
-  after_untouched (call.Info page) is h = nothing_untouched
   after_untouched (call.Offer page target write) is h = offer_untouched page target write
   after_untouched (call.Withdraw page target) is h = withdraw_untouched page target
-  after_untouched (call.Accept giver giver_page page) is h =
-      accept_untouched giver giver_page page is (not-refused (accept_refusal s e.pid giver giver_page page) _ h)
+  after_untouched (call.Accept giver giver_page page) is h = grind (arith, accept_untouched, not-refused)
   after_untouched (call.Spawn quota) is h = child_untouched (child_of s) quota s.spaces
       (child_free s e.pid quota (not-refused (spawn_refusal s e.pid quota) _ h)) (λ n. refl)
   after_untouched (call.Fork quota) is h =
@@ -492,17 +374,12 @@ module _ (s : State) (e : Event) (p : ℕ) (w : IsWellFormed s) (live_p : is_liv
       child_untouched (child_of s) quota (copied s.spaces e.pid (child_of s)) free
       (λ n. copied-other s.spaces e.pid (child_of s) (at_page p n) (live_differ s p (child_of s) live_p free))
   after_untouched call.Exit is h = exit_untouched is
-  after_untouched call.Quota is h = nothing_untouched
+  after_untouched _ is h = nothing_untouched
 
 -- who calls and is not refused is live
 pub caller_live : (s : State) (e : Event) → completes (answer s e) ≡ true
     → (is_live s e.pid ≡ true) × (completes (answer_of s e.pid e.call) ≡ true)
-caller_live s e h = by (is_live s e.pid) h
-  where
-    by : (b : Bool) → completes (if b then answer_of s e.pid e.call else reply.Refused cause.NoProcess) ≡ true
-        → (b ≡ true) × (completes (answer_of s e.pid e.call) ≡ true)
-    by true k = (refl, k)
-    by false k = cc
+caller_live s e h = grind arith
 
 still_untouched : (s : State) (e : Event) (p : ℕ) → p ≢ e.pid → LeavesAll s s e p
 still_untouched s e p d = same_untouched s s e p d refl (λ n. refl) (inl (refl, refl)) (λ key own. inl refl)
@@ -512,8 +389,7 @@ pub leaves_all : (s : State) (e : Event) (p : ℕ) → IsWellFormed s → is_liv
 leaves_all s e p w live d = by (completes (answer s e)) refl
   where
     by : (b : Bool) → completes (answer s e) ≡ b → LeavesAll s (next s e) e p
-    by true h = let l = caller_live s e h in subst (λ t. LeavesAll s t e p) (sym (next-goes s e h))
-        (after_untouched s e p w live d l.0 e.call refl l.1)
+    by true h = grind (arith, caller_live, next-goes, after_untouched)
     by false h = subst (λ t. LeavesAll s t e p) (sym (next-stays s e h)) (still_untouched s e p d)
 
 pub integrity : Integrity

@@ -1,101 +1,20 @@
 -- What an event of another process leaves of a slot.
-use Rattle.std.proofs.Common.{
-  ◌≡◌,
-  ◌≢◌,
-  ℕ,
-  zero,
-  suc,
-  ◌+◌,
-  ◌-◌,
-  ◌/◌,
-  ◌%◌,
-  ◌<◌,
-  ◌≤◌,
-  ◌&&◌,
-  not,
-  Bool,
-  true,
-  false,
-  cond,
-  List,
-  [],
-  ◌∷◌,
-  length,
-  refl,
-  sym,
-  ap,
-  ◌∙◌,
-  Option,
-  Some,
-  None,
-  is_some,
-  unwrap_or,
-  arith,
-  inl,
-  inr,
-  get_or-set_other,
-  get_or-set_same,
-}
-use Rattle.std.specs.Prelude.{◌⊎◌, if◌then◌else◌, find, slice_index}
-use Rattle.std.specs.Option.{option_map}
-use Rattle.std.specs.List.{range_with_len}
-use Rattle.std.proofs.lemmas.Bool.{cases_eq, not-false}
-use Rattle.std.proofs.lemmas.Option.{same_Some}
-use Rattle.page_words.specs.Addresses.{page_number, offset_number, byte_count, touched}
-use Rattle.page_words.specs.declared.addresses.Size.{Size}
-use Rattle.page_words.specs.FiniteMap as map
-use Rattle.page_words.specs.FiniteMap.{same}
-use Rattle.page_words.specs.FiniteSet as set
-use Rattle.page_words.specs.FiniteSet.{Set}
-use Rattle.page_words.proofs.MapLemmas.{get-map_values, contains-retain}
-use Rattle.page_words.proofs.OptionLemmas.{some_value}
-use Rattle.page_words.proofs.SetLemmas.{same_cases}
-use Rattle.address_space.specs.Spaces.{
-  Slot,
-  slot_order,
-  Cell,
-  Spaces,
-  fresh,
-  cell_or_fresh,
-  with_bytes,
-  set_bytes,
-  write_at,
-  bytes_of,
-  without,
-  at_page,
-  slot_at,
-  accessed,
-  stored,
-  with_page,
-  with_pages,
-  all_accessed,
-  all_stored,
-}
-use Rattle.address_space.proofs.costs.MapFirst.{
-  AreThere,
-  first_there,
-  rest_there,
-  touched-there,
-  bytes_there,
-  with_page-keeps,
-}
-use Rattle.address_space.proofs.steps.Departures.{left, get-without}
-use Rattle.address_space.proofs.steps.Stores.{byte_is_write}
-use Rattle.table_walk.specs.declared.Access.TheVariants.{Write}
-use Rattle.process_table.specs.State.{State, is_live}
-use Rattle.process_table.specs.Calls.{after_store}
-use Rattle.process_table.specs.WellFormed.{IsWellFormed}
-use Rattle.process_table.specs.Apart.{lone}
-use Rattle.process_table.proofs.Apart.{in_lone}
-use Rattle.process_table.proofs.CellLaws.{get-inserted, get-inserted_other}
-use Rattle.process_table.proofs.SpaceLaws.{well_formed-bytes, well_formed-touched}
-use Rattle.fault_handler.specs.Plans.{plan_of, step_of, is_read_only}
-use Rattle.fault_handler.proofs.Settled.{Goes, ready, all_user, same_cells}
-use Rattle.kernel_calls.specs.Authority.{Flags, flags_of, byte_in, IsStoreInto}
-use Rattle.kernel_calls.specs.Machine.{answer_of, completes}
-use Rattle.kernel_calls.specs.declared.calls.Call.TheVariants as call
-use Rattle.kernel_calls.specs.declared.calls.Event.{Event}
+use Rattle.kernel_calls.proofs.Prelude
+use Prelude.{◌≡◌, ◌≢◌, ℕ, zero, suc, ◌+◌, ◌-◌, ◌/◌, ◌%◌, ◌<◌, ◌≤◌, ◌&&◌, not, Bool, true, false, cond, List, [], ◌∷◌}
+use Prelude.{length, refl, sym, ap, ◌∙◌, Option, Some, None, is_some, unwrap_or, arith, inl, inr, get_or-set_other}
+use Prelude.{get_or-set_same, ◌⊎◌, if◌then◌else◌, slice_index, option_map, range_with_len, cases_eq, not-false}
+use Prelude.{same_Some, page_number, offset_number, byte_count, touched, Size, same, Set, get-map_values}
+use Prelude.{contains-retain, some_value, same_cases, Slot, slot_order, Cell, Spaces, fresh, cell_or_fresh, with_bytes}
+use Prelude.{set_bytes, write_at, bytes_of, without, at_page, slot_at, accessed, stored, with_page, with_pages}
+use Prelude.{all_accessed, all_stored, AreThere, first_there, rest_there, touched-there, bytes_there, with_page-keeps}
+use Prelude.{left, get-without, byte_is_write, Write, State, is_live, after_store, IsWellFormed, get-inserted}
+use Prelude.{get-inserted_other, well_formed-bytes, well_formed-touched, plan_of, step_of, is_read_only, Goes, ready}
+use Prelude.{all_user, same_cells, Flags, flags_of, byte_in, IsStoreInto, answer_of, completes, Event, in_lone}
+use Rattle.std.specs.Prelude.{find}
 use Rattle.kernel_calls.proofs.Runs.{went-on}
+use Rattle.page_words.specs.FiniteMap as map
+use Rattle.page_words.specs.FiniteSet as set
+use Rattle.kernel_calls.specs.declared.calls.Call.TheVariants as call
 
 -- ---- What shows of a cell, its group aside but for one slot
 
@@ -111,30 +30,14 @@ kept_at S slot other = option_map (kept_of other) (map.get S slot)
 
 module _ (S T : Spaces) (slot other : Slot) (h : kept_at T slot other ≡ kept_at S slot other) where
   pub kept_flags : option_map flags_of (map.get T slot) ≡ option_map flags_of (map.get S slot)
-  kept_flags = sym (by (map.get T slot)) ∙ ap (option_map (λ (k : Untouched). k.0)) h ∙ by (map.get S slot)
-    where
-      by : (x : Option Cell) → option_map (λ (k : Untouched). k.0) (option_map (kept_of other) x) ≡ option_map flags_of x
-      by None = refl
-      by (Some c) = refl
+  kept_flags = grind arith
 
   pub kept_bytes : (cell_or_fresh T slot).bytes ≡ (cell_or_fresh S slot).bytes
-  kept_bytes = sym (by (map.get T slot)) ∙ ap (λ (x : Option Untouched). (unwrap_or x (kept_of other (fresh slot true))).1.0)
-      h ∙ by (map.get S slot)
-    where
-      by : (x : Option Cell) → (unwrap_or (option_map (kept_of other) x) (kept_of other (fresh slot true))).1.0
-          ≡ (unwrap_or x (fresh slot true)).bytes
-      by None = refl
-      by (Some c) = refl
+  kept_bytes = grind arith
 
   pub kept_shares : unwrap_or (option_map (λ (c : Cell). set.contains c.holders other) (map.get T slot))
       false ≡ unwrap_or (option_map (λ (c : Cell). set.contains c.holders other) (map.get S slot)) false
-  kept_shares = sym (by (map.get T slot)) ∙ ap (λ (x : Option Untouched).
-      unwrap_or (option_map (λ (k : Untouched). k.1.1) x) false) h ∙ by (map.get S slot)
-    where
-      by : (x : Option Cell) → unwrap_or (option_map (λ (k : Untouched). k.1.1) (option_map (kept_of other) x))
-          false ≡ unwrap_or (option_map (λ (c : Cell). set.contains c.holders other) x) false
-      by None = refl
-      by (Some c) = refl
+  kept_shares = grind arith
 
 -- ---- Slots of others, by spaces alone
 
@@ -152,12 +55,7 @@ module _ (q : ℕ) (slot : Slot) (d : slot.pid ≢ q) where
   insert_same S page c = get-inserted_other S (at_page q page) c slot (of_others q page slot d)
 
   page_same : (S : Spaces) (page : ℕ) → map.get (with_page S q page) slot ≡ map.get S slot
-  page_same S page = by (map.contains_key S (at_page q page))
-    where
-      by : (b : Bool) → map.get (if b then S else map.insert S (at_page q page) (fresh (at_page q page) true))
-          slot ≡ map.get S slot
-      by true = refl
-      by false = insert_same S page (fresh (at_page q page) true)
+  page_same S page = grind (arith, insert_same)
 
   pub pages_same : (S : Spaces) (pages : List ℕ) → map.get (with_pages S q pages) slot ≡ map.get S slot
   pages_same S [] = refl
@@ -171,36 +69,13 @@ module _ (q : ℕ) (slot : Slot) (d : slot.pid ≢ q) where
   -- where a slot of q goes, or all of them
   pub without_kept : (S : Spaces) (gone : Slot → Bool) (other : Slot) → gone slot ≡ false → gone other ≡ false
       → kept_at (without S gone) slot other ≡ kept_at S slot other
-  without_kept S gone other stays stays_too =
-      ap (option_map (kept_of other)) (get-without S gone slot
-      ∙ ap (λ b. cond (not b) (option_map (left gone) (map.get S slot)) None) stays) ∙ by (map.get S slot)
-    where
-      by : (x : Option Cell) → option_map (kept_of other) (option_map (left gone) x) ≡ option_map (kept_of other) x
-      by None = refl
-      by (Some c) = ap (λ b. Some (flags_of c, (c.bytes, b)))
-          (contains-retain c.holders (λ s. not (gone s)) other
-          ∙ ap (λ b. set.contains c.holders other && not b) stays_too ∙ and_true (set.contains c.holders other))
-        where
-          and_true : (b : Bool) → (b && true) ≡ b
-          and_true true = refl
-          and_true false = refl
+  without_kept S gone other stays stays_too = grind (arith, get-without, left, contains-retain)
 
   -- a store leaves the flags and the group
   set_bytes_rest : (S : Spaces) (group : Set slot_order) (bytes : List ℕ) (other : Slot)
       → option_map (rest_of other) (map.get (set_bytes S group bytes) slot) ≡ option_map (rest_of other)
       (map.get S slot)
-  set_bytes_rest S group bytes other = ap (option_map (rest_of other))
-      (get-map_values slot_order (λ r c. if set.contains group r then with_bytes c bytes else c) S slot)
-      ∙ by (map.get S slot)
-    where
-      either : (b : Bool) (c : Cell) → rest_of other (if b then with_bytes c bytes else c) ≡ rest_of other c
-      either true c = refl
-      either false c = refl
-
-      by : (x : Option Cell) → option_map (rest_of other)
-          (option_map (λ c. if set.contains group slot then with_bytes c bytes else c) x) ≡ option_map (rest_of other) x
-      by None = refl
-      by (Some c) = ap Some (either (set.contains group slot) c)
+  set_bytes_rest S group bytes other = grind (arith, get-map_values)
 
   pub all_stored_rest : (S : Spaces) (addr : ℕ) (bytes : List ℕ) (other : Slot)
       → option_map (rest_of other) (map.get (all_stored S q addr bytes) slot) ≡ option_map (rest_of other)
@@ -257,14 +132,12 @@ holders_stored S q page at n new = elim (cases_eq n page) [
     written = record (cell_or_fresh S (at_page q page)) { bytes = bytes; accessed = true; dirty = true }
 
     either : (b : Bool) (c : Cell) → (if b then with_bytes c bytes else c).holders ≡ c.holders
-    either true c = refl
-    either false c = refl
+    either b c = grind arith
 
     by : (x : Option Cell) → (unwrap_or (option_map
         (λ (c : Cell). if set.contains group (at_page q n) then with_bytes c bytes else c) x)
         (fresh (at_page q n) true)).holders ≡ (unwrap_or x (fresh (at_page q n) true)).holders
-    by None = refl
-    by (Some c) = either (set.contains group (at_page q n)) c
+    by x = grind (arith, either, group)
 
 -- of the k low bytes of v, stored from an address on, one goes to this place, through a slot of q in whose group this
 -- slot is
@@ -380,37 +253,15 @@ pub many_bytes : (s : State) (q addr k v : ℕ) → IsWellFormed s → AreThere 
     → (slot : Slot) (d : Cell) (place : ℕ) → map.get s.spaces slot ≡ Some d
     → (slice_index (cell_or_fresh (all_stored s.spaces q addr (bytes_of k v)) slot).bytes place ≡ slice_index d.bytes
     place) ⊎ Reaches s.spaces q addr k v slot place
-many_bytes s q addr zero v w there slot d place at =
-    inl (ap (λ (x : Option Cell). slice_index (unwrap_or x (fresh slot true)).bytes place) at)
+many_bytes s q addr zero v w there slot d place at = grind arith
 many_bytes s q addr (suc k) v w there slot d place at =
     elim (many_bytes (record s { spaces = T }) q (addr + 1) k (v / 256) well
     (rest_there s.spaces q addr k (offset_number addr) (v % 256) there) slot next_cell.0 place next_cell.1) [
       | inl later ↦ (elim one [
-        | inl same ↦ inl (later ∙ sym (ap (λ (x : Option Cell). slice_index (unwrap_or x (fresh slot true)).bytes place)
-            next_cell.1) ∙ same)
-        | inr reached ↦ inr (record {
-          byte = addr;
-          first = omega arith;
-          last = omega arith;
-          there = reached.0;
-          shared = reached.1;
-          stored = later ∙ sym (ap (λ (x : Option Cell). slice_index (unwrap_or x (fresh slot true)).bytes place)
-              next_cell.1) ∙ reached.2 ∙ sym (ap (λ n. slice_index (v % 256 ∷ bytes_of k (v / 256)) n) nothing);
-        })
+        | inl same ↦ grind (arith, next_cell)
+        | inr reached ↦ grind (arith, first, next_cell, nothing)
       ])
-      | inr r ↦ inr (
-          let a = r.first in
-          let b = r.last in
-          record {
-            byte = r.byte;
-            first = omega (arith, a);
-            last = omega (arith, b);
-            there = r.there;
-            shared = ap (λ (g : Set slot_order). set.contains g slot)
-                (sym (holders_stored s.spaces q (page_number addr) (offset_number addr) (page_number r.byte)
-                (v % 256 ∷ []))) ∙ r.shared;
-            stored = r.stored ∙ sym (ap (λ n. slice_index (v % 256 ∷ bytes_of k (v / 256)) n) (one_less r.byte a));
-          })
+      | inr r ↦ grind (arith, first, holders_stored, one_less)
     ]
   where
     nothing : addr - addr ≡ 0
@@ -444,11 +295,7 @@ none_in t a (suc n) none k low high = by (t a) refl (λ later l h. none_in t (a 
   where
     by : (b : Bool) → t a ≡ b → (find t (range_with_len (a + 1) n) ≡ None → a + 1 ≤ k → k < a + 1 + n → t k ≡ false)
         → cond b (Some a) (find t (range_with_len (a + 1) n)) ≡ None → t k ≡ false
-    by true is rest h = cc
-    by false is rest h = elim (cases_eq k a) [
-      | inl same ↦ ap t same ∙ is
-      | inr differ ↦ rest h (omega (arith, low, differ)) (omega (arith, high))
-    ]
+    by b is rest h = grind (arith, cases_eq)
 
 -- what is mapped stays
 pages_keep : (S : Spaces) (q : ℕ) (pages : List ℕ) (slot : Slot) → map.contains_key S slot ≡ true
@@ -465,8 +312,7 @@ module _ (s : State) (e : Event) (addr value : ℕ) (size : Size) (is : e.call �
       ⊎ IsStoreInto s (after_store s e.pid addr size value) e slot place
   store_bytes slot d place at = elim (many_bytes (record s { spaces = T }) q addr (byte_count size) value well
       (bytes_there T q addr size (touched-there s.spaces q addr size)) slot (cell_or_fresh T slot) place at_T) [
-        | inl same ↦ inl (same ∙ ap (λ (x : Cell). slice_index x.bytes place)
-            (same_cells s.spaces q (touched addr size) slot))
+        | inl same ↦ grind (arith, same_cells, q)
         | inr r ↦ inr (
             let first = r.first in
             let last = r.last in
@@ -491,9 +337,7 @@ module _ (s : State) (e : Event) (addr value : ℕ) (size : Size) (is : e.call �
       at_T = by (map.get T slot) refl
         where
           by : (x : Option Cell) → map.get T slot ≡ x → x ≡ Some (unwrap_or x (fresh slot true))
-          by None none = absurd (let t = pages_keep s.spaces q (touched addr size) slot (ap is_some at) in let f =
-              ap is_some none in cc)
-          by (Some y) some = refl
+          by x none = grind (arith, pages_keep, q)
 
       through : (byte : ℕ) → addr ≤ byte → byte < addr + byte_count size → offset_number byte ≡ place
           → set.contains (cell_or_fresh s.spaces (slot_at q byte)).holders slot ≡ true
@@ -501,14 +345,7 @@ module _ (s : State) (e : Event) (addr value : ℕ) (size : Size) (is : e.call �
           (byte - addr)
           → (x : Option Cell) → map.get s.spaces (slot_at q byte) ≡ x
           → IsStoreInto s (after_store s e.pid addr size value) e slot place
-      through byte first last there shared stored None none = absurd (
-          let lone_is : (cell_or_fresh s.spaces (slot_at q byte)).holders ≡ lone (slot_at q byte) =
-          ap (λ (x : Option Cell). (unwrap_or x (fresh (slot_at q byte) true)).holders) none in
-          elim (same_cases slot_order slot (slot_at q byte)) [
-            | inl same ↦ (let x : Some d ≡ None = sym at ∙ ap (map.get s.spaces) same.0 ∙ none in cc)
-            | inr other ↦ (let f = in_lone (slot_at q byte) slot other.0 in let t =
-                ap (λ (g : Set slot_order). set.contains g slot) (sym lone_is) ∙ shared in cc)
-          ])
+      through byte first last there shared stored None none = grind (arith, q, same_cases, in_lone)
       through byte first last there shared stored (Some o) some = record {
         address = addr;
         size = size;

@@ -1,61 +1,29 @@
 -- What an event is answered is what stands where the walks of its pages lead.
-use Rattle.std.proofs.Common.{◌≡◌, ℕ, ◌+◌, ◌*◌, ◌<◌, ◌^◌, true, List, refl, ap, sym, ◌∙◌, subst, arith, Option, Some, None, unwrap_or}
-use Rattle.std.specs.Prelude.{if◌then◌else◌, is_some, IfSome, Ok, Err, Result, slice_index}
-use Rattle.std.specs.Result.{is_ok}
-use Rattle.page_words.specs.Addresses.{IsUserPage, page_number, offset_number, start_number, byte_count, second_page, EachTouched}
-use Rattle.page_words.specs.declared.addresses.Size.{Size}
-use Rattle.page_words.specs.FiniteMap as map
-use Rattle.page_words.proofs.OptionLemmas.{is_some-map}
-use Rattle.phys_memory.proofs.Frames.{byte-frame}
-use Rattle.table_walk.specs.declared.Access.{Access}
-use Rattle.table_walk.specs.declared.Access.TheVariants.{Read, Write}
-use Rattle.table_walk.specs.declared.WalkEnd.{WalkEnd}
-use Rattle.table_walk.specs.Walk.{walk_of}
-use Rattle.address_space.specs.ByWalk.{finds_at, finds, byte_place, number_found}
-use Rattle.address_space.specs.Image.{directory_at, is_lazy_at, takes_stores}
-use Rattle.address_space.specs.Spaces.{Cell, at_page, slot_at, byte_at, value_of, cell_or_fresh, fresh}
-use Rattle.address_space.specs.Walks.{WalkEndsBy}
-use Rattle.address_space.proofs.steps.Bytes.{each_byte}
-use Rattle.address_space.proofs.steps.Finding.{found_at, same_each}
-use Rattle.address_space.proofs.steps.WalkSteps.{walk_named}
+use Rattle.kernel_calls.proofs.Prelude
+use Prelude.{◌≡◌, ℕ, ◌+◌, ◌*◌, ◌<◌, ◌^◌, true, List, refl, ap, sym, ◌∙◌, subst, arith, Option, Some, None, unwrap_or}
+use Prelude.{is_some, if◌then◌else◌, Ok, slice_index, IsUserPage, page_number, offset_number, byte_count, EachTouched}
+use Prelude.{Size, is_some-map, byte-frame, Access, Read, Write, walk_of, directory_at, is_lazy_at, takes_stores, Cell}
+use Prelude.{at_page, slot_at, byte_at, value_of, cell_or_fresh, fresh, WalkEndsBy, each_byte, walk_named, loaded}
+use Prelude.{memory_of, as_account, is_live, is_mapped, View, touched_user, plan_of, plan_at, goes_on, takes_no_frame}
+use Prelude.{Plan, plan_of_call, answer, answer_of, completes, planned_or, IsCore, finds_call, finds_event, reply_found}
+use Prelude.{Call, Event, Reply, finds_at, finds, byte_place, number_found, found_at, same_each}
 use Rattle.address_space.proofs.steps.WalkedPages.{finds_first, finds_second}
-use Rattle.process_table.specs.Calls.{loaded}
-use Rattle.process_table.specs.Image.{memory_of, as_account}
-use Rattle.process_table.specs.State.{is_live, is_mapped}
-use Rattle.process_table.specs.View.{View}
-use Rattle.process_table.specs.declared.causes.Cause.TheVariants as cause
-use Rattle.process_table.proofs.SharingLaws.{touched_user}
-use Rattle.fault_handler.specs.Plans.{plan_of, plan_at, goes_on, takes_no_frame}
-use Rattle.fault_handler.specs.declared.plans.Plan.{Plan}
-use Rattle.fault_handler.specs.declared.plans.Plan.TheVariants as plan
 use Rattle.fault_handler.proofs.Walked.{walk_completes}
-use Rattle.kernel_calls.specs.Decisions.{plan_of_call}
-use Rattle.kernel_calls.specs.Machine.{answer, answer_of, completes, planned_or}
-use Rattle.kernel_calls.specs.Processors.{IsCore}
-use Rattle.kernel_calls.specs.Walked.{finds_call, finds_event, reply_found}
-use Rattle.kernel_calls.specs.declared.calls.Call.{Call}
-use Rattle.kernel_calls.specs.declared.calls.Call.TheVariants as call
-use Rattle.kernel_calls.specs.declared.calls.Event.{Event}
-use Rattle.kernel_calls.specs.declared.calls.Reply.{Reply}
-use Rattle.kernel_calls.specs.declared.calls.Reply.TheVariants as reply
 use Rattle.kernel_calls.proofs.Decided.{goes-event}
 use Rattle.kernel_calls.proofs.Translated.{way_mapped, walk_takes}
+use Rattle.page_words.specs.FiniteMap as map
+use Rattle.process_table.specs.declared.causes.Cause.TheVariants as cause
+use Rattle.fault_handler.specs.declared.plans.Plan.TheVariants as plan
+use Rattle.kernel_calls.specs.declared.calls.Call.TheVariants as call
+use Rattle.kernel_calls.specs.declared.calls.Reply.TheVariants as reply
 
 -- what takes no frame goes on
 goes_frameless : (x : Plan) → takes_no_frame x ≡ true → goes_on x ≡ true
-goes_frameless (plan.Refused k) h = cc
-goes_frameless (plan.Fault f) h = cc
-goes_frameless (plan.Ready a b) h = refl
+goes_frameless x h = grind arith
 
 -- and is answered with its reply
 told_planned : (x : Plan) (r : Reply) → completes (planned_or x r) ≡ true → planned_or x r ≡ r
-told_planned (plan.Refused k) r h = cc
-told_planned (plan.Fault f) r h = cc
-told_planned (plan.Ready a b) r h = refl
-
-some_frame : (x : Result ℕ WalkEnd) → is_ok x ≡ true → (f : ℕ) × (x ≡ Ok f)
-some_frame (Ok f) h = (f, refl)
-some_frame (Err e) h = cc
+told_planned x r h = grind arith
 
 module _ (v : View) (core : IsCore v) (p d : ℕ) (live : directory_at (memory_of v) p ≡ Some d) where
   -- a process that has a directory is live
@@ -65,9 +33,7 @@ module _ (v : View) (core : IsCore v) (p d : ℕ) (live : directory_at (memory_o
   -- the frame that a walk of an address finds
   frame_found : (access : Access) (a : ℕ) → finds_at (memory_of v) p access a ≡ true
       → (a < 2 ^ 32) × ((f : ℕ) × (walk_of v.bytes d a access ≡ Ok f))
-  frame_found access a h =
-      let f = found_at (memory_of v) p d a access live h in
-      (f.0, some_frame (walk_of v.bytes d a access) f.1)
+  frame_found access a h = grind (arith, found_at)
 
   -- its page is mapped
   pub page_mapped : (access : Access) (a : ℕ) → finds_at (memory_of v) p access a ≡ true
@@ -88,14 +54,7 @@ module _ (v : View) (core : IsCore v) (p d : ℕ) (live : directory_at (memory_o
   pub each_found : (access : Access) (address : ℕ) (size : Size) (P : ℕ → Type 0)
       → ((a : ℕ) → finds_at (memory_of v) p access a ≡ true → P (page_number a))
       → finds (memory_of v) p address size access ≡ true → EachTouched address size P
-  each_found access address size P at h =
-      (at address (finds_first (memory_of v) p address size access h), by (second_page address size) refl)
-    where
-      by : (x : Option ℕ) → second_page address size ≡ x → IfSome x P
-      by None is = tt
-      by (Some page) is =
-          let e : page_number (start_number page) ≡ page = omega arith in
-          subst P e (at (start_number page) (finds_second (memory_of v) p address size access page is h))
+  each_found access address size P at h = grind (arith, finds_first, finds_second)
 
   module _ (address : ℕ) (size : Size) (access : Access) (h : finds (memory_of v) p address size access ≡ true) where
     pub all_mapped : EachTouched address size (λ page. is_mapped v.state (at_page p page) ≡ true)
@@ -151,21 +110,9 @@ module _ (v : View) (core : IsCore v) (p d : ℕ) (live : directory_at (memory_o
   call_answered (call.Store addr size value) h =
       told_planned (plan_of v.state p addr size Write) reply.Done
       (done (call.Store addr size value) (goes_frameless (plan_at v p addr size Write) (frameless addr size Write h)))
-  call_answered (call.Map page write) h = cc
-  call_answered (call.Unmap page) h = cc
-  call_answered (call.Protect page write) h = cc
-  call_answered (call.Info page) h = cc
-  call_answered (call.Offer page target write) h = cc
-  call_answered (call.Withdraw page target) h = cc
-  call_answered (call.Accept giver giver_page page) h = cc
-  call_answered (call.Spawn quota) h = cc
-  call_answered (call.Fork quota) h = cc
-  call_answered call.Exit h = cc
-  call_answered call.Quota h = cc
+  call_answered _ h = cc
 
 -- an access whose walks find a frame for each page is answered by what stands there
 pub answered : (v : View) (e : Event) (d : ℕ) → IsCore v → finds_event v e ≡ true
     → directory_at (memory_of v) e.pid ≡ Some d → answer v.state e ≡ reply_found v.bytes d e.call
-answered v e d core h live =
-    ap (λ b. if b then answer_of v.state e.pid e.call else reply.Refused cause.NoProcess) (lives v core e.pid d live)
-    ∙ call_answered v core e.pid d live e.call h
+answered v e d core h live = grind (arith, lives, call_answered)

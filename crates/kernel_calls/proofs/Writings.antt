@@ -1,62 +1,19 @@
 -- What an event leaves of the frames that aren't its process's.
-use Rattle.std.proofs.Common.{◌≡◌, ◌≢◌, ℕ, ◌+◌, ◌*◌, ◌<◌, ◌^◌, Bool, true, false, ◌&&◌, ◌||◌, ◌==◌, cond, List, [], ◌∷◌, length, refl, ap, sym, ◌∙◌, subst, arith, inl, inr, Option, Some, None, IsTrue, eqb-true}
-use Rattle.std.specs.Prelude.{if◌then◌else◌, is_some, nat_lt, slice_index, MatchBool, Ok, slice_get}
-use Rattle.std.specs.Option.{option_map, option_and_then, unwrap_or}
-use Rattle.std.proofs.lemmas.Bool.{ne_eqb}
-use Rattle.std.proofs.lemmas.Bool.Decides.{nat_tests}
-use Rattle.std.proofs.lemmas.List.{same_lists, get_or_default}
-use Rattle.std.proofs.lemmas.Option.{slice_get_within}
-use Rattle.page_words.specs.Addresses.{page_number, slot_number, index_number, start_number, second_page}
-use Rattle.page_words.specs.declared.addresses.Size.{Size}
-use Rattle.page_words.specs.FiniteMap as map
-use Rattle.page_words.specs.FiniteSet as set
-use Rattle.page_words.specs.Words.{frame_number, is_present, is_lazy, NamesPage, IsKernelDirWord}
+use Rattle.kernel_calls.proofs.Prelude
+use Prelude.{◌≡◌, ◌≢◌, ℕ, ◌+◌, ◌*◌, ◌<◌, ◌^◌, Bool, true, false, ◌&&◌, ◌==◌, cond, List, [], ◌∷◌, length, refl, ap, sym}
+use Prelude.{◌∙◌, subst, arith, inl, inr, Option, Some, None, is_some, unwrap_or, IsTrue, if◌then◌else◌, nat_lt}
+use Prelude.{slice_index, Ok, slice_get, eqb-true, option_map, option_and_then, ne_eqb, and_parts, nat_tests}
+use Prelude.{same_lists, get_or_default, slice_get_within, page_number, slot_number, index_number, start_number, Size}
+use Prelude.{frame_number, is_present, is_lazy, IsKernelDirWord, NamesPage, Order, Set, same-true, same_itself}
+use Prelude.{frame_bytes, Role, Reserved, Free, Directory, Table, Page, Read, walk_of, directory_at, table_at, word_of}
+use Prelude.{named_by, is_user_slot, present_word, page_word, page_frame, is_lazy_at, SlotStands, CellStands, own_frame}
+use Prelude.{IsTableWord, Slot, Cell, at_page, slot_at, is_slot, way_of, WalkEndsBy, way_parts, from_then, owned}
+use Prelude.{own_is, memory_of, State, is_live, View, Plan, Flags, flags_of, flags_at, IsStoreInto, next, IsCore}
+use Prelude.{is_ended, is_all_of, of_plan, of_call, ended_by, Ends, ends_in_region, MapsInRegion, Call, Event, Ended}
 use Rattle.page_words.proofs.Flags.{table_words_by_fields}
 use Rattle.std.specs.FinMap.Entries.{find}
-use Rattle.page_words.specs.FiniteMap.{Order}
-use Rattle.page_words.specs.FiniteSet.{Set}
-use Rattle.page_words.proofs.MapLemmas.{same-true, same_itself}
-use Rattle.phys_memory.specs.Bytes.{frame_bytes}
-use Rattle.alloc_table.specs.declared.Role.{Role}
-use Rattle.alloc_table.specs.declared.Role.TheVariants.{Reserved, Free, Directory, Table, Page}
-use Rattle.table_walk.specs.declared.Access.TheVariants.{Read, Write}
-use Rattle.table_walk.specs.Walk.{walk_of}
-use Rattle.address_space.specs.Image.{directory_at, table_at, word_of, named_by, is_user_slot, present_word, page_word, page_frame, is_lazy_at, SlotStands, CellStands}
-use Rattle.address_space.specs.ImageWords.{own_frame, IsTableWord}
-use Rattle.address_space.specs.Spaces.{Slot, slot_order, Cell, at_page, slot_at, is_slot}
-use Rattle.address_space.specs.Stays.{way_of}
-use Rattle.address_space.specs.Walks.{WalkEndsBy}
-use Rattle.address_space.proofs.standing.FramesStand.{way_parts}
-use Rattle.address_space.proofs.standing.Restored.{from_then}
-use Rattle.address_space.proofs.standing.TablesStand.{owned, own_is}
-use Rattle.process_table.specs.Image.{memory_of}
-use Rattle.process_table.specs.State.{State, is_live}
-use Rattle.process_table.specs.View.{View}
-use Rattle.fault_handler.specs.Plans.{plan_at}
-use Rattle.fault_handler.specs.declared.plans.Plan.{Plan}
-use Rattle.fault_handler.specs.declared.plans.Plan.TheVariants as plan
-use Rattle.kernel_calls.specs.Authority.{Flags, flags_of, flags_at, IsStoreInto}
-use Rattle.kernel_calls.specs.Machine.{answer, next, completes}
-use Rattle.kernel_calls.specs.Processors.{IsCore}
-use Rattle.kernel_calls.specs.Translations.{
-  is_ended,
-  is_all_of,
-  page_filled,
-  second_filled,
-  of_pages,
-  of_plan,
-  of_call,
-  ended_by,
-  Ends,
-  ends_in_region,
-  MapsInRegion,
-}
-use Rattle.kernel_calls.specs.Written.{HasNone, TakesLazy, IsSameButAccessed, LeavesToOthers, StandsAsBefore, WritesItsOwn, EventsLeaveToOthers, EventsWriteTheirOwn}
-use Rattle.kernel_calls.specs.declared.calls.Call.{Call}
-use Rattle.kernel_calls.specs.declared.calls.Call.TheVariants as call
-use Rattle.kernel_calls.specs.declared.calls.Event.{Event}
-use Rattle.kernel_calls.specs.declared.translations.Ended.{Ended}
-use Rattle.kernel_calls.specs.declared.translations.Ended.TheVariants as end
+use Rattle.kernel_calls.specs.Written.{HasNone, TakesLazy, IsSameButAccessed, LeavesToOthers, StandsAsBefore}
+use Rattle.kernel_calls.specs.Written.{WritesItsOwn, EventsLeaveToOthers, EventsWriteTheirOwn}
 use Rattle.kernel_calls.proofs.Births.{child_dead}
 use Rattle.kernel_calls.proofs.Effects.{slots_come}
 use Rattle.kernel_calls.proofs.RightfulChanges.{changes_are_rightful}
@@ -64,141 +21,44 @@ use Rattle.kernel_calls.proofs.Leaving.{region_spared, entry_stays}
 use Rattle.kernel_calls.proofs.Linked.{tables_map}
 use Rattle.kernel_calls.proofs.Untouched.{integrity}
 use Rattle.kernel_calls.proofs.WalkedReplies.{lives}
+use Rattle.page_words.specs.FiniteMap as map
+use Rattle.page_words.specs.FiniteSet as set
+use Rattle.kernel_calls.specs.declared.calls.Call.TheVariants as call
 
 -- ---- What an event ends of others
 
 -- a slot of another process isn't this page
 apart_slot : (p page : ℕ) (slot : Slot) → slot.pid ≢ p → is_slot p page slot ≡ false
-apart_slot p page slot differ = by (is_slot p page slot) refl
-  where
-    by : (b : Bool) → is_slot p page slot ≡ b → is_slot p page slot ≡ false
-    by false is = is
-    by true is = absurd (differ (sym (ap (λ (s : Slot). s.pid) (same-true slot_order (at_page p page) slot is))))
-
-apart_pages : (p : ℕ) (x y : Option ℕ) (slot : Slot) → slot.pid ≢ p → is_ended (of_pages p x y) slot ≡ false
-apart_pages p None None slot differ = refl
-apart_pages p (Some page) None slot differ = apart_slot p page slot differ
-apart_pages p None (Some page) slot differ = apart_slot p page slot differ
-apart_pages p (Some first) (Some second) slot differ =
-    (λ i. apart_slot p first slot differ i || apart_slot p second slot differ i)
+apart_slot p page slot differ = grind (arith, same-true)
 
 apart_plan : (p address : ℕ) (size : Size) (x : Plan) (slot : Slot) → slot.pid ≢ p
     → is_ended (of_plan p address size x) slot ≡ false
-apart_plan p address size (plan.Refused k) slot differ = refl
-apart_plan p address size (plan.Fault f) slot differ = refl
-apart_plan p address size (plan.Ready first second) slot differ =
-    apart_pages p (page_filled (page_number address) first) (second_filled (second_page address size) second) slot differ
-
-apart_if : (b : Bool) (p page : ℕ) (slot : Slot) → (b ≡ true → is_slot p page slot ≡ false)
-    → is_ended (if b then end.Page p page else end.Nothing) slot ≡ false
-apart_if true p page slot h = h refl
-apart_if false p page slot h = refl
+apart_plan p address size x slot differ = grind (arith, apart_slot)
 
 -- no slot of another is ended that isn't lazy
 call_spares : (v : View) (p : ℕ) (c : Call) (slot : Slot) → slot.pid ≢ p → is_lazy_at (memory_of v) slot ≡ false
     → is_ended (of_call v p c) slot ≡ false
-call_spares v p (call.Load addr size) slot differ real = refl
-call_spares v p (call.Store addr size value) slot differ real = apart_plan p addr size (plan_at v p addr size Write) slot differ
-call_spares v p (call.Map page write) slot differ real = refl
-call_spares v p (call.Unmap page) slot differ real = apart_slot p page slot differ
-call_spares v p (call.Protect page write) slot differ real = apart_if _ p page slot (λ _. apart_slot p page slot differ)
-call_spares v p (call.Info page) slot differ real = refl
-call_spares v p (call.Offer page target write) slot differ real = refl
-call_spares v p (call.Withdraw page target) slot differ real = refl
-call_spares v p (call.Accept giver giver_page page) slot differ real =
-    apart_if (is_lazy_at (memory_of v) (at_page giver giver_page)) giver giver_page slot (λ lazy. by (is_slot giver giver_page slot) refl lazy)
-  where
-    by : (b : Bool) → is_slot giver giver_page slot ≡ b → is_lazy_at (memory_of v) (at_page giver giver_page) ≡ true
-        → is_slot giver giver_page slot ≡ false
-    by false is lazy = is
-    by true is lazy = absurd (
-        let here = same-true slot_order (at_page giver giver_page) slot is in
-        let k : false ≡ true = sym real ∙ sym (ap (is_lazy_at (memory_of v)) here) ∙ lazy in
-        cc)
-call_spares v p (call.Spawn quota) slot differ real = refl
-call_spares v p (call.Fork quota) slot differ real = refl
-call_spares v p call.Exit slot differ real = ne_eqb slot.pid p differ
-call_spares v p call.Quota slot differ real = refl
+call_spares v p c slot differ real = grind (arith, apart_plan, apart_slot, same-true, ne_eqb)
 
 event_spares : (v : View) (e : Event) (slot : Slot) → slot.pid ≢ e.pid → is_lazy_at (memory_of v) slot ≡ false
     → is_ended (ended_by v e) slot ≡ false
-event_spares v e slot differ real = by (completes (answer v.state e))
-  where
-    by : (b : Bool) → is_ended (if b then of_call v e.pid e.call else end.Nothing) slot ≡ false
-    by false = refl
-    by true = call_spares v e.pid e.call slot differ real
+event_spares v e slot differ real = grind (arith, call_spares)
 
 -- a region of another is ended where a lazy page of it is taken
 no_region : (p q : ℕ) (x : Bool) → q ≢ p → ((p == q) && x) ≡ true → ⊥
-no_region p q x differ h = by (p == q) refl h
-  where
-    by : (b : Bool) → (p == q) ≡ b → (b && x) ≡ true → ⊥
-    by false is k = absurd (let e : false ≡ true = k in cc)
-    by true is k = differ (sym (eqb-true p q is))
-
-regions_of_pages : (p : ℕ) (x y : Option ℕ) (q region : ℕ) → q ≢ p → ends_in_region (of_pages p x y) q region ≡ true → ⊥
-regions_of_pages p None None q region differ h = absurd (let e : false ≡ true = h in cc)
-regions_of_pages p (Some page) None q region differ h = no_region p q _ differ h
-regions_of_pages p None (Some page) q region differ h = no_region p q _ differ h
-regions_of_pages p (Some first) (Some second) q region differ h = no_region p q _ differ h
+no_region p q x differ h = grind (arith, eqb-true)
 
 regions_of_plan : (p address : ℕ) (size : Size) (x : Plan) (q region : ℕ) → q ≢ p
     → ends_in_region (of_plan p address size x) q region ≡ true → ⊥
-regions_of_plan p address size (plan.Refused k) q region differ h = absurd (let e : false ≡ true = h in cc)
-regions_of_plan p address size (plan.Fault f) q region differ h = absurd (let e : false ≡ true = h in cc)
-regions_of_plan p address size (plan.Ready first second) q region differ h =
-    regions_of_pages p (page_filled (page_number address) first) (second_filled (second_page address size) second) q region differ h
-
-regions_if : (b : Bool) (p page q region : ℕ) → q ≢ p
-    → ends_in_region (if b then end.Page p page else end.Nothing) q region ≡ true → ⊥
-regions_if true p page q region differ h = no_region p q _ differ h
-regions_if false p page q region differ h = absurd (let e : false ≡ true = h in cc)
-
-both : (a b : Bool) → (a && b) ≡ true → (a ≡ true) × (b ≡ true)
-both true true h = (refl, refl)
-both true false h = cc
-both false b h = cc
+regions_of_plan p address size x q region differ h = grind (arith, no_region)
 
 ended_call : (v : View) (e : Event) (c : Call) (q region : ℕ) → e.call ≡ c → q ≢ e.pid
     → ends_in_region (of_call v e.pid c) q region ≡ true → TakesLazy v e q region
-ended_call v e (call.Load addr size) q region is differ h = cc
-ended_call v e (call.Store addr size value) q region is differ h =
-    absurd (regions_of_plan e.pid addr size (plan_at v e.pid addr size Write) q region differ h)
-ended_call v e (call.Map page write) q region is differ h = cc
-ended_call v e (call.Unmap page) q region is differ h = absurd (no_region e.pid q _ differ h)
-ended_call v e (call.Protect page write) q region is differ h = absurd (regions_if _ e.pid page q region differ h)
-ended_call v e (call.Info page) q region is differ h = cc
-ended_call v e (call.Offer page target write) q region is differ h = cc
-ended_call v e (call.Withdraw page target) q region is differ h = cc
-ended_call v e (call.Accept giver giver_page page) q region is differ h =
-    by (is_lazy_at (memory_of v) (at_page giver giver_page)) refl h
-  where
-    by : (b : Bool) → is_lazy_at (memory_of v) (at_page giver giver_page) ≡ b
-        → ends_in_region (if b then end.Page giver giver_page else end.Nothing) q region ≡ true → TakesLazy v e q region
-    by false lazy k = cc
-    by true lazy k =
-        let parts = both (giver == q) (slot_number giver_page == region) k in
-        let own : giver ≡ q = eqb-true giver q parts.0 in
-        record {
-          giver_page = giver_page;
-          page = page;
-          call = is ∙ ap (λ n. call.Accept n giver_page page) own;
-          inside = eqb-true (slot_number giver_page) region parts.1;
-          lazy = sym (ap (λ n. is_lazy_at (memory_of v) (at_page n giver_page)) own) ∙ lazy;
-        }
-ended_call v e (call.Spawn quota) q region is differ h = cc
-ended_call v e (call.Fork quota) q region is differ h = cc
-ended_call v e call.Exit q region is differ h = absurd (differ (sym (eqb-true e.pid q h)))
-ended_call v e call.Quota q region is differ h = cc
+ended_call v e c q region is differ h = grind (arith, regions_of_plan, no_region, and_parts, eqb-true)
 
 ended_takes : (v : View) (e : Event) (q region : ℕ) → q ≢ e.pid → ends_in_region (ended_by v e) q region ≡ true
     → TakesLazy v e q region
-ended_takes v e q region differ h = by (completes (answer v.state e)) h
-  where
-    by : (b : Bool) → ends_in_region (if b then of_call v e.pid e.call else end.Nothing) q region ≡ true
-        → TakesLazy v e q region
-    by false k = cc
-    by true k = ended_call v e e.call q region refl differ k
+ended_takes v e q region differ h = grind (arith, ended_call)
 
 -- ---- Words
 
@@ -210,13 +70,10 @@ pub record WordAt (v : View) (slot : Slot) (word : ℕ) : Type 0 where
 
 present_is : (a b : Bool) (x word : ℕ) → is_present x ≡ b → (if a && b then Some x else None) ≡ Some word
     → (is_present x ≡ true) × (x ≡ word)
-present_is true true x word is h = (is, (let e : Some x ≡ Some word = h in cc))
-present_is true false x word is h = cc
-present_is false b x word is h = cc
+present_is a b x word is h = grind arith
 
 table_word : (x word : ℕ) → IsTableWord 2 x → is_present x ≡ true → x ≡ word → NamesPage word
-table_word x word (inl zero) present same = absurd (let k : is_present 0 ≡ true = sym (ap is_present zero) ∙ present in cc)
-table_word x word (inr names) present same = subst NamesPage same names
+table_word x word h present same = grind arith
 
 word_at_slot : (v : View) → IsCore v → (slot : Slot) (word : ℕ) → page_word (memory_of v) slot ≡ Some word → WordAt v slot word
 word_at_slot v core slot word is =
@@ -229,43 +86,19 @@ word_at_slot v core slot word is =
     record {
       directory = d.0;
       live = d.1;
-      names = table_word x word
-          (core.image.memory.sound.table_words slot.pid (slot_number slot.page) t.0 (index_number slot.page) t.1 (omega arith))
-          p.0 p.1;
+      names = grind (arith, table_word);
     }
 
 -- two words of tables that are present alike are one
 two_words : (a b : ℕ) → IsTableWord 2 a → IsTableWord 2 b
     → (if is_present a then Some a else None) ≡ (if is_present b then Some b else None) → a ≡ b
-two_words a b (inl za) (inl zb) h = za ∙ sym zb
-two_words a b (inl za) (inr nb) h =
-    absurd (let k : ◌≡◌ {A = Option ℕ} None (Some b) = sym (ap (λ n. if is_present n then Some n else None) za) ∙ h
-    ∙ ap (λ c. if c then Some b else None) nb.present in cc)
-two_words a b (inr na) (inl zb) h =
-    absurd (let k : ◌≡◌ {A = Option ℕ} (Some a) None = sym (ap (λ c. if c then Some a else None) na.present) ∙ h
-    ∙ ap (λ n. if is_present n then Some n else None) zb in cc)
-two_words a b (inr na) (inr nb) h =
-    let k : ◌≡◌ {A = Option ℕ} (Some a) (Some b) = sym (ap (λ c. if c then Some a else None) na.present) ∙ h
-    ∙ ap (λ c. if c then Some b else None) nb.present in cc
+two_words a b k known h = grind arith
 
 -- two words of directories that name the same table, or none, are the same but for accessed
 two_dir_words : (a b : ℕ) → IsKernelDirWord a → IsKernelDirWord b
     → (if is_present a then Some (frame_number a) else None) ≡ (if is_present b then Some (frame_number b) else None)
     → IsSameButAccessed a b
-two_dir_words a b (inl za) (inl zb) h = record { frame = ap frame_number (zb ∙ sym za); present = ap is_present (zb ∙ sym za) }
-two_dir_words a b (inl za) (inr nb) h =
-    absurd (let k : ◌≡◌ {A = Option ℕ} None (Some (frame_number b)) =
-    sym (ap (λ n. if is_present n then Some (frame_number n) else None) za) ∙ h
-    ∙ ap (λ c. if c then Some (frame_number b) else None) nb.present in cc)
-two_dir_words a b (inr na) (inl zb) h =
-    absurd (let k : ◌≡◌ {A = Option ℕ} (Some (frame_number a)) None =
-    sym (ap (λ c. if c then Some (frame_number a) else None) na.present) ∙ h
-    ∙ ap (λ n. if is_present n then Some (frame_number n) else None) zb in cc)
-two_dir_words a b (inr na) (inr nb) h =
-    let k : ◌≡◌ {A = Option ℕ} (Some (frame_number a)) (Some (frame_number b)) =
-    sym (ap (λ c. if c then Some (frame_number a) else None) na.present) ∙ h
-    ∙ ap (λ c. if c then Some (frame_number b) else None) nb.present in
-    record { frame = (let e : frame_number b ≡ frame_number a = cc in e); present = nb.present ∙ sym na.present }
+two_dir_words a b k known h = grind arith
 
 -- the word of a mapped slot, with its cell
 pub record Mapped (v : View) (slot : Slot) : Type 0 where
@@ -287,13 +120,7 @@ mapped_slot v core slot h = by (page_word (memory_of v) slot) refl (map.get v.st
 -- one that isn't mapped has no word
 pub unmapped_slot : (v : View) → IsCore v → (slot : Slot) → is_some (map.get v.state.spaces slot) ≡ false
     → page_word (memory_of v) slot ≡ None
-unmapped_slot v core slot h = by (page_word (memory_of v) slot) refl (map.get v.state.spaces slot) h (core.image.memory.cells slot)
-  where
-    by : (x : Option ℕ) → page_word (memory_of v) slot ≡ x → (y : Option Cell) → is_some y ≡ false
-        → SlotStands (memory_of v) slot x y → page_word (memory_of v) slot ≡ None
-    by None is y k s = is
-    by (Some word) is None k s = absurd s
-    by (Some word) is (Some c) k s = cc
+unmapped_slot v core slot h = grind arith
 
 -- a set that isn't empty has a member
 some_member : {K : Type 0} {o : Order K} (s : Set o) → 0 < set.len s → (k : K) × (set.contains s k ≡ true)
@@ -310,14 +137,7 @@ module _ (v w : View) (e : Event) (before : IsCore v) (later : IsCore w) (state 
   -- a slot of another that isn't mapped isn't afterwards
   none_comes : (slot : Slot) → slot.pid ≢ e.pid → is_live v.state slot.pid ≡ true
       → is_some (map.get v.state.spaces slot) ≡ false → is_some (map.get w.state.spaces slot) ≡ false
-  none_comes slot differ live none = by (is_some (map.get w.state.spaces slot)) refl
-    where
-      by : (b : Bool) → is_some (map.get w.state.spaces slot) ≡ b → is_some (map.get w.state.spaces slot) ≡ false
-      by false is = is
-      by true is = absurd (elim (slots_come v.state e slot none (sym (ap (λ (s : State). is_some (map.get s.spaces slot)) state) ∙ is)) [
-        | inl own ↦ differ own.0
-        | inr child ↦ (let k : true ≡ false = sym live ∙ child_dead v.state e slot.pid child in cc)
-      ])
+  none_comes slot differ live none = grind (arith, slots_come, child_dead)
 
   module _ (slot : Slot) (differ : slot.pid ≢ e.pid) (spared : is_ended (ended_by v e) slot ≡ false) (m : Mapped v slot) where
     live : is_live v.state slot.pid ≡ true
@@ -472,9 +292,7 @@ module _ (v w : View) (e : Event) (before : IsCore v) (later : IsCore w) (state 
 
   -- who has a table is live
   has_table : (q region table : ℕ) → table_at (memory_of v) q region ≡ Some table → is_live v.state q ≡ true
-  has_table q region table linked =
-      let d = from_then (λ d. named_by region (word_of (memory_of v) d region)) (directory_at (memory_of v) q) table linked in
-      lives v before q d.0 d.1
+  has_table q region table linked = grind (arith, from_then, lives)
 
   pub tables_stay : (q region table index : ℕ) → q ≢ e.pid → ends_in_region (ended_by v e) q region ≡ false
       → table_at (memory_of v) q region ≡ Some table → index < 1024
@@ -497,10 +315,7 @@ module _ (v w : View) (e : Event) (before : IsCore v) (later : IsCore w) (state 
 
   -- where none of a region is ended, not all of its process is
   not_all : (x : Ended) (q region : ℕ) → ends_in_region x q region ≡ false → is_all_of x q ≡ false
-  not_all end.Nothing q region h = refl
-  not_all (end.Page _ _) q region h = refl
-  not_all (end.Pages _ _ _) q region h = refl
-  not_all (end.Space p) q region h = h
+  not_all x q region h = grind arith
 
   pub directories_stay : (q directory region : ℕ) → q ≢ e.pid → ends_in_region (ended_by v e) q region ≡ false
       → directory_at (memory_of v) q ≡ Some directory → region < 1024
@@ -520,19 +335,14 @@ module _ (v w : View) (e : Event) (before : IsCore v) (later : IsCore w) (state 
       named : (u : View) → directory_at (memory_of u) q ≡ Some directory → is_user_slot region ≡ true
           → table_at (memory_of u) q region
           ≡ (if is_present (word_of (memory_of u) directory region) then Some (frame_number (word_of (memory_of u) directory region)) else None)
-      named u is user =
-          ap (option_and_then (λ d. named_by region (word_of (memory_of u) d region))) is
-          ∙ ap (λ c. if c && is_present (word_of (memory_of u) directory region) then Some (frame_number (word_of (memory_of u) directory region)) else None) user
+      named u is user = grind arith
 
       by : (c : Bool) → is_user_slot region ≡ c → IsSameButAccessed a b
       by true user =
           two_dir_words a b (before.image.memory.sound.directory_words q directory region home inside)
           (later.image.memory.sound.directory_words q directory region new inside)
           (sym (named v home user) ∙ sym (tables_same q region differ (lives v before q directory home) spared) ∙ named w new user)
-      by false out =
-          let za : a ≡ 0 = before.image.memory.sound.no_more q directory region home inside out in
-          let zb : b ≡ 0 = later.image.memory.sound.no_more q directory region new inside out in
-          record { frame = ap frame_number (zb ∙ sym za); present = ap is_present (zb ∙ sym za) }
+      by false out = grind (arith, a, b, new)
 
   -- ---- Pages
 
@@ -554,24 +364,13 @@ module _ (v w : View) (e : Event) (before : IsCore v) (later : IsCore w) (state 
       shared = subst (λ (c : Cell). IsTrue (set.contains c.holders slot)) same into.shared
 
       by : (b : Bool) → is_lazy k.word ≡ b → ⊥
-      by true lazy = differ (ap (λ (s : Slot). s.pid) (subst
-          (λ b. MatchBool b (slot ≡ own) (page_frame (memory_of v) slot ≡ Some (frame_number k.word))) lazy
-          ((k.stands.group slot).0 shared)))
-      by false real =
-          let there = subst (λ b. MatchBool b (slot ≡ own) (page_frame (memory_of v) slot ≡ Some (frame_number k.word))) real
-          ((k.stands.group slot).0 shared) in
-          none (page_number into.byte)
-          (ap (option_and_then (own_frame 2)) k.there ∙ own_is k.word real ∙ sym there ∙ at)
+      by true lazy = grind (arith, own, k, shared)
+      by false real = grind (arith, own, k, shared, own_is)
 
   -- a slot that has a word is mapped
   word_mapped : (slot : Slot) (word : ℕ) → page_word (memory_of v) slot ≡ Some word
       → is_some (map.get v.state.spaces slot) ≡ true
-  word_mapped slot word is = by (page_word (memory_of v) slot) is (map.get v.state.spaces slot) (before.image.memory.cells slot)
-    where
-      by : (x : Option ℕ) → x ≡ Some word → (y : Option Cell) → SlotStands (memory_of v) slot x y → is_some y ≡ true
-      by None k y h = cc
-      by (Some w) k None h = absurd h
-      by (Some w) k (Some c) h = refl
+  word_mapped slot word is = grind arith
 
   pub pages_stay : (slot : Slot) (f : ℕ) → page_frame (memory_of v) slot ≡ Some f → HasNone (memory_of v) e.pid f
       → frame_bytes w.bytes f ≡ frame_bytes v.bytes f

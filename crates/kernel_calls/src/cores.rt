@@ -160,6 +160,9 @@ impl Core {
         ensures ends { Ends (ended_by self.old decision.event) self.old self.new }
         ensures kept { completes decision.reply ≡ false → self.new ≡ self.old }
         ensures lazy { LeavesLazy self.old decision.event decision.reply self.new }
+        ensures stay { FramesStay (gone_by self.old.state decision.event) (memory_of self.old) (memory_of self.new) }
+        ensures loose { gives_back decision.event.call ≡ true → LooseStay (memory_of self.old) (memory_of self.new) }
+        ensures writes { WritesItsOwn self.old self.new decision.event }
     {
         self.step(&decision.event)
     }
@@ -192,8 +195,11 @@ impl Core {
         ensures ends { Ends (ended_by self.old event.now) self.old self.new }
         ensures kept { completes result.reply ≡ false → self.new ≡ self.old }
         ensures lazy { LeavesLazy self.old event.now result.reply self.new }
+        ensures stay { FramesStay (gone_by self.old.state event.now) (memory_of self.old) (memory_of self.new) }
+        ensures loose { gives_back event.now.call ≡ true → LooseStay (memory_of self.old) (memory_of self.new) }
+        ensures writes { WritesItsOwn self.old self.new event.now }
     {
-        let reply = self.reply_to(event);
+        let reply = self.step(event);
         Outcome {
             reply,
             used_after: charge_now(&self.processes, event.pid),

@@ -1,6 +1,6 @@
 -- What a count says of the numbers that pass, where one of them is known.
 use Rattle.page_map.proofs.Prelude.{◌≡◌, ◌≢◌, ℕ, zero, suc, ◌+◌, ◌*◌, ◌<◌, ◌≤◌, Bool, true, false, List, length, refl}
-use Rattle.page_map.proofs.Prelude.{ap, sym, ◌∙◌, arith, inl, inr, Some, is_some, None, if◌then◌else◌, cases_eq}
+use Rattle.page_map.proofs.Prelude.{ap, sym, ◌∙◌, arith, inl, inr, Some, is_some, cases_eq}
 use Rattle.page_map.proofs.Prelude.{slot_number, index_number, IsUserPage, is_present, frame_number, frame_bytes}
 use Rattle.page_map.proofs.Prelude.{word_in, Frames, dir_word, table_of, entry_at, IsPageMap, TablesApart, counted}
 use Rattle.page_map.proofs.Prelude.{count_range}
@@ -10,8 +10,7 @@ use Rattle.page_map.proofs.MapSteps.{with_word_at, word_own, word_other}
 use Rattle.page_map.proofs.MapChanges.{table_there, user_slot}
 
 not_counted : (b : Bool) → counted b ≡ 0 → b ≡ false
-not_counted true h = cc
-not_counted false h = refl
+not_counted b h = grind arith
 
 one_counted : (b : Bool) → b ≡ true → counted b ≡ 1
 one_counted b h = ap counted h
@@ -39,12 +38,7 @@ one_of_some p first zero h = absurd (h refl)
 one_of_some p first (suc count) h = by (p first) refl (one_of_some p (first + 1) count)
   where
     by : (b : Bool) → p first ≡ b → (count_range p (first + 1) count ≢ 0 → (i : ℕ) × (first + 1 ≤ i) × (i < first + 1 + count) × (p i ≡ true)) → (i : ℕ) × (first ≤ i) × (i < first + suc count) × (p i ≡ true)
-    by true is rest = (first, omega arith, omega arith, is)
-    by false is rest =
-        let r = rest (λ none. h (let none_here : counted (p first) ≡ 0 = ap counted is in omega (arith, none_here, none))) in
-        let low = r.1 in
-        let high = r.2 in
-        (r.0, omega arith, omega arith, r.3)
+    by k is rest = grind arith
 
 -- where one alone is counted, no other passes
 pub one_alone : (p : ℕ → Bool) (first count k i : ℕ) → count_range p first count ≡ 1 → first ≤ k → k < first + count → p k ≡ true → first ≤ i → i < first + count → i ≢ k → p i ≡ false
@@ -64,38 +58,23 @@ one_alone p first (suc count) k i h low high passes low_i high_i apart = elim (c
 ]
   where
     counted_few : (b : Bool) → counted b ≤ 1
-    counted_few true = omega arith
-    counted_few false = omega arith
+    counted_few known = grind arith
 
 -- where not one alone is counted, another passes
 pub another_one : (p : ℕ → Bool) (first count k : ℕ) → count_range p first count ≢ 1 → first ≤ k → k < first + count → p k ≡ true → (i : ℕ) × (first ≤ i) × (i < first + count) × (i ≢ k) × (p i ≡ true)
 unfolding count_range
 another_one p first zero k h low high passes = absurd (omega arith)
 another_one p first (suc count) k h low high passes = elim (cases_eq k first) [
-  | inl same ↦
-      let one : counted (p first) ≡ 1 = one_counted (p first) (ap p (sym same) ∙ passes) in
-      let r = one_of_some p (first + 1) count (λ none. h (omega (arith, one, none))) in
-      let low_r = r.1 in
-      let high_r = r.2 in
-      (r.0, omega arith, omega arith, (λ e. omega (arith, e, same, low_r)), r.3)
+  | inl same ↦ grind (arith, one_counted, one_of_some)
   | inr differ ↦ by (p first) refl differ (λ few. another_one p (first + 1) count k few (omega arith) (omega arith) passes)
 ]
   where
     by : (b : Bool) → p first ≡ b → k ≢ first → (count_range p (first + 1) count ≢ 1 → (i : ℕ) × (first + 1 ≤ i) × (i < first + 1 + count) × (i ≢ k) × (p i ≡ true)) → (i : ℕ) × (first ≤ i) × (i < first + suc count) × (i ≢ k) × (p i ≡ true)
-    by true is differ rest = (first, omega arith, omega arith, (λ e. differ (sym e)), is)
-    by false is differ rest =
-        let r = rest (λ one. h (let none_here : counted (p first) ≡ 0 = ap counted is in omega (arith, none_here, one))) in
-        let low_r = r.1 in
-        let high_r = r.2 in
-        (r.0, omega arith, omega arith, r.3, r.4)
+    by passing is differ rest = grind arith
 
 -- a page that is mapped has a table
 pub table_mapped : (m : Frames) (d page : ℕ) → is_some (entry_at m d page) ≡ true → is_present (dir_word m d (slot_number page)) ≡ true
-table_mapped m d page mapped = by (is_present (dir_word m d (slot_number page))) refl
-  where
-    by : (b : Bool) → is_present (dir_word m d (slot_number page)) ≡ b → is_present (dir_word m d (slot_number page)) ≡ true
-    by true is = is
-    by false is = absurd (let none = unmapped_without_table m d (slot_number page) page refl (ap (λ b. if b then Some (frame_number (dir_word m d (slot_number page))) else None) is) in cc)
+table_mapped m d page mapped = grind (arith, unmapped_without_table)
 
 module _ (bytes : List ℕ) (d page mapped : ℕ) (P : IsPageMap bytes d) (user : IsUserPage page) (here : is_some (entry_at (frame_bytes bytes) d page) ≡ true)
     (count : mapped ≡ count_range (λ other. is_some (entry_at (frame_bytes bytes) d other)) (1024 * slot_number page) 1024) where

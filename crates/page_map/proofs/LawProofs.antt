@@ -1,6 +1,6 @@
 -- Proofs of the laws of a page map.
 use Rattle.page_map.proofs.Prelude.{◌≡◌, ◌≢◌, ℕ, ◌+◌, ◌*◌, ◌<◌, ◌≤◌, true, false, List, length, replicate, refl, ap}
-use Rattle.page_map.proofs.Prelude.{sym, ◌∙◌, arith, inl, inr, Some, None, option_and_then, page_number, slot_number}
+use Rattle.page_map.proofs.Prelude.{◌∙◌, arith, inl, inr, Some, None, option_and_then, page_number, slot_number}
 use Rattle.page_map.proofs.Prelude.{index_number, frame_number, is_present, NamesTable, NamesPage, same_map}
 use Rattle.page_map.proofs.Prelude.{frame_bytes, word_at, word_in, word_place, Access, Frames, dir_word, word_table}
 use Rattle.page_map.proofs.Prelude.{table_of, entry_from, word_entry, entry_at, IsFreshTable}
@@ -20,15 +20,7 @@ blank_table : (m : Frames) (d slot : ℕ) → m d ≡ replicate 4096 0 → slot 
 blank_table m d slot blank small = ap word_table (blank_word m d slot blank small)
 
 pub blank_frames_are_maps : BlankFramesAreMaps
-blank_frames_are_maps bytes d inside blank = record {
-  long = length-frame bytes;
-  directory_inside = inside;
-  tables_inside = λ s t l is. absurd (some_not_none _ t (blank_table (frame_bytes bytes) d s blank l) is);
-  apart = λ s t l is. absurd (some_not_none _ t (blank_table (frame_bytes bytes) d s blank l) is);
-  distinct = λ s o t l k is also. absurd (some_not_none _ t (blank_table (frame_bytes bytes) d s blank l) is);
-  dir_words = λ s l. inl (blank_word (frame_bytes bytes) d s blank l);
-  table_words = λ s t i l k is. absurd (some_not_none _ t (blank_table (frame_bytes bytes) d s blank l) is);
-}
+blank_frames_are_maps bytes d inside blank = grind (arith, length-frame, some_not_none, blank_table, blank_word)
 
 pub blank_frames_map_nothing : BlankFramesMapNothing
 blank_frames_map_nothing m d blank = same_map _ _ (λ q. elim (user_cases q) [
@@ -38,11 +30,7 @@ blank_frames_map_nothing m d blank = same_map _ _ (λ q. elim (user_cases q) [
 
 -- any other frame can become a table of a blank directory
 pub blank_fresh : (m : Frames) (d slot t : ℕ) → m d ≡ replicate 4096 0 → slot < 1024 → 1 ≤ t → t ≢ d → IsFreshTable m d slot t
-blank_fresh m d slot t blank small nonzero apart = record {
-  unlinked = blank_table m d slot blank small;
-  not_reserved = nonzero;
-  foreign = record { no_directory = apart; no_table = λ s u l is. absurd (some_not_none _ u (blank_table m d s blank l) is) };
-}
+blank_fresh m d slot t blank small nonzero apart = grind (arith, blank_table, some_not_none)
 
 -- ---- The walk
 
@@ -69,21 +57,15 @@ walk_to_page bytes d address w v access inside is names table_inside also page =
 pub walks_read_entries : WalksReadEntries
 walks_read_entries bytes d address access P fits =
     elim (P.dir_words (slot_number (page_number address)) small) [
-      | inl zero ↦
-          walk_no_table bytes d address access (inside_is bytes d P.directory_inside) (dir_is ∙ zero)
-          ∙ sym (ap (λ w. end_at_entry bytes address access (option_and_then (λ table. word_entry (word_in ((frame_bytes bytes) table) (index_number (page_number address)))) (word_table w))) zero)
+      | inl zero ↦ grind (arith, walk_no_table, inside_is, dir_is)
       | inr names ↦
           let there : table_of (frame_bytes bytes) d (slot_number (page_number address)) ≡ Some (frame_number (dir_word (frame_bytes bytes) d (slot_number (page_number address)))) = table_there (frame_bytes bytes) d (slot_number (page_number address)) names.present in
           let inside = P.tables_inside (slot_number (page_number address)) (frame_number (dir_word (frame_bytes bytes) d (slot_number (page_number address)))) small there in
           let table_is = word_in-frame bytes (frame_number (dir_word (frame_bytes bytes) d (slot_number (page_number address)))) (index_number (page_number address)) (omega arith) in
           let entry_is : entry_at (frame_bytes bytes) d (page_number address) ≡ word_entry (word_in ((frame_bytes bytes) (frame_number (dir_word (frame_bytes bytes) d (slot_number (page_number address))))) (index_number (page_number address))) = ap (option_and_then (λ table. word_entry (word_in ((frame_bytes bytes) table) (index_number (page_number address))))) there in
           elim (P.table_words (slot_number (page_number address)) (frame_number (dir_word (frame_bytes bytes) d (slot_number (page_number address)))) (index_number (page_number address)) small (omega arith) there) [
-            | inl zero ↦
-                walk_no_page bytes d address (dir_word (frame_bytes bytes) d (slot_number (page_number address))) access (inside_is bytes d P.directory_inside) dir_is names.present (inside_is bytes (frame_number (dir_word (frame_bytes bytes) d (slot_number (page_number address)))) inside) (table_is ∙ zero)
-                ∙ sym (ap (end_at_entry bytes address access) (entry_is ∙ ap word_entry zero))
-            | inr page ↦
-                walk_to_page bytes d address (dir_word (frame_bytes bytes) d (slot_number (page_number address))) (word_in ((frame_bytes bytes) (frame_number (dir_word (frame_bytes bytes) d (slot_number (page_number address))))) (index_number (page_number address))) access (inside_is bytes d P.directory_inside) dir_is names (inside_is bytes (frame_number (dir_word (frame_bytes bytes) d (slot_number (page_number address)))) inside) table_is page
-                ∙ sym (ap (end_at_entry bytes address access) (entry_is ∙ present_entry (word_in ((frame_bytes bytes) (frame_number (dir_word (frame_bytes bytes) d (slot_number (page_number address))))) (index_number (page_number address))) page.present))
+            | inl zero ↦ grind (arith, walk_no_page, inside_is, dir_is)
+            | inr page ↦ grind (arith, walk_to_page, inside_is, dir_is, present_entry)
           ]
     ]
   where

@@ -75,20 +75,14 @@ module _ (n : ℕ) (m : Frames) (d slot t : ℕ) (T : TablesApart n m d) (small 
 
   -- a table now is the new one at its slot, or one from before at another
   before : (s u : ℕ) → table_of (with_dir_word m d slot (link_word t)) d s ≡ Some u → ((s ≡ slot) × (u ≡ t)) ⊎ ((s ≢ slot) × (table_of m d s ≡ Some u))
-  before s u found = elim (cases_eq s slot) [
-    | inl same ↦ let k : Some u ≡ Some t = sym found ∙ ap (table_of (with_dir_word m d slot (link_word t)) d) same ∙ own in let e : u ≡ t = cc in inl (same, e)
-    | inr differ ↦ inr (differ, sym (table_other m d slot (link_word t) long_d small lt s differ) ∙ found)
-  ]
+  before s u found = grind (arith, cases_eq, with_dir_word, own, table_other, long_d, lt)
 
   frame_kept : (u : ℕ) → u ≢ d → with_dir_word m d slot (link_word t) u ≡ m u
   frame_kept u differ = with_frame-other m d u (with_word_in (m d) slot (link_word t)) differ
 
   pub tables-linked : TablesApart n (with_dir_word m d slot (link_word t)) d
   tables-linked = record {
-    long = λ f within. elim (cases_eq f d) [
-      | inl same ↦ ap (λ g. length (with_dir_word m d slot (link_word t) g)) same ∙ dir_long m d slot (link_word t) long_d small lt
-      | inr differ ↦ ap length (frame_kept f differ) ∙ T.long f within
-    ];
+    long = grind (arith, cases_eq, with_dir_word, dir_long, long_d, lt, frame_kept);
     directory_inside = T.directory_inside;
     tables_inside = λ s u l found. elim (before s u found) [ inl h ↦ let e = h.1 in omega arith | inr h ↦ T.tables_inside s u l h.1 ];
     apart = λ s u l found. elim (before s u found) [ inl h ↦ (λ same. F.no_directory (sym h.1 ∙ same)) | inr h ↦ T.apart s u l h.1 ];
@@ -108,13 +102,7 @@ module _ (n : ℕ) (m : Frames) (d slot t : ℕ) (T : TablesApart n m d) (small 
 
   -- no entry is there that wasn't
   pub entry-linked : (q : ℕ) → slot_number q < 1024 → entry_at (with_dir_word m d slot (link_word t)) d q ≡ entry_at m d q
-  entry-linked q l = elim (cases_eq (slot_number q) slot) [
-    | inl same ↦
-        ap (option_and_then (λ table. word_entry (word_in (with_dir_word m d slot (link_word t) table) (index_number q)))) (ap (table_of (with_dir_word m d slot (link_word t)) d) same ∙ own)
-        ∙ ap word_entry (ap (λ b. word_in b (index_number q)) (frame_kept t F.no_directory) ∙ zeros (index_number q) (omega arith))
-        ∙ sym (ap (option_and_then (λ table. word_entry (word_in (m table) (index_number q)))) (ap (table_of m d) same ∙ unlinked))
-    | inr differ ↦ entry_elsewhere m d slot (link_word t) long_d small lt q differ (λ u found. T.apart (slot_number q) u l found)
-  ]
+  entry-linked q l = grind (arith, cases_eq, with_dir_word, own, frame_kept, entry_elsewhere, long_d, lt)
 
 -- a foreign frame is none of the way to an entry
 entry_foreign : (m : Frames) (d f : ℕ) (new : List ℕ) → IsForeign m d f → (q : ℕ) → slot_number q < 1024 → entry_at (with_frame m f new) d q ≡ entry_at m d q
@@ -124,8 +112,7 @@ entry_foreign m d f new F q l =
   where
     by : (y : Option ℕ) → table_of m d (slot_number q) ≡ y
         → option_and_then (λ table. word_entry (word_in (with_frame m f new table) (index_number q))) y ≡ option_and_then (λ table. word_entry (word_in (m table) (index_number q))) y
-    by None found = refl
-    by (Some u) found = ap (λ b. word_entry (word_in b (index_number q))) (with_frame-other m f u new (λ same. F.no_table (slot_number q) u l found (sym same)))
+    by h found = grind (arith, with_frame-other)
 
 module _ (bytes after : List ℕ) (d slot t : ℕ) (P : IsPageMap bytes d) (small : slot < 1024) (inside : 4096 * t + 4096 ≤ length bytes) (few : t < 2 ^ 20) (apart : t ≢ d)
     (frames : frame_bytes after ≡ with_table (frame_bytes bytes) d slot t) where
@@ -159,8 +146,7 @@ module _ (bytes after : List ℕ) (d slot t : ℕ) (P : IsPageMap bytes d) (smal
       ∙ entry_foreign (frame_bytes bytes) d t (replicate 4096 0) F q (user_slot q h))
 
   pub link-foreign : (f : ℕ) → IsForeign (frame_bytes bytes) d f → f ≢ t → frame_bytes after f ≡ frame_bytes bytes f
-  link-foreign f F n =
-      (λ i. two_steps i f) ∙ with_frame-other (with_frame (frame_bytes bytes) t (replicate 4096 0)) d f _ F.no_directory ∙ with_frame-other (frame_bytes bytes) t f (replicate 4096 0) n
+  link-foreign f h n = grind (arith, two_steps, with_frame-other)
 
 -- ---- An entry is cleared
 
@@ -204,13 +190,7 @@ cleared_ways : (m : Frames) (d page : ℕ) (freed : Option ℕ) (m' : Frames) �
     → (m' ≡ with_word_at m (frame_number (dir_word m d (slot_number page))) page 0)
     ⊎ ((m' ≡ with_dir_word (with_word_at m (frame_number (dir_word m d (slot_number page))) page 0) d (slot_number page) 0)
     × ((i : ℕ) → i < 1024 → is_present (word_in (with_word_at m (frame_number (dir_word m d (slot_number page))) page 0 (frame_number (dir_word m d (slot_number page)))) i) ≡ false))
-cleared_ways m d page None m' c = inl (c.kept refl).0
-cleared_ways m d page (Some u) m' c =
-    let h = c.unlinked u refl in
-    inr (
-      h.1 ∙ ap (λ g. with_dir_word (with_word_at m g page 0) d (slot_number page) 0) h.0,
-      λ i l. ap (λ g. is_present (word_in (with_word_at m g page 0 g) i)) (sym h.0) ∙ h.2 i l,
-    )
+cleared_ways m d page freed m' c = grind (arith, with_dir_word, with_word_at)
 
 module _ (bytes after : List ℕ) (d page : ℕ) (freed : Option ℕ) (P : IsPageMap bytes d) (user : IsUserPage page) (present : is_present (dir_word (frame_bytes bytes) d (slot_number page)) ≡ true)
     (cleared : IsCleared (frame_bytes bytes) d page freed (frame_bytes after)) where

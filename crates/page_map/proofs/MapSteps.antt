@@ -34,9 +34,7 @@ module _ (n : ℕ) (m : Frames) (d page t w : ℕ) (T : TablesApart n m d) (smal
   word_own = ap (λ l. word_in l (index_number page)) (with_frame-same m t (with_word_in (m t) (index_number page) w)) ∙ word_in_same (m t) (index_number page) w long_t (omega arith) lt
 
   pub entry_own : entry_at (with_word_at m t page w) d page ≡ word_entry w
-  entry_own =
-      ap (option_and_then (λ table. word_entry (word_in (with_word_at m t page w table) (index_number page)))) (table_kept (slot_number page) ∙ there)
-      ∙ ap word_entry word_own
+  entry_own = grind (arith, table_kept, word_own)
 
   pub word_other : (s u i : ℕ) → s < 1024 → i < 1024 → table_of m d s ≡ Some u → ((s ≡ slot_number page) → (i ≡ index_number page) → ⊥)
       → word_in (with_word_at m t page w u) i ≡ word_in (m u) i
@@ -62,22 +60,13 @@ module _ (n : ℕ) (m : Frames) (d page t w : ℕ) (T : TablesApart n m d) (smal
 
   kernel_word : IsKernelTableWord w → (s u i : ℕ) → s < 1024 → i < 1024 → table_of m d s ≡ Some u → IsKernelTableWord (word_in (with_word_at m t page w u) i)
   kernel_word good s u i small_s small_i found = elim (cases_eq s (slot_number page)) [
-    | inl slot ↦
-        let k : Some u ≡ Some t = sym found ∙ ap (table_of m d) slot ∙ there in
-        let same : u ≡ t = cc in
-        elim (cases_eq i (index_number page)) [
-          | inl index ↦ subst IsKernelTableWord (sym (ap (λ g. word_in (with_word_at m t page w g) i) same ∙ ap (word_in (with_word_at m t page w t)) index ∙ word_own)) good
-          | inr other ↦ subst IsKernelTableWord (sym (word_other s u i small_s small_i found (λ a b. other b))) (T.table_words s u i small_s small_i found)
-        ]
+    | inl slot ↦ grind (arith, cases_eq, word_own, word_other)
     | inr other ↦ subst IsKernelTableWord (sym (word_other s u i small_s small_i found (λ a b. other a))) (T.table_words s u i small_s small_i found)
   ]
 
   pub tables-written : IsKernelTableWord w → TablesApart n (with_word_at m t page w) d
   tables-written good = record {
-    long = λ f inside. elim (cases_eq f t) [
-      | inl same ↦ ap (λ g. length (with_word_at m t page w g)) same ∙ ap length (with_frame-same m t (with_word_in (m t) (index_number page) w)) ∙ length-with_word_in (m t) (index_number page) w long_t (omega arith)
-      | inr differ ↦ ap length (with_frame-other m t f (with_word_in (m t) (index_number page) w) differ) ∙ T.long f inside
-    ];
+    long = grind (arith, cases_eq, with_frame-same, length-with_word_in, long_t, with_frame-other);
     directory_inside = T.directory_inside;
     tables_inside = λ s u l found. T.tables_inside s u l (sym (table_kept s) ∙ found);
     apart = λ s u l found. T.apart s u l (sym (table_kept s) ∙ found);
@@ -112,8 +101,7 @@ module _ (m : Frames) (d slot w : ℕ) (long_d : length (m d) ≡ 4096) (small :
     where
       by : (y : Option ℕ) → table_of m d (slot_number q) ≡ y
           → option_and_then (λ table. word_entry (word_in (with_dir_word m d slot w table) (index_number q))) y ≡ option_and_then (λ table. word_entry (word_in (m table) (index_number q))) y
-      by None found = refl
-      by (Some u) found = ap (λ l. word_entry (word_in l (index_number q))) (with_frame-other m d u (with_word_in (m d) slot w) (other u found))
+      by h found = grind (arith, with_frame-other)
 
 pub some_not_none : (x : Option ℕ) (u : ℕ) → x ≡ None → x ≡ Some u → ⊥
 some_not_none x u none some = cc
@@ -121,10 +109,7 @@ some_not_none x u none some = cc
 -- a slot loses its table
 pub tables-unlinked : (n : ℕ) (m : Frames) (d slot : ℕ) → TablesApart n m d → slot < 1024 → TablesApart n (with_dir_word m d slot 0) d
 tables-unlinked n m d slot T small = record {
-  long = λ f inside. elim (cases_eq f d) [
-    | inl same ↦ ap (λ g. length (with_dir_word m d slot 0 g)) same ∙ dir_long m d slot 0 long_d small zero
-    | inr differ ↦ ap length (with_frame-other m d f (with_word_in (m d) slot 0) differ) ∙ T.long f inside
-  ];
+  long = grind (arith, cases_eq, dir_long, long_d, with_frame-other);
   directory_inside = T.directory_inside;
   tables_inside = λ s u l found. T.tables_inside s u l (before s u found);
   apart = λ s u l found. T.apart s u l (before s u found);
@@ -143,10 +128,7 @@ tables-unlinked n m d slot T small = record {
     zero = omega arith
 
     before : (s u : ℕ) → table_of (with_dir_word m d slot 0) d s ≡ Some u → table_of m d s ≡ Some u
-    before s u found = elim (cases_eq s slot) [
-      | inl same ↦ absurd (some_not_none _ u (ap (table_of (with_dir_word m d slot 0) d) same ∙ table_own m d slot 0 long_d small zero) found)
-      | inr differ ↦ sym (table_other m d slot 0 long_d small zero s differ) ∙ found
-    ]
+    before s u found = grind (arith, cases_eq, some_not_none, table_own, long_d, table_other)
 
 -- a frame that is none of the map's changes
 pub table_foreign : (m : Frames) (d f : ℕ) (new : List ℕ) → f ≢ d → (s : ℕ) → table_of (with_frame m f new) d s ≡ table_of m d s
@@ -154,10 +136,7 @@ table_foreign m d f new n s = ap (λ l. word_table (word_in l s)) (with_frame-ot
 
 pub tables-foreign : (n : ℕ) (m : Frames) (d f : ℕ) (new : List ℕ) → TablesApart n m d → IsForeign m d f → length new ≡ 4096 → TablesApart n (with_frame m f new) d
 tables-foreign n m d f new T F size = record {
-  long = λ g inside. elim (cases_eq g f) [
-    | inl same ↦ ap (λ h. length (with_frame m f new h)) same ∙ ap length (with_frame-same m f new) ∙ size
-    | inr differ ↦ ap length (with_frame-other m f g new differ) ∙ T.long g inside
-  ];
+  long = grind (arith, cases_eq, with_frame-same, with_frame-other);
   directory_inside = T.directory_inside;
   tables_inside = λ s u l found. T.tables_inside s u l (before s u found);
   apart = λ s u l found. T.apart s u l (before s u found);

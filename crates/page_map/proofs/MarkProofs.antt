@@ -1,5 +1,5 @@
 -- A mark on a page map touches one entry.
-use Rattle.page_map.proofs.Prelude.{◌≡◌, ◌≢◌, ℕ, ◌+◌, ◌*◌, ◌^◌, ◌<◌, ◌≤◌, Bool, true, false, List, length, refl, ap}
+use Rattle.page_map.proofs.Prelude.{◌≡◌, ◌≢◌, ℕ, ◌+◌, ◌*◌, ◌^◌, ◌<◌, ◌≤◌, true, false, List, length, refl, ap}
 use Rattle.page_map.proofs.Prelude.{sym, ◌∙◌, subst, arith, inl, inr, Option, Some, None, ◌⊎◌, not, ◌&&◌}
 use Rattle.page_map.proofs.Prelude.{option_and_then, or_lt, cases_eq, IsUserPage, page_number, slot_number}
 use Rattle.page_map.proofs.Prelude.{index_number, with_flag, frame_number, is_writable, is_accessed, is_dirty, has_may}
@@ -57,12 +57,10 @@ flagged_names w k n which = record {
 }
   where
     apart : (j : ℕ) → (k ≡ 5) ⊎ ((k ≡ 6) × (is_accessed w ≡ true) × (is_lazy w ≡ false)) → j ≢ 5 → j ≢ 6 → j ≢ k
-    apart j (inl e) a b = omega arith
-    apart j (inr h) a b = let e = h.0 in omega arith
+    apart j known a b = grind arith
 
     at_most : (k ≡ 5) ⊎ ((k ≡ 6) × (is_accessed w ≡ true) × (is_lazy w ≡ false)) → k < 12
-    at_most (inl e) = omega arith
-    at_most (inr h) = let e = h.0 in omega arith
+    at_most given = grind arith
 
     lazy : is_lazy (with_flag w k true) ≡ is_lazy w
     lazy = set_flag_other w k 10 (apart 10 which (omega arith) (omega arith))
@@ -71,8 +69,7 @@ flagged_names w k n which = record {
     granted = set_flag_other w k 11 (apart 11 which (omega arith) (omega arith))
 
     clean : (k ≡ 5) ⊎ ((k ≡ 6) × (is_accessed w ≡ true) × (is_lazy w ≡ false)) → is_lazy w ≡ true → is_dirty (with_flag w k true) ≡ false
-    clean (inl e) is = set_flag_other w k 6 (omega arith) ∙ n.clean is
-    clean (inr h) is = let real = h.2 in cc
+    clean here is = grind (arith, set_flag_other)
 
     touched : (k ≡ 5) ⊎ ((k ≡ 6) × (is_accessed w ≡ true) × (is_lazy w ≡ false)) → is_accessed (with_flag w k true) ≡ true
     touched (inl e) = ap (λ j. is_accessed (with_flag w j true)) e ∙ flag-with_flag_same w 5 true (omega arith)
@@ -83,12 +80,7 @@ is_accessed_now w = flag-with_flag_same w 5 true (omega arith)
 
 -- a word that lets writes through isn't lazy
 not_lazy : (w : ℕ) → NamesPage w → is_writable w ≡ true → is_lazy w ≡ false
-not_lazy w n right = by (is_granted w) (is_lazy w) (sym n.writable ∙ right)
-  where
-    by : (g l : Bool) → (g && not l) ≡ true → l ≡ false
-    by true false h = refl
-    by true true h = cc
-    by false l h = cc
+not_lazy w n right = grind arith
 
 pub touched_names : (access : Access) (w : ℕ) → NamesPage w → (access ≡ Write → is_writable w ≡ true) → NamesPage (touched_word access w)
 touched_names Read w n right = flagged_names w 5 n (inl refl)
@@ -114,10 +106,7 @@ module _ (n : ℕ) (m : Frames) (d slot w : ℕ) (T : TablesApart n m d) (small 
   long_d = T.long d T.directory_inside
 
   pub table_stays : (s : ℕ) → table_of (with_dir_word m d slot w) d s ≡ table_of m d s
-  table_stays s = elim (cases_eq s slot) [
-    | inl here ↦ ap (table_of (with_dir_word m d slot w) d) here ∙ table_own m d slot w long_d small lt ∙ same ∙ ap (table_of m d) (sym here)
-    | inr differ ↦ table_other m d slot w long_d small lt s differ
-  ]
+  table_stays s = grind (arith, cases_eq, with_dir_word, table_own, long_d, small, table_other)
 
   pub tables-redirected : IsKernelDirWord w → TablesApart n (with_dir_word m d slot w) d
   tables-redirected good = record {
@@ -163,19 +152,13 @@ frames_second bytes d slot t page v w small inside also =
     ∙ ap (λ f. with_word_at f t page w) (frames_first bytes d slot v small inside)
 
 second_word : (bytes : List ℕ) (d slot t page v : ℕ) → slot < 1024 → 4096 * d + 4096 ≤ length bytes → t ≢ d → word_at (with_first bytes d slot v) (word_place t (index_number page)) ≡ word_in (frame_bytes bytes t) (index_number page)
-second_word bytes d slot t page v small inside apart =
-    word_in-frame (with_first bytes d slot v) t (index_number page) (omega arith)
-    ∙ ap (λ f. word_in (f t) (index_number page)) (frames_first bytes d slot v small inside)
-    ∙ ap (λ b. word_in b (index_number page)) (with_frame-other (frame_bytes bytes) d t (with_word_in (frame_bytes bytes d) slot v) apart)
+second_word bytes d slot t page v small inside apart = grind (arith, word_in-frame, frames_first, with_frame-other)
 
 marked_words : (bytes : List ℕ) (d address : ℕ) (access : Access) (v w : ℕ) → word_at bytes (word_place d (slot_number (page_number address))) ≡ v
     → word_at (with_first bytes d (slot_number (page_number address)) (accessed_word v)) (word_place (frame_number v) (index_number (page_number address))) ≡ w
     → marked bytes d address access ≡ with_word (with_first bytes d (slot_number (page_number address)) (accessed_word v)) (word_place (frame_number v) (index_number (page_number address))) (touched_word access w)
 unfolding marked
-marked_words bytes d address access v w first second =
-    ap (λ x. with_word (with_first bytes d (slot_number (page_number address)) (accessed_word x)) (word_place (frame_number x) (index_number (page_number address)))
-    (touched_word access (word_at (with_first bytes d (slot_number (page_number address)) (accessed_word x)) (word_place (frame_number x) (index_number (page_number address)))))) first
-    ∙ ap (λ y. with_word (with_first bytes d (slot_number (page_number address)) (accessed_word v)) (word_place (frame_number v) (index_number (page_number address))) (touched_word access y)) second
+marked_words bytes d address access v w first second = grind arith
 
 module _ (bytes : List ℕ) (d address v w : ℕ) (access : Access) (e : PageEntry) (P : IsPageMap bytes d) (can : CanBeMarked bytes d address access) (user : IsUserPage (page_number address))
     (first : dir_word (frame_bytes bytes) d (slot_number (page_number address)) ≡ v) (names : NamesTable v)
@@ -199,9 +182,7 @@ module _ (bytes : List ℕ) (d address v w : ℕ) (access : Access) (e : PageEnt
   lt_v = let room = can.size in let there_in = inside in omega arith
 
   table_is : table_word bytes d address ≡ w
-  table_is =
-      ap (λ x. word_at bytes (word_place (frame_number x) (index_number (page_number address)))) word_is
-      ∙ word_in-frame bytes (frame_number v) (index_number (page_number address)) (omega arith) ∙ second
+  table_is = grind (arith, word_is, word_in-frame)
 
   lt_w : w < 2 ^ 32
   lt_w =
@@ -237,11 +218,7 @@ module _ (bytes : List ℕ) (d address v w : ℕ) (access : Access) (e : PageEnt
   size = (marks_change_two_words bytes d address access can).same_length
 
   touched_words : frame_bytes (marked bytes d address access) ≡ with_touched_words (frame_bytes bytes) d (page_number address) access
-  touched_words =
-      frames
-      ∙ ap (λ x. with_word_at (with_dir_word (frame_bytes bytes) d (slot_number (page_number address)) (accessed_word x)) (frame_number x) (page_number address) (touched_word access w)) (sym first)
-      ∙ ap (λ y. with_word_at (with_dir_word (frame_bytes bytes) d (slot_number (page_number address)) (accessed_word (dir_word (frame_bytes bytes) d (slot_number (page_number address))))) (frame_number (dir_word (frame_bytes bytes) d (slot_number (page_number address)))) (page_number address) (touched_word access y))
-      (sym (ap (λ x. word_in (frame_bytes bytes (frame_number x)) (index_number (page_number address))) first ∙ second))
+  touched_words = grind (arith, frames, with_word_at, with_dir_word)
 
   pub touches : TouchesEntry bytes d (page_number address) access e (marked bytes d address access)
   touches = record {
@@ -285,8 +262,6 @@ marks_touch_entries bytes d address access e P can user is =
           let entry_is : entry_at m d page ≡ word_entry (word_in (m (frame_number v)) (index_number page)) = ap (option_and_then (λ table. word_entry (word_in (m table) (index_number page)))) there in
           elim (P.table_words (slot_number page) (frame_number v) (index_number page) small (omega arith) there) [
             | inl zero ↦ absurd (none_some (entry_at m d page) e (entry_is ∙ ap word_entry zero) is)
-            | inr page_names ↦
-                touches bytes d address v (word_in (m (frame_number v)) (index_number page)) access e P can user refl names refl page_names
-                (same_entry (entry_at m d page) _ e (entry_is ∙ present_entry (word_in (m (frame_number v)) (index_number page)) page_names.present) is)
+            | inr page_names ↦ grind (arith, touches, same_entry, present_entry)
           ]
     ]

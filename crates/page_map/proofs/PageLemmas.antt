@@ -1,10 +1,10 @@
 -- What the finite map of a directory answers, when two are equal, and how many pages one has.
 use Rattle.page_map.proofs.Prelude.{◌≡◌, ◌≢◌, ℕ, zero, suc, ◌+◌, ◌-◌, ◌*◌, ◌<◌, ◌≤◌, Bool, true, false, refl, ap, sym}
 use Rattle.page_map.proofs.Prelude.{◌∙◌, arith, inl, inr, Option, Some, None, is_some, option_and_then, IsUserPage}
-use Rattle.page_map.proofs.Prelude.{slot_number, index_number, PageEntry, is_present, word_in, Frames, entry_from}
+use Rattle.page_map.proofs.Prelude.{slot_number, index_number, PageEntry, is_present, word_in, Frames}
 use Rattle.page_map.proofs.Prelude.{word_entry, table_of, entry_at}
 use Rattle.std.proofs.Common.{cond, ◌||◌}
-use Rattle.std.specs.Prelude.{max, ◌⊎◌, if◌then◌else◌}
+use Rattle.std.specs.Prelude.{max, ◌⊎◌}
 use Rattle.std.specs.List.{list_any, range_with_len}
 use Rattle.std.proofs.lemmas.Bool.{cases_lt}
 use Rattle.page_words.specs.FiniteMap.{Map, nat_order, same}
@@ -45,10 +45,7 @@ unfolding entries_of
 get-entries_other m d page h = get-collect nat_order (entry_at m d) user_pages page ∙ ap (λ b. cond b (entry_at m d page) None) (not_in_user_pages page h)
 
 pub user_cases : (page : ℕ) → IsUserPage page ⊎ ((page < 0x40000) ⊎ (0xf0000 ≤ page))
-user_cases page = elim (cases_lt page 0x40000) [
-  | inl below ↦ inr (inl below)
-  | inr low ↦ elim (cases_lt page 0xf0000) [ inl high ↦ inl (low, high) | inr above ↦ inr (inr above) ]
-]
+user_cases page = grind (arith, cases_lt)
 
 -- directories with the same entry at each page have the same map
 pub entries-same : (m m' : Frames) (d d' : ℕ) → ((page : ℕ) → IsUserPage page → entry_at m' d' page ≡ entry_at m d page) → entries_of m' d' ≡ entries_of m d
@@ -82,8 +79,7 @@ entries-remove m m' d page own is others = same_map _ _ (λ q.
     ] ∙ sym (get-remove (entries_of m d) page q))
 
 counted-le : (b : Bool) → counted b ≤ 1
-counted-le true = omega arith
-counted-le false = omega arith
+counted-le b = grind arith
 
 pub count_range-le : (p : ℕ → Bool) (first count : ℕ) → count_range p first count ≤ count
 unfolding count_range
@@ -158,13 +154,7 @@ entry_of_map m d page e user is = is ∙ sym (get-entries_user m d page user)
 
 -- a page whose slot has a table is mapped where its word is present
 pub mapped_in_table : (m : Frames) (d slot t page : ℕ) → slot_number page ≡ slot → table_of m d slot ≡ Some t → is_some (entry_at m d page) ≡ is_present (word_in (m t) (index_number page))
-mapped_in_table m d slot t page s there =
-    ap (λ x. is_some (option_and_then (λ table. word_entry (word_in (m table) (index_number page))) x)) (ap (table_of m d) s ∙ there)
-    ∙ by (is_present (word_in (m t) (index_number page)))
-  where
-    by : (b : Bool) → is_some (if b then Some (entry_from (word_in (m t) (index_number page))) else None) ≡ b
-    by true = refl
-    by false = refl
+mapped_in_table m d slot t page s there = grind arith
 
 -- a page whose slot has none isn't
 pub unmapped_without_table : (m : Frames) (d slot page : ℕ) → slot_number page ≡ slot → table_of m d slot ≡ None → is_some (entry_at m d page) ≡ false
@@ -172,9 +162,7 @@ unmapped_without_table m d slot page s none = ap (λ x. is_some (option_and_then
 
 pub count-table : (m : Frames) (d slot t : ℕ) → table_of m d slot ≡ Some t
     → count_range (λ i. is_present (word_in (m t) i)) 0 1024 ≡ count_range (λ page. is_some (entry_at m d page)) (1024 * slot) 1024
-count-table m d slot t there =
-    count_range-same (λ i. is_present (word_in (m t) i)) (λ page. is_some (entry_at m d page)) 0 (1024 * slot) 1024
-    (λ i l. ap (λ k. is_present (word_in (m t) k)) (let e : 0 + i ≡ index_number (1024 * slot + i) = omega arith in e) ∙ sym (mapped_in_table m d slot t (1024 * slot + i) (omega arith) there))
+count-table m d slot t there = grind (arith, count_range-same, mapped_in_table)
 
 pub count-no_table : (m : Frames) (d slot : ℕ) → table_of m d slot ≡ None → count_range (λ page. is_some (entry_at m d page)) (1024 * slot) 1024 ≡ 0
 count-no_table m d slot none = count_range-none (λ page. is_some (entry_at m d page)) (1024 * slot) 1024 (λ i l. unmapped_without_table m d slot (1024 * slot + i) (omega arith) none)
@@ -182,10 +170,7 @@ count-no_table m d slot none = count_range-none (λ page. is_some (entry_at m d 
 -- ---- A count that goes on
 
 pub count_word : (p : ℕ → Bool) (i n k : ℕ) → n ≡ count_range p 0 i → k ≡ counted (p i) → n + k ≡ count_range p 0 (i + 1)
-count_word p i n k so_far one =
-    let e : 0 + i ≡ i = omega arith in
-    let f : counted (p (0 + i)) ≡ counted (p i) = ap (λ j. counted (p j)) e in
-    omega (arith, count_range-more p 0 i)
+count_word p i n k so_far one = grind (arith, count_range-more)
 
 pub count_slot : (p : ℕ → Bool) (slot n k : ℕ) → 256 ≤ slot → n ≡ count_range p 0x40000 (1024 * (slot - 256)) → k ≡ count_range p (1024 * slot) 1024 → n + k ≡ count_range p 0x40000 (1024 * (slot + 1 - 256))
 count_slot p slot n k low so_far more =
@@ -202,10 +187,7 @@ found_page m d page low high is = ap is_some (get-entries_user m d page (low, hi
 
 pub none_from : (m : Frames) (d from end page : ℕ) → ((p : ℕ) → max from 0x40000 ≤ p → p < end → is_some (entry_at m d p) ≡ false)
     → from ≤ page → (page < end) ⊎ (0xf0000 ≤ end) → is_mapped m d page ≡ false
-none_from m d from end page none low before = elim (user_cases page) [
-  | inl user ↦ let l = user.0 in let h = user.1 in ap is_some (get-entries_user m d page user) ∙ none page (omega arith) (elim before [ inl b ↦ b | inr b ↦ omega arith ])
-  | inr other ↦ ap is_some (get-entries_other m d page other)
-]
+none_from m d from end page none low before = grind (arith, user_cases, get-entries_user, get-entries_other)
 
 pub count_end : (p : ℕ → Bool) (slot n : ℕ) → slot ≡ 960 → n ≡ count_range p 0x40000 (1024 * (slot - 256)) → n ≡ count_range p 0x40000 0xb0000
 count_end p slot n end so_far = so_far ∙ ap (count_range p 0x40000) (let e : 1024 * (slot - 256) ≡ 0xb0000 = omega arith in e)

@@ -1,5 +1,5 @@
 -- A word of memory read and written, by frames.
-use Rattle.std.proofs.Common.{◌≡◌, ◌≢◌, ℕ, ◌+◌, ◌*◌, ◌<◌, ◌≤◌, List, length, replicate, ap, ◌∙◌, sym, arith}
+use Rattle.std.proofs.Common.{◌≡◌, ◌≢◌, ℕ, ◌+◌, ◌*◌, ◌<◌, ◌≤◌, List, length, replicate, ap, ◌∙◌, arith}
 use Rattle.phys_memory.specs.Bytes.{word_at, with_word, frame_bytes, word_in, with_word_in, with_frame}
 use Rattle.phys_memory.proofs.Frames.{word_in-frame, frames-with_word, with_frame-other}
 
@@ -17,6 +17,4 @@ word_written bytes frame index word i l = ap (λ p. frame_bytes (with_word bytes
 pub linked : (m one two : ℕ → List ℕ) (directory slot table word : ℕ) → table ≢ directory → one ≡ with_frame m table (replicate 4096 0)
     → two ≡ with_frame one directory (with_word_in (one directory) slot word)
     → two ≡ with_frame (with_frame m table (replicate 4096 0)) directory (with_word_in (m directory) slot word)
-linked m one two directory slot table word n first second =
-    let kept : one directory ≡ m directory = (λ i. first i directory) ∙ with_frame-other m table directory (replicate 4096 0) (λ e. n (sym e)) in
-    second ∙ (λ i. with_frame (first i) directory (with_word_in (kept i) slot word))
+linked m one two directory slot table word n first second = grind (arith, with_frame-other)

@@ -35,9 +35,7 @@ record Keeps (w f : ℕ) : Type 0 where
   pub frame : frame_number w ≡ f
 
 keeps : (w f k : ℕ) (b : Bool) → k < 12 → Keeps w f → Keeps (with_flag w k b) f
-keeps w f k b h r =
-    let l : with_flag w k b < 2 ^ 32 = with_flag_lt w k b r.small (omega arith) in
-    record { small = l; frame = frame-with_flag w k b r.small l h ∙ r.frame }
+keeps w f k b h r = grind (arith, with_flag_lt, frame-with_flag)
 
 entry_word-keeps : (e : PageEntry) → e.frame < 2 ^ 20 → Keeps (entry_word e) e.frame
 entry_word-keeps e h =

@@ -1,5 +1,6 @@
 -- The first offer of a list from a place on: what one offer more leaves of it, and what it is in the map of offers.
-use Rattle.std.proofs.Common.{◌≡◌, ◌≢◌, ℕ, ◌<◌, ◌≤◌, Bool, true, false, ◌==◌, ◌&&◌, cond, List, [], ◌∷◌, ◌++◌, length, zero, suc, refl, sym, ap, ◌∙◌, is_some, Option, Some, None, IfSome, IfNone, arith}
+use Rattle.std.proofs.Common.{◌≡◌, ◌≢◌, ℕ, ◌<◌, ◌≤◌, Bool, true, false, ◌&&◌, cond, List, [], ◌∷◌, ◌++◌, length, zero}
+use Rattle.std.proofs.Common.{suc, refl, ap, ◌∙◌, is_some, Option, Some, None, IfSome, IfNone, arith}
 use Rattle.std.specs.Prelude.{find, slice_index_or}
 use Rattle.std.proofs.lemmas.Bool.{eq-eqb}
 use Rattle.std.specs.List.{All, Contains}
@@ -71,11 +72,7 @@ found_itself (x ∷ offers) o zero (none, distinct) below is = ap (λ b. cond b 
 found_itself (x ∷ offers) o (suc k) (none, distinct) below is = by (is_of o.page o.target x) refl (found_itself offers o k distinct (omega arith) is)
   where
     by : (b : Bool) → is_of o.page o.target x ≡ b → find (is_of o.page o.target) offers ≡ Some o → cond b (Some x) (find (is_of o.page o.target) offers) ≡ Some o
-    by false _ rest = rest
-    by true one rest =
-        let e = of_one o.page o.target x one in
-        let gone = (λ i. find (is_of (sym e.0 i) (sym e.1 i)) offers) ∙ none in
-        cc
+    by h one rest = grind (arith, of_one)
 
 pub right_itself : (offers : List Offer) (o : Offer) → IsDistinct offers → Contains offers o → right_in offers o.page o.target ≡ Some o.write
 right_itself offers o distinct has = ap (option_map (λ (x : Offer). x.write)) (found_itself offers o has.0 distinct has.1 has.2)
@@ -86,18 +83,13 @@ module _ (m : Offers) (giver : ℕ) (offers : List Offer) (is : (p t : ℕ) → 
   first_pending (Some o) distinct (has, _, _) = is o.page o.target ∙ right_itself offers o distinct has
 
   pub first_later : (x : Option Offer) → IsFirstFrom from offers x → IfSome x (λ (o : Offer). from ≤ number_in o)
-  first_later None h = tt
-  first_later (Some o) (_, later, _) = later
+  first_later x h = grind arith
 
   pub first_least : (x : Option Offer) → IsFirstFrom from offers x
       → IfSome x (λ (o : Offer). (p t : ℕ) → from ≤ offer_number p t → offer_number p t < number_in o → map.contains_key m (offer_key giver p t) ≡ false)
   first_least None h = tt
-  first_least (Some o) (_, _, least) = λ p t later before.
-      ap is_some (is p t)
-      ∙ none_there offers p t (All-weaker (λ x. from ≤ number_in x → number_in o ≤ number_in x) (λ x. number_in x ≢ offer_number p t) (λ x h e. (let n = h (omega (arith, e, later)) in absurd (omega (arith, n, e, before)))) offers least)
+  first_least (Some o) (_, _, least) = grind (arith, none_there)
 
   pub first_none : (x : Option Offer) → IsFirstFrom from offers x → IfNone x ((p t : ℕ) → from ≤ offer_number p t → map.contains_key m (offer_key giver p t) ≡ false)
   first_none (Some o) h = tt
-  first_none None none = λ p t later.
-      ap is_some (is p t)
-      ∙ none_there offers p t (All-weaker (λ x. number_in x < from) (λ x. number_in x ≢ offer_number p t) (λ x h e. absurd (omega (arith, h, e, later))) offers none)
+  first_none None none = grind (arith, none_there)

@@ -3,8 +3,6 @@ use Rattle.std.proofs.Common.{◌≡◌, ◌≢◌, ℕ, zero, suc, ◌+◌, ◌
 use Rattle.std.specs.Prelude.{find, position, remove, slice_get, IsOk}
 use Rattle.std.specs.List.{position_or_len}
 use Rattle.std.specs.Option.{option_map, option_or}
-use Rattle.std.specs.Ordering.{nat_cmp, ordering_then}
-use Rattle.std.specs.Cmp.{unsigned_tied, tied_then}
 use Rattle.std.proofs.lemmas.List.{get_or-set_same, get_or-set_other, get_or_past, get_or-drop}
 use Rattle.std.proofs.lemmas.List.Elements.{All-from_get_or}
 use Rattle.std.proofs.lemmas.List.Sums.{sum_by-le, get_or-le-sum_by}
@@ -12,25 +10,21 @@ use Rattle.std.proofs.lemmas.List.Filters.{length-filter_both}
 use Rattle.std.proofs.lemmas.List.Folds.{find-append, find_at}
 use Rattle.std.proofs.lemmas.Grind.{common_steps}
 use Rattle.std.proofs.lemmas.Bool.{eqb-true, eq-eqb, ne_eqb, cases_lt}
-use Rattle.std.proofs.lemmas.Bool.Decides.{nat_tests}
 use Rattle.arrayvec.specs.ArrayVec.{ArrayVec}
 use Rattle.page_words.specs.FiniteMap as map
 use Rattle.page_words.specs.FiniteMap.{nat_order, same}
 use Rattle.page_words.proofs.MapLemmas.{get-insert, get-retain_keys, same_map, len-insert}
 use Rattle.page_words.proofs.SetLemmas.{same_sym, same_cases}
 use Rattle.page_sharing.specs.declared.Offer.{Offer}
-use Rattle.page_sharing.specs.Offers.{OfferKey, Offers, offer_key, offer_order, offer_answer, unless_pending, limited, pending, without_page, without_process}
+use Rattle.page_sharing.specs.Offers.{OfferKey, Offers, offer_key, offer_order, offer_answer, limited, pending}
+use Rattle.page_sharing.specs.Offers.{without_page, without_process}
 use Rattle.page_sharing.specs.Listed.{is_of, offers_by, with_list, with_offers, offers_from, offers_in, IsDistinct, IsOffers, all_pending}
 
 -- ---- Keys
 
 -- whether an offer by p has a key, as the order of keys sees it
 same-key : (key : OfferKey) (p : ℕ) (offer : Offer) → same offer_order key (offer_key p offer.page offer.target) ≡ ((p == key.offerer) && is_of key.page key.target offer)
-same-key key p offer =
-    same_sym offer_order key (offer_key p offer.page offer.target)
-    ∙ sym (tied_then (nat_cmp p key.offerer) (ordering_then (nat_cmp offer.page key.page) (nat_cmp offer.target key.target)))
-    ∙ (λ i. unsigned_tied p key.offerer i && sym (tied_then (nat_cmp offer.page key.page) (nat_cmp offer.target key.target)) i)
-    ∙ (λ i. (p == key.offerer) && (unsigned_tied offer.page key.page i && unsigned_tied offer.target key.target i))
+same-key key p offer = grind (arith, same_sym)
 
 -- ---- The map of lists
 
@@ -47,8 +41,7 @@ module _ (p : ℕ) (others : Offers) where
       ∙ turned (is_of page target offer)
     where
       turned : (b : Bool) → cond b (Some offer.write) (right_in offers page target) ≡ option_map (λ (o : Offer). o.write) (cond b (Some offer) (find (is_of page target) offers))
-      turned true = refl
-      turned false = refl
+      turned h = grind arith
 
   get-other : (q : ℕ) → q ≢ p → (offers : List Offer) (page target : ℕ) → map.get (with_offers p offers others) (offer_key q page target) ≡ map.get others (offer_key q page target)
   get-other q apart [] page target = refl
@@ -144,10 +137,7 @@ no_longer [] h = refl
 no_longer (offer ∷ offers) h = absurd (omega arith)
 
 none_in_all : (lists : List (ArrayVec Offer)) → all_pending lists ≡ 0 → (p : ℕ) → offers_by lists p ≡ []
-none_in_all lists none p = elim (cases_lt p (length lists)) [
-  | inl below ↦ (let h = get_or-le-sum_by size lists p no_list below in no_longer (offers_by lists p) (omega (arith, h, none)))
-  | inr past ↦ ap (λ list. list.items) (get_or_past lists p no_list (omega (arith, past)))
-]
+none_in_all lists none p = grind (arith, cases_lt, get_or-le-sum_by, no_longer, get_or_past)
 
 pub none_behind : (lists : List (ArrayVec Offer)) (place : ℕ) → all_pending (drop place lists) ≡ 0 → (p : ℕ) → place ≤ p → offers_by lists p ≡ []
 none_behind lists place none p h =
@@ -171,10 +161,7 @@ module _ (lists : List (ArrayVec Offer)) (p : ℕ) (p_in : p < length lists) (of
   by_other q apart = ap (λ v. v.items) (get_or-set_other lists p q (record { items = offers }) (record { items = [] }) apart)
 
   for_each : (P : List Offer → Type 0) → P offers → ((q : ℕ) → P (offers_by lists q)) → (q : ℕ) → P (offers_by (with_list lists p offers) q)
-  for_each P own others q = elim (same_cases nat_order q p) [
-    | inl is ↦ subst P (sym (ap (offers_by (with_list lists p offers)) is.0 ∙ by_it)) own
-    | inr other ↦ subst P (sym (by_other q other.0)) (others q)
-  ]
+  for_each P own others q = grind (arith, same_cases, by_it, by_other)
 
   pub kept-with_list : IsOffers lists → IsDistinct offers → length offers ≤ 32 → IsOffers (with_list lists p offers)
   kept-with_list kept distinct few = record {
@@ -185,44 +172,24 @@ module _ (lists : List (ArrayVec Offer)) (p : ℕ) (p_in : p < length lists) (of
 
   offers_in-with_list : (m : Offers) → ((page target : ℕ) → right_in offers page target ≡ map.get m (offer_key p page target)) → ((key : OfferKey) → key.offerer ≢ p → map.get (offers_in lists) key ≡ map.get m key) → offers_in (with_list lists p offers) ≡ m
   offers_in-with_list m own others = same_offers (with_list lists p offers) m (λ key. elim (same_cases nat_order key.offerer p) [
-    | inl is ↦
-        ap (λ q. right_in (offers_by (with_list lists p offers) q) key.page key.target) is.0
-        ∙ ap (λ xs. right_in xs key.page key.target) by_it
-        ∙ own key.page key.target
-        ∙ ap (λ q. map.get m (offer_key q key.page key.target)) (sym is.0)
+    | inl is ↦ grind (arith, by_it)
     | inr other ↦ ap (λ xs. right_in xs key.page key.target) (by_other key.offerer other.0) ∙ sym (get-offers_in lists key) ∙ others key other.0
   ])
 
 -- ---- Fewer
 
 none_either : (b : Bool) → ◌≡◌ {A = Option Offer} None (cond b None None)
-none_either true = refl
-none_either false = refl
+none_either b = grind arith
 
 find-filter : (q t : Offer → Bool) (b : Bool) → ((o : Offer) → q o ≡ true → t o ≡ b) → (offers : List Offer) → find q (filter t offers) ≡ cond b (find q offers) None
 find-filter q t b says [] = none_either b
 find-filter q t b says (o ∷ offers) = one (find-filter q t b says offers) (q o) (t o) refl refl
   where
     one : find q (filter t offers) ≡ cond b (find q offers) None → (u v : Bool) → q o ≡ u → t o ≡ v → find q (cond v (o ∷ filter t offers) (filter t offers)) ≡ cond b (cond u (Some o) (find q offers)) None
-    one rest true true is stays =
-        ap (λ x. cond x (Some o) (find q (filter t offers))) is
-        ∙ ap (λ x. cond x (Some o) None) (sym stays ∙ says o is)
-    one rest true false is goes =
-        let not_b : b ≡ false = sym (says o is) ∙ goes in
-        rest ∙ ap (λ x. cond x (find q offers) None) not_b ∙ sym (ap (λ x. cond x (Some o) None) not_b)
-    one rest false true is stays = ap (λ x. cond x (Some o) (find q (filter t offers))) is ∙ rest
-    one rest false false is goes = rest
+    one rest h k is stays = grind arith
 
 pub of_one : (page target : ℕ) (o : Offer) → is_of page target o ≡ true → (o.page ≡ page) × (o.target ≡ target)
-of_one page target o is = (eqb-true o.page page (first (o.page == page) (o.target == target) is), eqb-true o.target target (second (o.page == page) (o.target == target) is))
-  where
-    first : (a b : Bool) → (a && b) ≡ true → a ≡ true
-    first true b e = refl
-    first false b e = e
-
-    second : (a b : Bool) → (a && b) ≡ true → b ≡ true
-    second true b e = e
-    second false b e = cc
+of_one page target o is = grind (arith, eqb-true)
 
 module _ (t : ℕ → ℕ → Bool) where
   abbrev passes : Offer → Bool
@@ -235,20 +202,17 @@ module _ (t : ℕ → ℕ → Bool) where
   right_in-filter offers page target = ap (option_map (λ (o : Offer). o.write)) (find-passes offers page target) ∙ either (t page target)
     where
       either : (b : Bool) → option_map (λ (o : Offer). o.write) (cond b (find (is_of page target) offers) None) ≡ cond b (right_in offers page target) None
-      either true = refl
-      either false = refl
+      either k = grind arith
 
   distinct-filter : (offers : List Offer) → IsDistinct offers → IsDistinct (filter passes offers)
   distinct-filter [] h = tt
   distinct-filter (offer ∷ offers) h = one (passes offer) (absent (t offer.page offer.target) (find-passes offers offer.page offer.target)) (distinct-filter offers h.1)
     where
       absent : (b : Bool) → find (is_of offer.page offer.target) (filter passes offers) ≡ cond b (find (is_of offer.page offer.target) offers) None → find (is_of offer.page offer.target) (filter passes offers) ≡ None
-      absent true e = e ∙ h.0
-      absent false e = e
+      absent known e = grind arith
 
       one : (b : Bool) → find (is_of offer.page offer.target) (filter passes offers) ≡ None → IsDistinct (filter passes offers) → IsDistinct (cond b (offer ∷ filter passes offers) (filter passes offers))
-      one true none rest = (none, rest)
-      one false none rest = rest
+      one given none rest = grind arith
 
   length_filter : (offers : List Offer) → length (filter passes offers) ≤ length offers
   length_filter offers = let both = length-filter_both passes (λ o. not (passes o)) (λ _. refl) offers in omega (arith, both)
@@ -285,8 +249,7 @@ module _ (page target : ℕ) where
     where
       by : (b : Bool) → cond b (Some o) (find (is_of page target) offers) ≡ None → (find (is_of page target) offers ≡ None → filter (λ offer. not (is_of page target offer)) offers ≡ offers)
           → cond (not b) (o ∷ filter (λ offer. not (is_of page target offer)) offers) (filter (λ offer. not (is_of page target offer)) offers) ≡ o ∷ offers
-      by true e rest = cc
-      by false e rest = ap (λ xs. o ∷ xs) (rest e)
+      by k e rest = grind arith
 
   -- as no two are alike, the first that is taken out is the only one that goes
   first_goes : (offers : List Offer) → IsDistinct offers → remove offers (position_or_len (is_of page target) offers) ≡ filter (λ offer. not (is_of page target offer)) offers
@@ -295,11 +258,7 @@ module _ (page target : ℕ) where
     where
       by : (b : Bool) → is_of page target o ≡ b → remove offers (position_or_len (is_of page target) offers) ≡ filter (λ offer. not (is_of page target offer)) offers
           → remove (o ∷ offers) (cond (not b) (1 + position_or_len (is_of page target) offers) 0) ≡ cond (not b) (o ∷ filter (λ offer. not (is_of page target offer)) offers) (filter (λ offer. not (is_of page target offer)) offers)
-      by true is rest = (let e = of_one page target o is in sym (none_less offers ((λ i. find (is_of (sym e.0 i) (sym e.1 i)) offers) ∙ h.0)))
-      by false is rest =
-          let n = position_or_len (is_of page target) offers in
-          let next : 1 + n ≡ suc n = omega arith in
-          ap (remove (o ∷ offers)) next ∙ ap (λ xs. o ∷ xs) rest
+      by known is rest = grind (arith, of_one, none_less)
 
   module _ (offers : List Offer) where
     pub none_at : position (is_of page target) offers ≡ None → find (is_of page target) offers ≡ None
@@ -373,10 +332,7 @@ both_tests m p = same_map (map.retain_keys (map.retain_keys m (λ key. not (key.
     ∙ sym (get-retain_keys m (λ k. not ((k.offerer == p) || (k.target == p))) key))
   where
     either : (a b : Bool) (o : Option Bool) → cond (not b) (cond (not a) o None) None ≡ cond (not (a || b)) o None
-    either true true o = refl
-    either true false o = refl
-    either false true o = refl
-    either false false o = refl
+    either h k o = grind arith
 
 pub offers_in-remove_process : (lists left : List (ArrayVec Offer)) (p : ℕ) → p < length lists
     → ((q : ℕ) → offers_by left q ≡ filter (λ offer. not (offer.target == p)) (offers_by (with_list lists p []) q)) → offers_in left ≡ without_process (offers_in lists) p
@@ -388,21 +344,13 @@ offers_in-remove_process lists left p p_in is =
 -- ---- One more
 
 room : (offers : Offers) (p : ℕ) (b : Bool) → nat_le 32 (map.len (pending offers p)) ≡ b → IsOk (limited b) → map.len (pending offers p) < 32
-room offers p true is e = cc
-room offers p false is e = grind (arith, nat_tests)
+room offers p b is e = grind arith
 
 may_offer : (offers : Offers) (key : OfferKey) → IsOk (offer_answer offers key) → (map.get offers key ≡ None) × (map.len (pending offers key.offerer) < 32)
-may_offer offers key h = by (map.get offers key) refl h
-  where
-    by : (o : Option Bool) → map.get offers key ≡ o → IsOk (unless_pending (is_some o) (nat_le 32 (map.len (pending offers key.offerer)))) → (map.get offers key ≡ None) × (map.len (pending offers key.offerer) < 32)
-    by None is e = (is, room offers key.offerer (nat_le 32 (map.len (pending offers key.offerer))) refl e)
-    by (Some right) is e = cc
+may_offer offers key h = grind (arith, nat_le, room)
 
 turned : (a b : ℕ) → (a == b) ≡ (b == a)
-turned a b = elim (same_cases nat_order a b) [
-  | inl is ↦ eq-eqb a b is.0 ∙ sym (eq-eqb b a (sym is.0))
-  | inr other ↦ ne_eqb a b other.0 ∙ sym (ne_eqb b a (λ e. other.0 (sym e)))
-]
+turned a b = grind (arith, same_cases, eq-eqb, ne_eqb)
 
 -- a list without the offer o, and then with it
 module _ (o : Offer) where
@@ -416,10 +364,7 @@ module _ (o : Offer) where
 
       either : (b : Bool) → is_of page target o ≡ b → (x : Option Offer) → find (is_of page target) offers ≡ x
           → option_map (λ (y : Offer). y.write) (option_or x (cond b (Some o) None)) ≡ cond b (Some o.write) (option_map (λ (y : Offer). y.write) x)
-      either true is None e = refl
-      either true is (Some x) e = (let f : Some x ≡ None = sym e ∙ none_of is in cc)
-      either false is None e = refl
-      either false is (Some x) e = refl
+      either k is known e = grind (arith, none_of)
 
   distinct-push : (offers : List Offer) → find (is_of o.page o.target) offers ≡ None → IsDistinct offers → IsDistinct (offers ++ o ∷ [])
   distinct-push [] absent h = (refl, tt)
@@ -430,8 +375,7 @@ module _ (o : Offer) where
 
       by : (b : Bool) → is_of o.page o.target x ≡ b → cond b (Some x) (find (is_of o.page o.target) offers) ≡ None → (find (is_of o.page o.target) offers ≡ None → IsDistinct (offers ++ o ∷ []))
           → (find (is_of x.page x.target) (offers ++ o ∷ []) ≡ None) × IsDistinct (offers ++ o ∷ [])
-      by true is e rest = cc
-      by false is e rest = (find-append (is_of x.page x.target) offers (o ∷ []) ∙ (λ i. option_or (h.0 i) (cond (swapped is i) (Some o) None)), rest e)
+      by given is e rest = grind (arith, find-append, swapped)
 
 -- an offer that may be made
 module _ (lists : List (ArrayVec Offer)) (kept : IsOffers lists) (p : ℕ) (o : Offer) (may : IsOk (offer_answer (offers_in lists) (offer_key p o.page o.target))) where
@@ -442,8 +386,7 @@ module _ (lists : List (ArrayVec Offer)) (kept : IsOffers lists) (p : ℕ) (o : 
   absent_there = by (find (is_of o.page o.target) (offers_by lists p)) (sym (get-offers_in lists (offer_key p o.page o.target)) ∙ (may_offer (offers_in lists) (offer_key p o.page o.target) may).0)
     where
       by : (x : Option Offer) → option_map (λ (y : Offer). y.write) x ≡ None → x ≡ None
-      by None e = refl
-      by (Some x) e = cc
+      by h e = grind arith
 
   pub kept-push : p < length lists → IsOffers (with_list lists p (offers_by lists p ++ o ∷ []))
   kept-push p_in =

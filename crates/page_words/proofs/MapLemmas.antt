@@ -1,5 +1,5 @@
 -- What `get` and `contains` answer of maps and sets, and when two are equal.
-use Rattle.std.proofs.Common.{◌≡◌, ◌+◌, ◌⊎◌, suc, length, inl, inr, Bool, true, false, cond, ◌&&◌, ◌||◌, T, List, [], ◌∷◌, map, is_some, refl, sym, ap, ◌∙◌, Option, Some, None}
+use Rattle.std.proofs.Common.{◌≡◌, ◌+◌, ◌⊎◌, suc, length, inl, inr, Bool, true, false, cond, ◌&&◌, ◌||◌, T, List, [], ◌∷◌, map, is_some, refl, sym, ap, ◌∙◌, Option, Some, None, arith}
 use mathlib.Core.HLevel.{Σ_prop_path}
 use lib.Dec.{T_prop}
 use Rattle.std.specs.declared.cmp.Ordering.TheVariants.{Less, Equal, Greater}
@@ -50,20 +50,13 @@ module _ {K X Y : Type 0} (o : Order K) (f : K → X → Y) where
   get-map_values m q = find-change_each q m.entries
 
 unit_or : (b : Bool) (x : Option (Unit {0})) → is_some (cond b (Some tt) x) ≡ (b || is_some x)
-unit_or true x = refl
-unit_or false x = refl
+unit_or b x = grind arith
 
 or_none : (b : Bool) (x : Option (Unit {0})) → is_some (cond b x None) ≡ (is_some x && b)
-or_none true None = refl
-or_none true (Some u) = refl
-or_none false None = refl
-or_none false (Some u) = refl
+or_none b x = grind arith
 
 same_unit : (x y : Option (Unit {0})) → is_some x ≡ is_some y → x ≡ y
-same_unit None None e = refl
-same_unit None (Some u) e = cc
-same_unit (Some u) None e = cc
-same_unit (Some u) (Some v) e = refl
+same_unit x y e = grind arith
 
 module _ {K : Type 0} {o : Order K} where
   pub contains-insert : (s : Set o) (k q : K) → set.contains (set.insert s k) q ≡ (same o q k || set.contains s q)
@@ -99,9 +92,7 @@ module _ {K X : Type 0} {o : Order K} where
       ∙ sym (get-retain_keys m p q))
 
 or_swap : (a b c : Bool) → (a || (b || c)) ≡ (b || (a || c))
-or_swap true true c = refl
-or_swap true false c = refl
-or_swap false b c = refl
+or_swap a b c = grind arith
 
 module _ {K X : Type 0} (o : Order K) (t : K → Bool) where
   -- whether some key passes, after one more
@@ -115,8 +106,7 @@ module _ {K X : Type 0} (o : Order K) (t : K → Bool) where
       ] refl
     where
       twice : (a b : Bool) → (a || b) ≡ (a || (a || b))
-      twice true b = refl
-      twice false b = refl
+      twice h b = grind arith
 
 pub list_any-map : {A B : Type 0} (g : A → B) (t : B → Bool) (xs : List A) → list_any t (map g xs) ≡ list_any (λ x. t (g x)) xs
 list_any-map g t [] = refl
@@ -137,12 +127,8 @@ module _ {K X : Type 0} (o : Order K) (f : K → Option X) where
   get-collect (k ∷ ks) q = one (f k) refl (same_or_not o q k) (get-collect ks q)
     where
       none : (b : Bool) → ◌≡◌ {A = Option X} (cond b None None) None
-      none true = refl
-      none false = refl
+      none h = grind arith
 
       one : (x : Option X) → f k ≡ x → ((q ≡ k) × (same o q k ≡ true)) ⊎ (same o q k ≡ false) → map.get (map.collect {o = o} f ks) q ≡ cond (list_any (same o q) ks) (f q) None
           → map.get (map.put_some k x (map.collect {o = o} f ks)) q ≡ cond (same o q k || list_any (same o q) ks) (f q) None
-      one None is (inl h) rest = let e : f q ≡ None = ap f h.0 ∙ is in rest ∙ rw (e, h.1) (none (list_any (same o q) ks))
-      one None is (inr h) rest = rest ∙ rw h refl
-      one (Some x) is (inl h) rest = get-insert (map.collect {o = o} f ks) k x q ∙ rw h.1 (sym is ∙ ap f (sym h.0))
-      one (Some x) is (inr h) rest = get-insert (map.collect {o = o} f ks) k x q ∙ rw h rest
+      one known is given rest = grind (arith, none, get-insert)

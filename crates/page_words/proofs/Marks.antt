@@ -1,5 +1,6 @@
 -- Which numbers a list of truth values marks, and how many.
-use Rattle.std.proofs.Common.{◌≡◌, ◌≢◌, ℕ, zero, suc, ◌+◌, ◌<◌, ◌≤◌, inl, inr, Bool, true, false, cond, ◌&&◌, ◌||◌, not, List, [], ◌∷◌, length, replicate, get_or, refl, sym, ap, ◌∙◌, arith, count_by}
+use Rattle.std.proofs.Common.{◌≡◌, ◌≢◌, ℕ, zero, suc, ◌+◌, ◌<◌, ◌≤◌, Bool, true, false, cond, ◌&&◌, ◌||◌, List, [], ◌∷◌}
+use Rattle.std.proofs.Common.{length, replicate, get_or, refl, sym, ap, ◌∙◌, arith, count_by}
 use Rattle.std.specs.Prelude.{slice_set}
 use Rattle.std.specs.List.{range_with_len}
 use Rattle.std.proofs.lemmas.List.{get_or-set_same, get_or-set_other}
@@ -29,11 +30,7 @@ contains-below start (mark ∷ marks) q h =
 contains-at : (start : ℕ) (marks : List Bool) (i q : ℕ) → q ≡ start + i → set.contains (marked_from start marks) q ≡ get_or marks i false
 contains-at start [] i q e = refl
 contains-at start (mark ∷ marks) zero q e =
-    let is : q ≡ start = omega arith in
-    let none = contains-below (start + 1) marks q (omega arith) in
-    contains-one_more mark (marked_from (start + 1) marks) start q
-    ∙ (λ i. (mark && (ap (λ k. same nat_order q k) (sym is) ∙ same_itself nat_order q) i) || none i)
-    ∙ or-false (mark && true) ∙ and-true mark
+    grind (arith, contains-below, contains-one_more, same_itself, or-false, and-true)
 contains-at start (mark ∷ marks) (suc i) q e =
     let other : q ≢ start = omega arith in
     contains-one_more mark (marked_from (start + 1) marks) start q
@@ -72,26 +69,14 @@ pub marked-set_true : (marks : List Bool) (f : ℕ) → f < length marks → mar
 marked-set_true marks f h = same_set (marked_numbers (slice_set marks f true)) (set.insert (marked_numbers marks) f) each
   where
     each : (q : ℕ) → set.contains (marked_numbers (slice_set marks f true)) q ≡ set.contains (set.insert (marked_numbers marks) f) q
-    each q =
-        contains-marked (slice_set marks f true) q
-        ∙ elim (same_cases nat_order q f) [
-          | inl is ↦ ap (λ k. get_or (slice_set marks f true) k false) is.0 ∙ get_or-set_same marks f true false h ∙ ap (λ b. b || set.contains (marked_numbers marks) q) (sym is.1)
-          | inr other ↦ get_or-set_other marks f q true false other.0 ∙ sym (contains-marked marks q) ∙ ap (λ b. b || set.contains (marked_numbers marks) q) (sym other.1)
-        ]
-        ∙ sym (contains-insert (marked_numbers marks) f q)
+    each q = grind (arith, contains-marked, same_cases, get_or-set_same, get_or-set_other, contains-insert)
 
 -- one mark less
 pub marked-set_false : (marks : List Bool) (f : ℕ) → f < length marks → marked_numbers (slice_set marks f false) ≡ set.remove (marked_numbers marks) f
 marked-set_false marks f h = same_set (marked_numbers (slice_set marks f false)) (set.remove (marked_numbers marks) f) each
   where
     each : (q : ℕ) → set.contains (marked_numbers (slice_set marks f false)) q ≡ set.contains (set.remove (marked_numbers marks) f) q
-    each q =
-        contains-marked (slice_set marks f false) q
-        ∙ elim (same_cases nat_order q f) [
-          | inl is ↦ ap (λ k. get_or (slice_set marks f false) k false) is.0 ∙ get_or-set_same marks f false false h ∙ ap (λ b. not b && set.contains (marked_numbers marks) q) (sym is.1)
-          | inr other ↦ get_or-set_other marks f q false false other.0 ∙ sym (contains-marked marks q) ∙ ap (λ b. not b && set.contains (marked_numbers marks) q) (sym other.1)
-        ]
-        ∙ sym (contains-remove (marked_numbers marks) f q)
+    each q = grind (arith, contains-marked, same_cases, get_or-set_same, get_or-set_other, contains-remove)
 
 -- a list that isn't true at 0 marks numbers from 1 to its length less 1
 pub contains-within : (marks : List Bool) (f : ℕ) → get_or marks 0 false ≡ false → set.contains (marked_numbers marks) f ≡ true → (1 ≤ f) × (f < length marks)
@@ -100,8 +85,7 @@ contains-within marks f reserved member =
     (first f marks_it, below marks f marks_it)
   where
     first : (f : ℕ) → get_or marks f false ≡ true → 1 ≤ f
-    first zero h = let e : false ≡ true = sym reserved ∙ h in cc
-    first (suc f) h = omega arith
+    first k h = grind arith
 
     below : (marks : List Bool) (f : ℕ) → get_or marks f false ≡ true → f < length marks
     below [] f h = cc

@@ -1,6 +1,5 @@
 -- What is left after a removal, and how many members a set has.
 use Rattle.std.proofs.Common.{◌≡◌, ◌≢◌, ◌⊎◌, inl, inr, Bool, true, false, cond, not, ◌&&◌, List, [], ◌∷◌, length, is_some, refl, sym, ap, ◌∙◌, Option, Some, None, arith}
-use Rattle.std.specs.Ordering.{eq_by_cmp}
 use Rattle.std.specs.Cmp.{eq_by_cmp_equiv}
 use Rattle.std.specs.FinMap.Entries.{find}
 use Rattle.page_words.specs.FiniteMap as map
@@ -10,8 +9,7 @@ use Rattle.page_words.specs.FiniteSet.{Set}
 use Rattle.page_words.proofs.MapLemmas.{get-insert, get-retain_keys, same_itself, same_map, same_or_not}
 
 negated : {A : Type 0} (b : Bool) (x y : A) → cond (not b) x y ≡ cond b y x
-negated true x y = refl
-negated false x y = refl
+negated b x y = grind arith
 
 module _ {K : Type 0} (o : Order K) where
   pub same_sym : (x y : K) → same o x y ≡ same o y x
@@ -19,23 +17,14 @@ module _ {K : Type 0} (o : Order K) where
 
   -- the two cases, with what each says of the keys and of the test
   pub same_cases : (x y : K) → ((x ≡ y) × (same o x y ≡ true)) ⊎ ((x ≢ y) × (same o x y ≡ false))
-  same_cases x y = elim (same_or_not o x y) [
-    | inl h ↦ inl h
-    | inr h ↦ inr (λ e. (let t : true ≡ false = sym (ap (same o x) (sym e) ∙ same_itself o x) ∙ h in cc), h)
-  ]
+  same_cases x y = grind (arith, same_or_not, same_itself)
 
   pub same_apart : (x y : K) → x ≢ y → same o x y ≡ false
-  same_apart x y n = elim (same_cases x y) [
-    | inl is ↦ absurd (n is.0)
-    | inr other ↦ other.1
-  ]
+  same_apart x y n = grind (arith, same_cases)
 
 module _ {K X : Type 0} {o : Order K} where
   pub get-remove : (m : Map o X) (k q : K) → map.get (map.remove m k) q ≡ cond (same o q k) None (map.get m q)
-  get-remove m k q =
-      get-retain_keys m (λ j. not (eq_by_cmp o.cmp k j)) q
-      ∙ negated (same o k q) _ _
-      ∙ ap (λ b. cond b None (map.get m q)) (same_sym o k q)
+  get-remove m k q = grind (arith, get-retain_keys, negated, same_sym)
 
   -- a key that was removed is gone
   pub get-removed : (m : Map o X) (k : K) → map.get (map.remove m k) k ≡ None
@@ -64,8 +53,7 @@ module _ {K : Type 0} {o : Order K} where
   contains-remove s k q = ap is_some (get-remove s k q) ∙ by (same o q k) _
     where
       by : (b : Bool) (x : Option (Unit {0})) → is_some (cond b None x) ≡ (not b && is_some x)
-      by true x = refl
-      by false x = refl
+      by known x = grind arith
 
   -- what was removed is gone
   pub contains-removed : (s : Set o) (k : K) → set.contains (set.remove s k) k ≡ false

@@ -1,5 +1,6 @@
 -- Memory by its frames: what each change of memory is, as a change of one frame.
-use Rattle.std.proofs.Common.{◌≡◌, ◌≢◌, ℕ, ◌+◌, ◌-◌, ◌*◌, ◌^◌, ◌<◌, ◌≤◌, true, false, List, [], ◌++◌, length, take, drop, ap, sym, ◌∙◌, arith, length-drop, inl, inr, length-set}
+use Rattle.std.proofs.Common.{◌≡◌, ◌≢◌, ℕ, ◌+◌, ◌-◌, ◌*◌, ◌^◌, ◌<◌, ◌≤◌, true, false, List, [], length, take, drop, ap}
+use Rattle.std.proofs.Common.{sym, ◌∙◌, arith, length-drop, inl, inr, length-set}
 use Rattle.std.specs.Prelude.{slice_index, slice_set, replicate, ◌==◌, if◌then◌else◌}
 use Rattle.std.proofs.lemmas.Bool.{cases_lt, cases_eq}
 use Rattle.std.proofs.lemmas.Bool.Decides.{nat_tests}
@@ -96,10 +97,7 @@ pub by_frame : (m m' : ℕ → List ℕ) (f : ℕ) (new : List ℕ) → m' f ≡
 by_frame m m' f new own others = λ i g. each g i
   where
     each : (g : ℕ) → m' g ≡ with_frame m f new g
-    each g = elim (cases_eq g f) [
-      | inl same ↦ let t : (g == f) ≡ true = grind (arith, nat_tests) in ap m' same ∙ own ∙ sym (ap (λ b. if b then new else m g) t)
-      | inr differ ↦ others g differ ∙ sym (with_frame-other m f g new differ)
-    ]
+    each g = grind (arith, cases_eq, with_frame-other)
 
 -- a word written inside a frame
 pub frames-with_word_at : (xs : List ℕ) (f o w : ℕ) → o + 4 ≤ 4096 → IsInside xs f
@@ -141,9 +139,7 @@ frames-with_word xs f index w i l = frames-with_word_at xs f (4 * index) w (omeg
 -- a frame replaced whole reads as what replaced it
 whole_frame : (xs part : List ℕ) (f : ℕ) → IsInside xs f → length part ≡ 4096 → frame_bytes (splice xs (4096 * f) (4096 * f + 4096) part) f ≡ part
 unfolding frame_bytes
-whole_frame xs part f l m =
-    ap (take (4096 * f + 4096 - 4096 * f)) (drop_at (take (4096 * f) xs) (part ++ drop (4096 * f + 4096) xs) (4096 * f) (length-take-le (4096 * f) xs (omega arith)))
-    ∙ take_at part (drop (4096 * f + 4096) xs) (4096 * f + 4096 - 4096 * f) (omega arith)
+whole_frame xs part f l m = grind (arith, drop_at, length-take-le, take_at)
 
 pub frames-with_frame_bytes : (xs part : List ℕ) (f : ℕ) → IsInside xs f → length part ≡ 4096
     → frame_bytes (with_frame_bytes xs f part) ≡ with_frame (frame_bytes xs) f part
@@ -159,12 +155,7 @@ pub frames-with_byte : (xs : List ℕ) (f o b : ℕ) → o < 4096 → IsInside x
 frames-with_byte xs f o b i l = by_frame (frame_bytes xs) (frame_bytes (slice_set xs (4096 * f + o) b)) f (slice_set (frame_bytes xs f) o b) own others
   where
     at : (k : ℕ) → k < 4096 → length (frame_bytes xs f) ≡ 4096 → slice_index (slice_set xs (4096 * f + o) b) (4096 * f + k) ≡ slice_index (slice_set (frame_bytes xs f) o b) k
-    at k h long = elim (cases_eq k o) [
-      | inl same ↦
-          ap (λ j. slice_index (slice_set xs (4096 * f + o) b) (4096 * f + j)) same ∙ get_or-set_same xs (4096 * f + o) b 0 (omega arith)
-          ∙ sym (get_or-set_same (frame_bytes xs f) o b 0 (omega arith)) ∙ ap (slice_index (slice_set (frame_bytes xs f) o b)) (sym same)
-      | inr differ ↦ get_or-set_other xs (4096 * f + o) (4096 * f + k) b 0 (omega arith) ∙ sym (byte-frame xs f k h) ∙ sym (get_or-set_other (frame_bytes xs f) o k b 0 differ)
-    ]
+    at k h long = grind (arith, cases_eq, get_or-set_same, get_or-set_other, byte-frame)
 
     own : frame_bytes (slice_set xs (4096 * f + o) b) f ≡ slice_set (frame_bytes xs f) o b
     own =
@@ -177,9 +168,7 @@ frames-with_byte xs f o b i l = by_frame (frame_bytes xs) (frame_bytes (slice_se
 
 -- a word of memory inside a frame is one of that frame
 pub word_at-frame : (xs : List ℕ) (f o : ℕ) → o + 4 ≤ 4096 → word_at xs (4096 * f + o) ≡ word_at (frame_bytes xs f) o
-word_at-frame xs f o i =
-    word_by_bytes xs (frame_bytes xs f) (4096 * f + o) o
-    (λ k b. ap (slice_index xs) (let e : 4096 * f + o + k ≡ 4096 * f + (o + k) = omega arith in e) ∙ sym (byte-frame xs f (o + k) (omega arith)))
+word_at-frame xs f o i = grind (arith, word_by_bytes, byte-frame)
 
 -- the word of an index is one of its frame
 pub word_in-frame : (xs : List ℕ) (f index : ℕ) → index < 1024 → word_at xs (4096 * f + 4 * index) ≡ word_in (frame_bytes xs f) index
@@ -196,9 +185,7 @@ length-with_word_in p i w l h = length-with_word p (4 * i) w (omega arith) ∙ l
 
 pub word_in-zeros : (n i : ℕ) → 4 * i + 4 ≤ n → word_in (replicate n 0) i ≡ 0
 unfolding word_at
-word_in-zeros n i h =
-    let byte : (k : ℕ) → k < 4 → slice_index (drop (4 * i) (replicate n 0)) k ≡ 0 = λ k b. get_or-drop (4 * i) (replicate n 0) k 0 ∙ get_or-replicate n (4 * i + k) 0 0 (omega arith) in
-    omega (arith, byte 0 (omega arith), byte 1 (omega arith), byte 2 (omega arith), byte 3 (omega arith))
+word_in-zeros n i h = grind (arith, get_or-drop, get_or-replicate)
 
 -- a frame written keeps the number of bytes
 pub length-with_frame_bytes : (xs part : List ℕ) (f : ℕ) → IsInside xs f → length part ≡ 4096 → length (with_frame_bytes xs f part) ≡ length xs

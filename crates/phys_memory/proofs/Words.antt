@@ -1,33 +1,24 @@
 -- What a word reads as after a word was written.
-use Rattle.std.proofs.Common.{◌≡◌, ℕ, ◌+◌, ◌-◌, ◌^◌, ◌<◌, ◌≤◌, List, ◌++◌, length, take, drop, ap, sym, ◌∙◌, arith, length-append, length-drop, get_or, inl, inr}
+use Rattle.std.proofs.Common.{◌≡◌, ℕ, ◌+◌, ◌-◌, ◌^◌, ◌<◌, ◌≤◌, List, ◌++◌, length, take, drop, arith, length-append}
+use Rattle.std.proofs.Common.{length-drop, inl, inr}
 use Rattle.std.specs.Prelude.{slice_index, ◌⊎◌}
 use Rattle.std.proofs.lemmas.List.{length-take-le, get_or-append_right, get_or-take, get_or-drop, get_or_append_left, drop_at}
 use Rattle.std.specs.List.{splice}
-use Rattle.byteorder.specs.Endian.{little_number, little_bytes}
-use Rattle.byteorder.specs.Numbers.{little_number-reads_back, little_from-lt}
+use Rattle.byteorder.specs.Endian.{little_bytes}
+use Rattle.byteorder.specs.Numbers.{little_from-lt}
 use Rattle.phys_memory.specs.Bytes.{word_at, with_word}
 
 -- a byte before a part that was replaced
 pub byte-splice_below : (xs ys : List ℕ) (a e i : ℕ) → a ≤ length xs → i < a → slice_index (splice xs a e ys) i ≡ slice_index xs i
-byte-splice_below xs ys a e i h l =
-    let n : length (take a xs) ≡ a = length-take-le a xs h in
-    get_or_append_left (take a xs) (ys ++ drop e xs) 0 i (omega arith) ∙ get_or-take a xs i 0 l
+byte-splice_below xs ys a e i h l = grind (arith, length-take-le, get_or_append_left, get_or-take)
 
 -- a byte of the part that replaces another
 pub byte-splice_in : (xs ys : List ℕ) (a e k : ℕ) → a ≤ length xs → k < length ys → slice_index (splice xs a e ys) (a + k) ≡ slice_index ys k
-byte-splice_in xs ys a e k h l =
-    let i : a + k - a ≡ k = omega arith in
-    get_or-append_right (take a xs) (ys ++ drop e xs) a (a + k) 0 (length-take-le a xs h) (omega arith)
-    ∙ ap (λ j. get_or (ys ++ drop e xs) j 0) i ∙ get_or_append_left ys (drop e xs) 0 k l
+byte-splice_in xs ys a e k h l = grind (arith, get_or-append_right, length-take-le, get_or_append_left)
 
 -- a byte behind a part that was replaced by one of the same length
 pub byte-splice_above : (xs ys : List ℕ) (a e i : ℕ) → a ≤ length xs → length ys ≡ e - a → a ≤ e → e ≤ i → slice_index (splice xs a e ys) i ≡ slice_index xs i
-byte-splice_above xs ys a e i h m o l =
-    let place : e + (i - a - (e - a)) ≡ i = omega arith in
-    get_or-append_right (take a xs) (ys ++ drop e xs) a i 0 (length-take-le a xs h) (omega arith)
-    ∙ get_or-append_right ys (drop e xs) (e - a) (i - a) 0 m (omega arith)
-    ∙ get_or-drop e xs (i - a - (e - a)) 0
-    ∙ ap (λ k. get_or xs k 0) place
+byte-splice_above xs ys a e i h m o l = grind (arith, get_or-append_right, length-take-le, get_or-drop)
 
 pub length-splice : (xs ys : List ℕ) (a e : ℕ) → a ≤ e → e ≤ length xs → length ys ≡ e - a → length (splice xs a e ys) ≡ length xs
 length-splice xs ys a e o h m = omega (arith, length-append (take a xs) (ys ++ drop e xs), length-append ys (drop e xs), length-drop e xs, length-take-le a xs (omega arith))
@@ -35,16 +26,11 @@ length-splice xs ys a e o h m = omega (arith, length-append (take a xs) (ys ++ d
 -- words of the same four bytes are the same
 pub word_by_bytes : (xs ys : List ℕ) (p q : ℕ) → ((k : ℕ) → k < 4 → slice_index xs (p + k) ≡ slice_index ys (q + k)) → word_at xs p ≡ word_at ys q
 unfolding word_at
-word_by_bytes xs ys p q h =
-    let byte : (k : ℕ) → k < 4 → slice_index (drop p xs) k ≡ slice_index (drop q ys) k =
-    λ k l. get_or-drop p xs k 0 ∙ h k l ∙ sym (get_or-drop q ys k 0) in
-    omega (arith, byte 0 (omega arith), byte 1 (omega arith), byte 2 (omega arith), byte 3 (omega arith))
+word_by_bytes xs ys p q h = grind (arith, get_or-drop)
 
 pub word_at-with_word_same : (xs : List ℕ) (p w : ℕ) → p + 4 ≤ length xs → w < 2 ^ 32 → word_at (with_word xs p w) p ≡ w
 unfolding word_at with_word
-word_at-with_word_same xs p w h l =
-    ap (little_number 4) (drop_at (take p xs) (little_bytes 4 w ++ drop (p + 4) xs) p (length-take-le p xs (omega arith)))
-    ∙ little_number-reads_back 4 w (drop (p + 4) xs) l
+word_at-with_word_same xs p w h l = grind (arith, drop_at, length-take-le)
 
 pub word_at-with_word_other : (xs : List ℕ) (p q w : ℕ) → p + 4 ≤ length xs → (q + 4 ≤ p) ⊎ (p + 4 ≤ q) → word_at (with_word xs p w) q ≡ word_at xs q
 unfolding with_word

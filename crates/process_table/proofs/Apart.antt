@@ -1,24 +1,19 @@
 -- The replies of a process apart, and the effect of calls on it.
 use Rattle.process_table.proofs.Prelude
-use Prelude.{◌≡◌, ◌≢◌, ℕ, ◌+◌, ◌-◌, ◌&&◌, ◌==◌, not, Bool, true, false, cond, List, [], ◌∷◌, length, map, refl, sym, ap}
-use Prelude.{subst, ◌∙◌, Option, Some, None, is_some, unwrap_or, sum_by, arith, inl, inr, if◌then◌else◌, nat_lt}
-use Prelude.{slice_index, option_map, cases_eq, ne_eqb, or-false, same_Some, slot_number, is_user_page, page_number}
-use Prelude.{offset_number, byte_count, touched, Size, same, nat_order, Set, same_itself, get-map_values}
-use Prelude.{contains-insert, retain-insert, is_some-map, Slot, slot_order, Cell, Spaces, cost, cost_of, need, pages_of}
-use Prelude.{regions_of, fresh, cell_or_fresh, with_bytes, with_holders, set_bytes, write_at, bytes_of, without}
-use Prelude.{is_slot, at_page, slot_at, accessed, stored, access_need, with_page, with_pages, all_accessed, all_stored}
-use Prelude.{same_pages, OfferKey, offer_order, offer_key, State, is_mapped, extra_cost, overdrawn, map_refusal}
-use Prelude.{unmap_refusal, protect_refusal, exit_refusal, after_map, after_unmap, after_protect, after_withdraw}
-use Prelude.{after_load, after_store, BadPage, Mapped, Quota, NoOffer, HasChildren, RootExit}
-use Rattle.page_words.specs.Addresses.{covered}
-use Rattle.address_space.specs.Spaces.{value_of, missing}
-use Rattle.process_table.specs.Calls.{withdraw_refusal, loaded}
-use Rattle.process_table.specs.declared.causes.Cause.TheVariants.{NotMapped, Rights}
-use Rattle.page_words.proofs.SetLemmas.{same_apart}
-use Rattle.address_space.proofs.steps.Departures.{left, get-without}
-use Rattle.quota_tree.specs.Book.{Book, Member, children, given, number_of_children, quota_of}
+use Prelude.{◌≡◌, ◌≢◌, ℕ, ◌+◌, ◌-◌, ◌&&◌, not, Bool, true, false, List, [], ◌∷◌, length, map, refl, sym, ap, ◌∙◌}
+use Prelude.{Option, Some, None, is_some, unwrap_or, sum_by, arith, if◌then◌else◌, slice_index, option_map, cases_eq}
+use Prelude.{ne_eqb, same_Some, slot_number, is_user_page, page_number, offset_number, byte_count, touched, covered}
+use Prelude.{Size, same, nat_order, Set, same_itself, get-map_values, contains-insert, retain-insert, is_some-map, Slot}
+use Prelude.{slot_order, Cell, Spaces, cost, cost_of, need, pages_of, regions_of, fresh, cell_or_fresh, with_bytes}
+use Prelude.{with_holders, set_bytes, write_at, bytes_of, without, at_page, slot_at, accessed, stored, access_need}
+use Prelude.{with_page, with_pages, all_accessed, all_stored, value_of, missing, same_pages, OfferKey, State, is_mapped}
+use Prelude.{overdrawn, map_refusal, unmap_refusal, protect_refusal, exit_refusal, after_map, after_unmap}
+use Prelude.{after_protect, after_withdraw, after_load, after_store, withdraw_refusal, loaded, BadPage, Mapped, Quota}
+use Prelude.{NotMapped, Rights, same_apart, left, get-without, Book, Member, given, number_of_children, quota_of}
+use Rattle.std.proofs.Math.Bool.{or-false}
+use Rattle.quota_tree.specs.Book.{children}
 use Rattle.process_table.proofs.Overdrawn.{extra_page, extra_touched}
-use Rattle.process_table.specs.Apart.{IsApart, AreAlike, Held, held, held_in, lone}
+use Rattle.process_table.specs.Apart.{IsApart, AreAlike, Held, held_in, lone}
 use Rattle.process_table.proofs.BookLaws.{retained}
 use Rattle.process_table.proofs.CellLaws.{get-inserted, get-inserted_other}
 use Rattle.page_words.specs.FiniteMap as map
@@ -38,16 +33,11 @@ abbrev blank : Held
 blank = held_in (fresh (at_page 0 0) true)
 
 held_or_blank : (x : Option Cell) (slot : Slot) → held_in (unwrap_or x (fresh slot true)) ≡ unwrap_or (option_map held_in x) blank
-held_or_blank None slot = refl
-held_or_blank (Some c) slot = refl
+held_or_blank x slot = grind arith
 
 -- a slot of a process apart is in a group of its own, mapped or not
 pub own_group : (s : State) (p page : ℕ) → IsApart s p → (cell_or_fresh s.spaces (at_page p page)).holders ≡ lone (at_page p page)
-own_group s p page a = by (map.get s.spaces (at_page p page)) refl
-  where
-    by : (x : Option Cell) → map.get s.spaces (at_page p page) ≡ x → (unwrap_or x (fresh (at_page p page) true)).holders ≡ lone (at_page p page)
-    by None is = refl
-    by (Some c) is = a.shares_none page c is
+own_group s p page a = grind arith
 
 module _ (s t : State) (p q : ℕ) (a : AreAlike s p t q) where
   pub mapped_alike : (page : ℕ) → is_mapped s (at_page p page) ≡ is_mapped t (at_page q page)
@@ -66,16 +56,10 @@ module _ (s t : State) (p q : ℕ) (a : AreAlike s p t q) where
   given_alike = given_none s.book p a.one.childless ∙ sym (given_none t.book q a.other.childless)
 
   pub no_room_alike : (page : ℕ) → overdrawn s p (page ∷ []) ≡ overdrawn t q (page ∷ [])
-  no_room_alike page = λ i. nat_lt (a.quota i - cost_alike i - given_alike i) (same i)
-    where
-      same : extra_cost s p (page ∷ []) ≡ extra_cost t q (page ∷ [])
-      same = extra_page s p page ∙ (λ i. if mapped_alike page i then 0 else need_alike page i) ∙ sym (extra_page t q page)
+  no_room_alike page = grind (arith, cost_alike, given_alike, extra_page, mapped_alike, need_alike)
 
   pub cell_alike : (page : ℕ) → held_in (cell_or_fresh s.spaces (at_page p page)) ≡ held_in (cell_or_fresh t.spaces (at_page q page))
-  cell_alike page =
-      held_or_blank (map.get s.spaces (at_page p page)) (at_page p page)
-      ∙ ap (λ (x : Option Held). unwrap_or x blank) (a.pages page)
-      ∙ sym (held_or_blank (map.get t.spaces (at_page q page)) (at_page q page))
+  cell_alike page = grind (arith, held_or_blank)
 
   pub group_alike : (page : ℕ) → set.len (cell_or_fresh s.spaces (at_page p page)).holders ≡ set.len (cell_or_fresh t.spaces (at_page q page)).holders
   group_alike page = ap (λ (g : Set slot_order). set.len g) (own_group s p page a.one) ∙ sym (ap (λ (g : Set slot_order). set.len g) (own_group t q page a.other))
@@ -87,10 +71,7 @@ module _ (s t : State) (p q : ℕ) (a : AreAlike s p t q) where
   access_need_alike addr size = λ i. set.len (missing_alike (touched addr size) i) + set.len (set.retain (regions_of (missing_alike (touched addr size) i)) (λ region. not (set.contains (regions_of (pages_alike i)) region)))
 
   pub lacks_room_alike : (addr : ℕ) (size : Size) → overdrawn s p (touched addr size) ≡ overdrawn t q (touched addr size)
-  lacks_room_alike addr size = λ i. nat_lt (a.quota i - cost_alike i - given_alike i) (same i)
-    where
-      same : extra_cost s p (touched addr size) ≡ extra_cost t q (touched addr size)
-      same = extra_touched s p addr size ∙ access_need_alike addr size ∙ sym (extra_touched t q addr size)
+  lacks_room_alike addr size = grind (arith, cost_alike, given_alike, extra_touched, access_need_alike)
 
   pub loaded_alike : (addr : ℕ) (size : Size) → loaded s p addr size ≡ loaded t q addr size
   loaded_alike addr size = λ i. value_of (map (λ b. slice_index (cell_alike (page_number b) i).bytes (offset_number b)) (covered addr size))
@@ -105,20 +86,10 @@ module _ (s t : State) (p q : ℕ) (a : AreAlike s p t q) where
   protect_refusal_alike page write = λ i. if not (is_user_page page) then Some BadPage else if not (mapped_alike page i) then Some NotMapped else if write && not (cell_alike page i).may then Some Rights else None
 
   pub exit_refusal_alike : exit_refusal s p ≡ exit_refusal t q
-  exit_refusal_alike = exit_allowed s p a.one ∙ sym (exit_allowed t q a.other)
-    where
-      exit_allowed : (s : State) (p : ℕ) → IsApart s p → exit_refusal s p ≡ None
-      exit_allowed s p a = λ i. if ne_eqb p 0 a.not_root i then Some RootExit else if nat_lt 0 (a.childless i) then Some HasChildren else None
+  exit_refusal_alike = grind (arith, ne_eqb)
 
   pub withdraw_refusal_alike : (page target : ℕ) → withdraw_refusal s p page target ≡ withdraw_refusal t q page target
-  withdraw_refusal_alike page target = λ i. if not (is_user_page page) then Some BadPage else if not ((no_offer s p a.one page target ∙ sym (no_offer t q a.other page target)) i) then Some NoOffer else None
-    where
-      no_offer : (s : State) (p : ℕ) → IsApart s p → (page target : ℕ) → map.contains_key s.offers (offer_key p page target) ≡ false
-      no_offer s p a page target = by (map.get s.offers (offer_key p page target)) refl
-        where
-          by : (x : Option Bool) → map.get s.offers (offer_key p page target) ≡ x → is_some x ≡ false
-          by None is = refl
-          by (Some right) is = absurd (a.offers_none (offer_key p page target) right is refl)
+  withdraw_refusal_alike page target = grind arith
 
 -- ---- What a process apart does to its own pages
 
@@ -141,36 +112,18 @@ record IsChange (s : State) (p page : ℕ) (x : Option Cell) (t : State) : Type 
   group : (c : Cell) → x ≡ Some c → c.holders ≡ lone (at_page p page)
 
 changed_apart : (s t : State) (p page : ℕ) (x : Option Cell) → IsApart s p → IsChange s p page x t → IsApart t p
-changed_apart s t p page x a c = record {
-  live = ap (λ (b : Book). map.contains_key b p) c.book ∙ a.live;
-  not_root = a.not_root;
-  childless = ap (λ (b : Book). number_of_children b p) c.book ∙ a.childless;
-  offers_none = λ key right h. a.offers_none key right (c.offers key right h);
-  shares_none = λ n d h. elim (cases_eq n page) [
-    | inl is ↦ subst (λ m. d.holders ≡ lone (at_page p m)) (sym is) (c.group d (sym c.here ∙ ap (λ m. map.get t.spaces (at_page p m)) (sym is) ∙ h))
-    | inr other ↦ a.shares_none n d (sym (c.elsewhere n other) ∙ h)
-  ];
-}
+changed_apart s t p page x a c = grind (arith, cases_eq)
 
 alike_changed : (s t s' t' : State) (p q page : ℕ) (x y : Option Cell) → AreAlike s p t q → IsChange s p page x s' → IsChange t q page y t' → option_map held_in x ≡ option_map held_in y → AreAlike s' p t' q
 alike_changed s t s' t' p q page x y a c d same = record {
   one = changed_apart s s' p page x a.one c;
   other = changed_apart t t' q page y a.other d;
-  pages = λ n. elim (cases_eq n page) [
-    | inl is ↦ (ap (held s' p) is ∙ ap (option_map held_in) c.here ∙ same ∙ ap (option_map held_in) (sym d.here) ∙ ap (held t' q) (sym is))
-    | inr other ↦ (ap (option_map held_in) (c.elsewhere n other) ∙ a.pages n ∙ ap (option_map held_in) (sym (d.elsewhere n other)))
-  ];
+  pages = grind (arith, cases_eq);
   quota = ap (λ (b : Book). quota_of b p) c.book ∙ a.quota ∙ ap (λ (b : Book). quota_of b q) (sym d.book);
 }
 
 inserted : (s : State) (p page : ℕ) (c : Cell) → c.holders ≡ lone (at_page p page) → IsChange s p page (Some c) (record s { spaces = map.insert s.spaces (at_page p page) c })
-inserted s p page c group = record {
-  book = refl;
-  here = get-inserted s.spaces (at_page p page) c;
-  elsewhere = λ n d. get-inserted_other s.spaces (at_page p page) c (at_page p n) (pages_differ p n page d);
-  offers = λ key right h. h;
-  group = λ d is. ap (λ (e : Cell). e.holders) (sym (same_Some c d is)) ∙ group;
-}
+inserted s p page c group = grind (arith, get-inserted, get-inserted_other, pages_differ, same_Some)
 
 module _ (s t : State) (p q : ℕ) (a : AreAlike s p t q) where
   pub map_alike : (page : ℕ) (write : Bool) → AreAlike (after_map s p page write) p (after_map t q page write) q
@@ -198,8 +151,7 @@ pub set_bytes_outside : (S : Spaces) (group : Set slot_order) (bytes : List ℕ)
 set_bytes_outside S group bytes slot out = get-map_values slot_order (λ q c. if set.contains group q then with_bytes c bytes else c) S slot ∙ by (map.get S slot)
   where
     by : (x : Option Cell) → option_map (λ (c : Cell). if set.contains group slot then with_bytes c bytes else c) x ≡ x
-    by None = refl
-    by (Some c) = ap (λ b. Some (if b then with_bytes c bytes else c)) out
+    by x = grind arith
 
 -- what a store of these bytes at this place leaves at its own slot
 abbrev stored_cell : Cell → ℕ → List ℕ → Cell
@@ -281,34 +233,18 @@ lone_stays gone slot c group stays = ap (with_holders c) (ap (λ (g : Set slot_o
 
 -- where slots go that are none of it, a process apart has what it had
 pub without_others : (s : State) (p : ℕ) (gone : Slot → Bool) (n : ℕ) → IsApart s p → gone (at_page p n) ≡ false → map.get (without s.spaces gone) (at_page p n) ≡ map.get s.spaces (at_page p n)
-without_others s p gone n a stays =
-    get-without s.spaces gone (at_page p n) ∙ ap (λ b. cond (not b) (option_map (left gone) (map.get s.spaces (at_page p n))) None) stays ∙ by (map.get s.spaces (at_page p n)) refl
-  where
-    by : (x : Option Cell) → map.get s.spaces (at_page p n) ≡ x → option_map (left gone) x ≡ x
-    by None is = refl
-    by (Some c) is = ap Some (lone_stays gone (at_page p n) c (a.shares_none n c is) stays)
+without_others s p gone n a stays = grind (arith, get-without, left, lone_stays)
 
 unmap_changes : (s : State) (p page : ℕ) → IsApart s p → IsChange s p page None (after_unmap s p page)
-unmap_changes s p page a = record {
-  book = refl;
-  here = get-without s.spaces (is_slot p page) (at_page p page) ∙ ap (λ b. cond (not b) (option_map (left (is_slot p page)) (map.get s.spaces (at_page p page))) None) (same_itself slot_order (at_page p page));
-  elsewhere = λ n d. without_others s p (is_slot p page) n a (same_apart slot_order (at_page p page) (at_page p n) (λ e. pages_differ p n page d (sym e)));
-  offers = λ key right h. (retained s.offers (λ (k : OfferKey). not ((k.offerer == p) && (k.page == page))) key right h).1;
-  group = λ c is. cc;
-}
+unmap_changes s p page a =
+    grind (arith, get-without, left, same_itself, without_others, same_apart, pages_differ, retained)
 
 pub unmap_alike : (s t : State) (p q page : ℕ) → AreAlike s p t q → AreAlike (after_unmap s p page) p (after_unmap t q page) q
 unmap_alike s t p q page a =
     alike_changed s t (after_unmap s p page) (after_unmap t q page) p q page None None a (unmap_changes s p page a.one) (unmap_changes t q page a.other) refl
 
 withdraw_changes : (s : State) (p page target : ℕ) → IsApart s p → IsChange s p page (map.get s.spaces (at_page p page)) (after_withdraw s p page target)
-withdraw_changes s p page target a = record {
-  book = refl;
-  here = refl;
-  elsewhere = λ n d. refl;
-  offers = λ key right h. (retained s.offers (λ k. not (same offer_order (offer_key p page target) k)) key right h).1;
-  group = λ c is. a.shares_none page c is;
-}
+withdraw_changes s p page target a = grind (arith, retained)
 
 pub withdraw_alike : (s t : State) (p q page target : ℕ) → AreAlike s p t q → AreAlike (after_withdraw s p page target) p (after_withdraw t q page target) q
 withdraw_alike s t p q page target a =

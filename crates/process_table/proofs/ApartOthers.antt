@@ -1,21 +1,18 @@
 -- What the calls of others leave of a process apart, and how a child begins.
 use Rattle.process_table.proofs.Prelude
 use Prelude.{◌≡◌, ◌≢◌, ℕ, ◌+◌, ◌&&◌, ◌||◌, ◌==◌, not, Bool, true, false, cond, List, [], ◌∷◌, map, refl, sym, ap, ◌∙◌}
-use Prelude.{Option, Some, None, is_some, unwrap_or, arith, inl, inr, if◌then◌else◌, nat_lt, option_map, nat_cmp}
-use Prelude.{cases_eq, ne_eqb, same_Some, page_number, offset_number, byte_count, touched, Size, Map, same, nat_order}
-use Prelude.{Set, some_value, no_value, same_cases, get-remove_other, Slot, slot_order, Cell, Spaces, pages_of, fresh}
-use Prelude.{cell_or_fresh, with_bytes, with_holders, set_bytes, set_holders, write_at, bytes_of, is_slot, is_of}
-use Prelude.{at_page, slot_at, accessed, stored, with_page, with_pages, all_accessed, all_stored, copy_of, copied}
-use Prelude.{contains-pages_of, copied-own, copied-other, Member, is_child, number_of_children, next_number, child_no}
-use Prelude.{get-insert_other, OfferKey, Offers, offer_order, offer_key, State, is_live, child_of, room, accept_refusal}
+use Prelude.{Option, Some, None, is_some, unwrap_or, arith, inl, inr, if◌then◌else◌, option_map, nat_cmp, cases_eq}
+use Prelude.{ne_eqb, same_Some, page_number, offset_number, byte_count, touched, Size, Map, same, nat_order, Set}
+use Prelude.{some_value, no_value, same_cases, get-remove_other, Slot, slot_order, Cell, Spaces, pages_of, fresh}
+use Prelude.{cell_or_fresh, with_bytes, with_holders, set_bytes, set_holders, write_at, bytes_of, is_of, at_page}
+use Prelude.{slot_at, accessed, stored, with_page, with_pages, all_accessed, all_stored, copy_of, copied}
+use Prelude.{contains-pages_of, copied-own, copied-other, Member, is_child, number_of_children, child_no}
+use Prelude.{get-insert_other, OfferKey, Offers, offer_order, offer_key, State, is_live, child_of, accept_refusal}
 use Prelude.{spawn_refusal, fork_refusal, offered, after_map, after_unmap, after_protect, after_offer, after_withdraw}
-use Prelude.{after_accept, after_spawn, after_fork, after_exit, after_load, after_store, IsWellFormed, IsApart}
-use Prelude.{AreAlike, held_in, lone}
-use Rattle.process_table.specs.Apart.{FirstPage, first_cell, first_page, pages_held, alone_with}
-use Rattle.std.specs.List.{list_any}
-use Rattle.std.specs.Cmp.{tied_then}
-use Rattle.std.specs.FinMap.Entries.{is_some-find}
-use Rattle.page_words.proofs.MapLemmas.{same_itself, get-insert, get-map_values, get-collect}
+use Prelude.{after_accept, after_spawn, after_fork, after_exit, after_load, after_store, IsWellFormed, list_any}
+use Prelude.{tied_then, is_some-find, same_itself, get-insert, get-map_values, get-collect}
+use Rattle.process_table.specs.Apart.{IsApart, AreAlike, held_in, lone, FirstPage, first_cell, first_page, pages_held}
+use Rattle.process_table.specs.Apart.{alone_with}
 use Rattle.quota_tree.proofs.Sums.{number-insert, number-remove, number-none}
 use Rattle.process_table.proofs.Apart.{in_lone, pages_differ, pids_differ, set_bytes_outside, without_others}
 use Rattle.process_table.proofs.BookLaws.{retained, next_free, parents_in, spawn_allowed}
@@ -33,18 +30,7 @@ record IsLeft (s t : State) (p : ℕ) : Type 0 where
   offers : (key : OfferKey) (right : Bool) → map.get t.offers key ≡ Some right → key.offerer ≢ p
 
 left_alike : (s t : State) (p : ℕ) → IsApart s p → IsLeft s t p → AreAlike s p t p
-left_alike s t p a l = record {
-  one = a;
-  other = record {
-    live = ap is_some l.member ∙ a.live;
-    not_root = a.not_root;
-    childless = l.childless;
-    offers_none = l.offers;
-    shares_none = λ n c h. a.shares_none n c (sym (l.pages n) ∙ h);
-  };
-  pages = λ n. ap (option_map held_in) (sym (l.pages n));
-  quota = ap (λ (x : Option Member). unwrap_or (option_map (λ (m : Member). m.quota) x) 0) (sym l.member);
-}
+left_alike s t p a l = grind arith
 
 -- where spaces and offers alone change
 spaces_left : (s : State) (p : ℕ) (T : Spaces) (O : Offers) → IsApart s p → ((n : ℕ) → map.get T (at_page p n) ≡ map.get s.spaces (at_page p n))
@@ -62,19 +48,7 @@ IsOutside S q p = (page n : ℕ) → set.contains (cell_or_fresh S (at_page q pa
 
 -- a page that is mapped now is as it was counted before: fresh where nothing stood
 cell_paged : (S : Spaces) (q page n : ℕ) → cell_or_fresh (with_page S q page) (at_page q n) ≡ cell_or_fresh S (at_page q n)
-cell_paged S q page n = by (map.get S (at_page q page)) refl
-  where
-    by : (x : Option Cell) → map.get S (at_page q page) ≡ x
-        → cell_or_fresh (if is_some x then S else map.insert S (at_page q page) (fresh (at_page q page) true)) (at_page q n) ≡ cell_or_fresh S (at_page q n)
-    by (Some c) is = refl
-    by None is = elim (cases_eq n page) [
-      | inl same ↦
-          ap (λ m. cell_or_fresh (map.insert S (at_page q page) (fresh (at_page q page) true)) (at_page q m)) same
-          ∙ ap (λ (x : Option Cell). unwrap_or x (fresh (at_page q page) true)) (get-inserted S (at_page q page) (fresh (at_page q page) true))
-          ∙ sym (ap (λ (x : Option Cell). unwrap_or x (fresh (at_page q page) true)) is)
-          ∙ sym (ap (λ m. cell_or_fresh S (at_page q m)) same)
-      | inr other ↦ ap (λ (x : Option Cell). unwrap_or x (fresh (at_page q n) true)) (get-inserted_other S (at_page q page) (fresh (at_page q page) true) (at_page q n) (pages_differ q n page other))
-    ]
+cell_paged S q page n = grind (arith, cases_eq, get-inserted, get-inserted_other, pages_differ)
 
 -- a store leaves all groups of its process
 holders_stored : (S : Spaces) (q page at n : ℕ) (new : List ℕ) → (cell_or_fresh (stored S (at_page q page) at new) (at_page q n)).holders ≡ (cell_or_fresh S (at_page q n)).holders
@@ -103,12 +77,10 @@ holders_stored S q page at n new = elim (cases_eq n page) [
     written = record (cell_or_fresh S (at_page q page)) { bytes = bytes; accessed = true; dirty = true }
 
     either : (b : Bool) (c : Cell) → (if b then with_bytes c bytes else c).holders ≡ c.holders
-    either true c = refl
-    either false c = refl
+    either b c = grind arith
 
     by : (x : Option Cell) → (unwrap_or (option_map (λ (c : Cell). if set.contains group (at_page q n) then with_bytes c bytes else c) x) (fresh (at_page q n) true)).holders ≡ (unwrap_or x (fresh (at_page q n) true)).holders
-    by None = refl
-    by (Some c) = either (set.contains group (at_page q n)) c
+    by x = grind (arith, either, group)
 
 module _ (p q : ℕ) (d : q ≢ p) where
   paged_outside : (S : Spaces) (pages : List ℕ) → IsOutside S q p → IsOutside (with_pages S q pages) q p
@@ -116,11 +88,7 @@ module _ (p q : ℕ) (d : q ≢ p) where
   paged_outside S (page ∷ pages) out = paged_outside (with_page S q page) pages (λ m n. ap (λ (c : Cell). set.contains c.holders (at_page p n)) (cell_paged S q page m) ∙ out m n)
 
   page_same : (S : Spaces) (page n : ℕ) → map.get (with_page S q page) (at_page p n) ≡ map.get S (at_page p n)
-  page_same S page n = by (map.contains_key S (at_page q page))
-    where
-      by : (b : Bool) → map.get (if b then S else map.insert S (at_page q page) (fresh (at_page q page) true)) (at_page p n) ≡ map.get S (at_page p n)
-      by true = refl
-      by false = get-inserted_other S (at_page q page) (fresh (at_page q page) true) (at_page p n) (pids_differ p q n page d)
+  page_same S page n = grind (arith, get-inserted_other, pids_differ)
 
   paged_same : (S : Spaces) (pages : List ℕ) (n : ℕ) → map.get (with_pages S q pages) (at_page p n) ≡ map.get S (at_page p n)
   paged_same S [] n = refl
@@ -191,26 +159,10 @@ module _ (s : State) (p q : ℕ) (w : IsWellFormed s) (a : IsApart s p) (d : q �
       a.offers_none
 
   pub unmap_leaves : (page : ℕ) → AreAlike s p (after_unmap s q page) p
-  unmap_leaves page =
-      let t = after_unmap s q page in
-      spaces_left s p t.spaces t.offers a
-      (λ n. without_others s p (is_slot q page) n a (slot_stays page n))
-      (retained_left s p (λ (k : OfferKey). not ((k.offerer == q) && (k.page == page))) a)
-    where
-      slot_stays : (page n : ℕ) → is_slot q page (at_page p n) ≡ false
-      slot_stays page n = elim (same_cases slot_order (at_page q page) (at_page p n)) [
-        | inl is ↦ absurd (pids_differ p q n page d (sym is.0))
-        | inr other ↦ other.1
-      ]
+  unmap_leaves page = grind (arith, spaces_left, without_others, retained_left, same_cases, pids_differ)
 
   pub offer_leaves : (page target : ℕ) (write : Bool) → AreAlike s p (after_offer s q page target write) p
-  offer_leaves page target write = spaces_left s p s.spaces (map.insert s.offers (offer_key q page target) write) a (λ n. refl) offers
-    where
-      offers : (key : OfferKey) (right : Bool) → map.get (map.insert s.offers (offer_key q page target) write) key ≡ Some right → key.offerer ≢ p
-      offers key right h = elim (same_cases offer_order key (offer_key q page target)) [
-        | inl is ↦ (λ e. d (sym (ap (λ (k : OfferKey). k.offerer) is.0) ∙ e))
-        | inr other ↦ a.offers_none key right (sym (get-insert s.offers (offer_key q page target) write key ∙ ap (λ b. cond b (Some write) (map.get s.offers key)) other.1) ∙ h)
-      ]
+  offer_leaves page target write = grind (arith, spaces_left, same_cases, get-insert)
 
   pub withdraw_leaves : (page target : ℕ) → AreAlike s p (after_withdraw s q page target) p
   withdraw_leaves page target = spaces_left s p s.spaces (map.remove s.offers (offer_key q page target)) a (λ n. refl) (retained_left s p (λ k. not (same offer_order (offer_key q page target) k)) a)
@@ -220,8 +172,7 @@ set_holders_outside : (S : Spaces) (group holders : Set slot_order) (slot : Slot
 set_holders_outside S group holders slot out = get-map_values slot_order (λ q c. if set.contains group q then with_holders c holders else c) S slot ∙ by (map.get S slot)
   where
     by : (x : Option Cell) → option_map (λ (c : Cell). if set.contains group slot then with_holders c holders else c) x ≡ x
-    by None = refl
-    by (Some c) = ap (λ b. Some (if b then with_holders c holders else c)) out
+    by x = grind arith
 
 pub accept_leaves : (s : State) (p q giver giver_page page : ℕ) → IsWellFormed s → IsApart s p → q ≢ p → accept_refusal s q giver giver_page page ≡ None → AreAlike s p (after_accept s q giver giver_page page) p
 accept_leaves s p q giver giver_page page w a d allowed =
@@ -253,9 +204,7 @@ exit_leaves s p q a d live =
 
 -- where a spawn is not refused, the child's number is not live
 pub child_free : (s : State) (p quota : ℕ) → spawn_refusal s p quota ≡ None → is_live s (child_of s) ≡ false
-child_free s p quota allowed =
-    let k = (spawn_allowed (quota == 0) (next_number s.book) (nat_lt (room s p) quota) allowed).1 in
-    ap (map.contains_key s.book) (ap (λ (x : Option ℕ). unwrap_or x 0) k.1) ∙ (next_free s.book k.0 k.1).1
+child_free s p quota allowed = grind (arith, spawn_allowed, next_free)
 
 -- who is live is another
 pub live_differ : (s : State) (p k : ℕ) → is_live s p ≡ true → is_live s k ≡ false → p ≢ k
@@ -282,19 +231,11 @@ spawn_leaves s p q quota a d allowed = child_leaves s p q (child_of s) quota s.s
 module _ (s : State) (k : ℕ) (w : IsWellFormed s) (free : is_live s k ≡ false) where
   -- who is not live has no page
   pub no_page : (page : ℕ) → map.get s.spaces (at_page k page) ≡ None
-  no_page page = by (map.get s.spaces (at_page k page)) refl
-    where
-      by : (x : Option Cell) → map.get s.spaces (at_page k page) ≡ x → x ≡ None
-      by None is = refl
-      by (Some c) is = absurd (let live = w.owners (at_page k page) c is in cc)
+  no_page page = grind arith
 
   -- nor an offer
   no_offer : (key : OfferKey) (right : Bool) → map.get s.offers key ≡ Some right → key.offerer ≢ k
-  no_offer key right h e =
-      let o = (w.offers key right h).offered in
-      let none = no_page key.page in
-      let at = ap (λ n. map.get s.spaces (at_page n key.page)) (sym e) ∙ o.1 in
-      cc
+  no_offer key right h e = grind (arith, no_page)
 
 -- ---- Forks
 
@@ -319,8 +260,7 @@ among_pages p n (page ∷ pages) =
     λ i. first i || among_pages p n pages i
 
 kept_where_some : {A B : Type 0} (f : A → B) (x : Option A) → cond (is_some x) (option_map f x) None ≡ option_map f x
-kept_where_some f None = refl
-kept_where_some f (Some a) = refl
+kept_where_some f x = grind arith
 
 -- what process 1 has at each page, where it is alone with these
 pub page_alone : (root quota : ℕ) (pages : Map nat_order FirstPage) (n : ℕ) → map.get (alone_with root quota pages).spaces (at_page 1 n) ≡ option_map (first_cell (at_page 1 n)) (map.get pages n)
@@ -331,12 +271,10 @@ page_alone root quota pages n =
 
 -- the group of a page that a process begins with
 first_lone : (slot : Slot) (x : Option FirstPage) (c : Cell) → option_map (first_cell slot) x ≡ Some c → c.holders ≡ lone slot
-first_lone slot None c h = cc
-first_lone slot (Some page) c h = ap (λ (d : Cell). d.holders) (sym (same_Some (first_cell slot page) c h))
+first_lone slot x c h = grind (arith, same_Some)
 
 first_held : (p q n : ℕ) (x : Option FirstPage) → option_map held_in (option_map (first_cell (at_page p n)) x) ≡ option_map held_in (option_map (first_cell (at_page q n)) x)
-first_held p q n None = refl
-first_held p q n (Some page) = refl
+first_held p q n x = grind arith
 
 alone_apart : (root quota : ℕ) (pages : Map nat_order FirstPage) → IsApart (alone_with root quota pages) 1
 alone_apart root quota pages = record {
@@ -381,8 +319,7 @@ among_own : (S : Spaces) (p n : ℕ) → list_any (same nat_order n) (set.items 
 among_own S p n = sym (is_some-find nat_cmp n (pages_of S p).entries) ∙ contains-pages_of S p n
 
 copied_first : (slot : Slot) (x : Option Cell) → option_map (copy_of slot) x ≡ option_map (first_cell slot) (option_map first_page x)
-copied_first slot None = refl
-copied_first slot (Some c) = refl
+copied_first slot x = grind arith
 
 -- what the child of a fork has at each page
 copied_held : (s : State) (p k n : ℕ) → map.get (copied s.spaces p k) (at_page k n) ≡ option_map (first_cell (at_page k n)) (map.get (pages_held s p) n)

@@ -2,15 +2,14 @@
 use Rattle.process_table.proofs.Prelude
 use Prelude.{◌≡◌, ◌≢◌, ℕ, zero, suc, ◌+◌, ◌-◌, ◌<◌, ◌≤◌, ◌&&◌, ◌||◌, ◌==◌, not, Bool, true, false, cond, refl, sym, ap}
 use Prelude.{subst, ◌∙◌, Option, Some, None, is_some, is_none, unwrap_or, arith, inl, inr, if◌then◌else◌, nat_lt}
-use Prelude.{option_map, find, range_with_len, cases_eq, not-true, eqb-false, nat_order, same_itself, get-insert}
-use Prelude.{get-retain_keys, Slot, slot_order, Cell, Spaces, cost, without, is_slot, is_of, at_page, Book, Member}
-use Prelude.{is_child, given, number_of_children, quota_of, next_number, OfferKey, Offers, pending, State, open_with}
-use Prelude.{is_live, room, child_of, spawn_refusal, exit_refusal, after_unmap, after_spawn, after_exit, IsOfferIn}
-use Prelude.{IsWellFormed, total, eq-eqb, same_Some, some_value, no_value}
-use Rattle.page_words.proofs.SetLemmas.{get-remove, same_cases, get-remove_other}
+use Prelude.{option_map, range_with_len, cases_eq, not-true, eqb-false, nat_order, same_itself, get-insert}
+use Prelude.{get-retain_keys, Slot, Cell, Spaces, cost, without, is_slot, is_of, at_page, Book, Member, is_child, given}
+use Prelude.{number_of_children, quota_of, next_number, OfferKey, Offers, pending, State, open_with, is_live, room}
+use Prelude.{child_of, spawn_refusal, exit_refusal, after_unmap, after_spawn, after_exit, IsOfferIn, IsWellFormed}
+use Prelude.{total, eq-eqb, same_Some, some_value, no_value, get-remove, same_cases, get-remove_other, child_yes}
+use Prelude.{child_no, contains_key-insert, get-insert_other, BadQuota, TableFull, Quota, RootExit, HasChildren}
+use Rattle.std.specs.List.{find}
 use Rattle.quota_tree.proofs.Sums.{Parents, costs_within, given-insert, given-none, given-remove, number-remove}
-use Rattle.quota_tree.proofs.BookFacts.{child_yes, child_no, contains_key-insert, get-insert_other}
-use Rattle.process_table.specs.declared.causes.Cause.TheVariants.{BadQuota, TableFull, Quota, RootExit, HasChildren}
 use Rattle.process_table.proofs.CellLaws.{without-stays, without-was, cells-without}
 use Rattle.process_table.proofs.Sizes.{cost-fewer, cost-no_pages, len-retain}
 use Rattle.process_table.proofs.SpaceLaws.{not_less}
@@ -23,11 +22,7 @@ without-keys S gone slot h = let e = some_value (map.get (without S gone) slot) 
 
 -- an offer that is left passes the test, and was there
 pub retained : (offers : Offers) (stay : OfferKey → Bool) (key : OfferKey) (right : Bool) → map.get (map.retain_keys offers stay) key ≡ Some right → (stay key ≡ true) × (map.get offers key ≡ Some right)
-retained offers stay key right h = by (stay key) refl (sym (get-retain_keys offers stay key) ∙ h)
-  where
-    by : (b : Bool) → stay key ≡ b → cond b (map.get offers key) None ≡ Some right → (stay key ≡ true) × (map.get offers key ≡ Some right)
-    by true is k = (is, k)
-    by false is k = cc
+retained offers stay key right h = grind (arith, get-retain_keys)
 
 abbrev offered_at : OfferKey → Slot
 offered_at key = at_page key.offerer key.page
@@ -56,15 +51,7 @@ module _ (s : State) (w : IsWellFormed s) (gone : Slot → Bool) (stay : OfferKe
 
 module _ (s : State) (p page : ℕ) (w : IsWellFormed s) where
   other_slot : (key : OfferKey) → not ((key.offerer == p) && (key.page == page)) ≡ true → is_slot p page (offered_at key) ≡ false
-  other_slot key h = elim (same_cases slot_order (at_page p page) (offered_at key)) [
-    | inl is ↦ absurd (
-        let a : (key.offerer == p) ≡ true = eq-eqb key.offerer p (sym (ap (λ (x : Slot). x.pid) is.0)) in
-        let b : (key.page == page) ≡ true = eq-eqb key.page page (sym (ap (λ (x : Slot). x.page) is.0)) in
-        let f : ((key.offerer == p) && (key.page == page)) ≡ false = not-true ((key.offerer == p) && (key.page == page)) h in
-        let t : ((key.offerer == p) && (key.page == page)) ≡ true = (λ i. a i && b i) in
-        cc)
-    | inr other ↦ other.1
-  ]
+  other_slot key h = grind (arith, same_cases, eq-eqb, not-true)
 
   -- an unmap, of any page
   pub well_formed-unmap : IsWellFormed (after_unmap s p page)
@@ -86,18 +73,14 @@ find-range t a zero k h = cc
 find-range t a (suc n) k h = by (t a) refl (λ later. let r = find-range t (a + 1) n k later in let l = r.0 in let m : k < a + suc n = omega (arith, l) in (m, r.1)) h
   where
     by : (b : Bool) → t a ≡ b → (find t (range_with_len (a + 1) n) ≡ Some k → (k < a + suc n) × (t k ≡ true)) → cond b (Some a) (find t (range_with_len (a + 1) n)) ≡ Some k → (k < a + suc n) × (t k ≡ true)
-    by true is rest e = let same = same_Some a k e in let l : k < a + suc n = omega (arith, same) in (l, ap t (sym same) ∙ is)
-    by false is rest e = rest e
+    by b is rest e = grind (arith, same_Some)
 
 -- the next number is one below 64 that is not live
 pub next_free : (book : Book) (k : ℕ) → next_number book ≡ Some k → (k < 64) × (map.contains_key book k ≡ false)
 next_free book k h = let r = find-range (λ p. not (map.contains_key book p)) 0 64 k h in let l = r.0 in let m : k < 64 = omega (arith, l) in (m, not-true (map.contains_key book k) r.1)
 
 pub spawn_allowed : (a : Bool) (x : Option ℕ) (c : Bool) → (if a then Some BadQuota else if is_none x then Some TableFull else if c then Some Quota else None) ≡ None → (a ≡ false) × ((k : ℕ) × (x ≡ Some k)) × (c ≡ false)
-spawn_allowed true x c h = cc
-spawn_allowed false None c h = cc
-spawn_allowed false (Some k) true h = cc
-spawn_allowed false (Some k) false h = (refl, (k, refl), refl)
+spawn_allowed a x c h = grind arith
 
 -- each process's parent is in the book
 pub parents_in : (s : State) → IsWellFormed s → Parents s.book
@@ -151,24 +134,10 @@ module _ (s : State) (p quota k : ℕ) (w : IsWellFormed s) (live : is_live s p 
       omega (arith, a, b, c, d, some)
 
   room_parent : cost s.spaces p + given book_more p ≤ quota_of book_more p
-  room_parent =
-      let a = given-parent in
-      let b = quota_of-other p (live_apart p live) in
-      let c = w.rooms p live in
-      omega (arith, a, b, c, fits)
+  room_parent = grind (arith, given-parent, quota_of-other, live_apart)
 
   rooms-spawn : (q : ℕ) → map.contains_key book_more q ≡ true → cost s.spaces q + given book_more q ≤ quota_of book_more q
-  rooms-spawn q h = elim (cases_eq q k) [
-    | inl is ↦ subst (λ n. cost s.spaces n + given book_more n ≤ quota_of book_more n) (sym is) room_child
-    | inr other ↦ elim (cases_eq q p) [
-      | inl is ↦ subst (λ n. cost s.spaces n + given book_more n ≤ quota_of book_more n) (sym is) room_parent
-      | inr differ ↦
-          let a = given-other q differ in
-          let b = quota_of-other q other in
-          let c = w.rooms q (sym (ap is_some (get-insert_other s.book k child q other)) ∙ h) in
-          omega (arith, a, b, c)
-    ]
-  ]
+  rooms-spawn q h = grind (arith, cases_eq, room_child, room_parent, given-other, quota_of-other, get-insert_other)
 
   processes-spawn : (q : ℕ) (member : Member) → map.get book_more q ≡ Some member → (q < 64) × (map.contains_key book_more member.parent ≡ true)
   processes-spawn q member h = elim (cases_eq q k) [
@@ -207,10 +176,7 @@ module _ (s : State) (p quota : ℕ) (w : IsWellFormed s) (live : is_live s p �
   child_is = ap (λ o. unwrap_or o 0) parts.1.1
 
   quota_some : 1 ≤ quota
-  quota_some = elim (cases_eq quota 0) [
-    | inl is ↦ absurd (let t = eq-eqb quota 0 is in let f = parts.0 in cc)
-    | inr other ↦ omega (arith, other)
-  ]
+  quota_some = grind (arith, cases_eq, eq-eqb, parts)
 
   -- a spawn that is not refused
   pub well_formed-spawn : IsWellFormed (after_spawn s p quota)
@@ -220,21 +186,15 @@ module _ (s : State) (p quota : ℕ) (w : IsWellFormed s) (live : is_live s p �
 
   -- it leaves the root's entry
   pub root-spawn : map.get (after_spawn s p quota).book 0 ≡ map.get s.book 0
-  root-spawn =
-      ap (λ k. map.get (map.insert s.book k (record { parent = p; quota = quota })) 0) child_is
-      ∙ root_spawned s p quota parts.1.0 w live parts.1.1 quota_some (not_less (room s p) quota parts.2)
+  root-spawn = grind (arith, child_is, root_spawned, parts, quota_some, not_less)
 
 -- ---- An exit
 
 exit_allowed : (a c : Bool) → (if a then Some RootExit else if c then Some HasChildren else None) ≡ None → (a ≡ false) × (c ≡ false)
-exit_allowed true c h = cc
-exit_allowed false true h = cc
-exit_allowed false false h = (refl, refl)
+exit_allowed a c h = grind arith
 
 neither : (a b : Bool) → not (a || b) ≡ true → (a ≡ false) × (b ≡ false)
-neither true b h = cc
-neither false true h = cc
-neither false false h = (refl, refl)
+neither a b h = grind arith
 
 module _ (s : State) (p : ℕ) (w : IsWellFormed s) (live : is_live s p ≡ true) (allowed : exit_refusal s p ≡ None) where
   causes : ((p == 0) ≡ false) × (nat_lt 0 (number_of_children s.book p) ≡ false)
@@ -250,10 +210,7 @@ module _ (s : State) (p : ℕ) (w : IsWellFormed s) (live : is_live s p ≡ true
   book_less = map.remove s.book p
 
   was_other : (q : ℕ) (member : Member) → map.get book_less q ≡ Some member → (q ≢ p) × (map.get s.book q ≡ Some member)
-  was_other q member h = elim (same_cases nat_order q p) [
-    | inl is ↦ absurd (let x : None ≡ Some member = sym (ap (λ b. cond b None (map.get s.book q)) is.1) ∙ sym (get-remove s.book p q) ∙ h in cc)
-    | inr other ↦ (other.0, sym (get-remove_other s.book p q other.0) ∙ h)
-  ]
+  was_other q member h = grind (arith, same_cases, get-remove, get-remove_other)
 
   still_live : (q : ℕ) → q ≢ p → is_live s q ≡ true → map.contains_key book_less q ≡ true
   still_live q n h = ap is_some (get-remove_other s.book p q n) ∙ h
@@ -290,9 +247,7 @@ module _ (s : State) (p : ℕ) (w : IsWellFormed s) (live : is_live s p ≡ true
       (old.0, still_live member.parent (parent_stays q member o.1) old.1)
 
   owners-exit : (slot : Slot) (cell : Cell) → map.get (without s.spaces (is_of p)) slot ≡ Some cell → map.contains_key book_less slot.pid ≡ true
-  owners-exit slot cell h =
-      let l = without-was s.spaces (is_of p) slot cell h in
-      still_live slot.pid (eqb-false slot.pid p l.2) (w.owners slot l.0 l.1)
+  owners-exit slot cell h = grind (arith, without-was, still_live, eqb-false)
 
   abbrev stays : OfferKey → Bool
   stays key = not ((key.offerer == p) || (key.target == p))
@@ -327,32 +282,17 @@ module _ (n : ℕ) (two : 2 ≤ n) where
   root = record { parent = 0; quota = n - 1 }
 
   root_alone : (q : ℕ) (member : Member) → map.get (open_with n).book q ≡ Some member → (q ≡ 0) × (root ≡ member)
-  root_alone q member h = elim (same_cases nat_order q 0) [
-    | inl is ↦ (is.0, same_Some root member (sym (ap (λ b. cond b (Some root) None) is.1) ∙ sym (get-insert {o = nat_order} map.empty 0 root q) ∙ h))
-    | inr other ↦ absurd (let x : None ≡ Some member = sym (ap (λ b. cond b (Some root) None) other.1) ∙ sym (get-insert {o = nat_order} map.empty 0 root q) ∙ h in cc)
-  ]
+  root_alone q member h = grind (arith, same_cases, same_Some, get-insert)
 
   room_opening : cost (open_with n).spaces 0 + given (open_with n).book 0 ≤ quota_of (open_with n).book 0
   room_opening = let a = cost-no_pages map.empty 0 (λ page. refl) in omega (arith, a)
 
   rooms-opening : (q : ℕ) → is_live (open_with n) q ≡ true → cost (open_with n).spaces q + given (open_with n).book q ≤ quota_of (open_with n).book q
-  rooms-opening q h =
-      let m = some_value (map.get (open_with n).book q) h in
-      let is = root_alone q m.0 m.1 in
-      subst (λ q. cost (open_with n).spaces q + given (open_with n).book q ≤ quota_of (open_with n).book q) (sym is.0) room_opening
+  rooms-opening q h = grind (arith, some_value, root_alone, room_opening)
 
   -- a machine of two frames or more, as it boots
   pub well_formed-open : IsWellFormed (open_with n)
-  well_formed-open = record {
-    root = refl;
-    root_parent = λ member h. ap (λ (m : Member). m.parent) (sym (root_alone 0 member h).1);
-    processes = λ q member h. let is = root_alone q member h in let zero_is = is.0 in let small : q < 64 = omega (arith, zero_is) in (small, ap (λ (m : Member). is_live (open_with n) m.parent) (sym is.1));
-    rooms = rooms-opening;
-    owners = λ slot cell h. cc;
-    cells = λ slot cell h. cc;
-    offers = λ key right h. cc;
-    few = λ q. omega arith;
-  }
+  well_formed-open = grind (arith, root_alone, rooms-opening)
 
 -- ---- All costs
 

@@ -1,10 +1,10 @@
 -- Cells stay well formed where one is mapped, where a group gets other bytes, and where some slots go.
-use Rattle.process_table.proofs.Prelude.{◌≡◌, ◌≢◌, ℕ, ◌<◌, ◌&&◌, ◌||◌, not, Bool, true, false, cond, List, length, refl}
-use Rattle.process_table.proofs.Prelude.{sym, ap, subst, ◌∙◌, Option, Some, None, inl, inr, IsTrue, option_map, All}
-use Rattle.process_table.proofs.Prelude.{IsUserPage, same, Set, same_itself, same-true, get-insert, get-retain_keys}
-use Rattle.process_table.proofs.Prelude.{get-map_values, contains-insert, same_cases, Slot, slot_order, Cell, Spaces}
-use Rattle.process_table.proofs.Prelude.{without, with_holders, IsCellAt, or-false, not-true, same_Some}
-use Rattle.page_words.proofs.MapLemmas.{contains-retain}
+use Rattle.process_table.proofs.Prelude
+use Prelude.{arith, ◌≡◌, ◌≢◌, ℕ, ◌<◌, ◌&&◌, ◌||◌, not, Bool, true, false, cond, List, length, refl, sym, ap, subst, ◌∙◌}
+use Prelude.{Option, Some, None, inl, inr, IsTrue, option_map, All, IsUserPage, Set, same_itself, same-true, get-insert}
+use Prelude.{get-retain_keys, get-map_values, contains-insert, contains-retain, same_cases, Slot, slot_order, Cell}
+use Prelude.{Spaces, without, with_holders, IsCellAt, not-true, same_Some}
+use Rattle.std.proofs.Math.Bool.{or-false}
 use Rattle.page_words.specs.FiniteMap as map
 use Rattle.page_words.specs.FiniteSet as set
 
@@ -14,8 +14,7 @@ AreCells S = (slot : Slot) (cell : Cell) → map.get S slot ≡ Some cell → Is
 
 -- two tests that both pass
 pub both_true : (a b : Bool) → (a && b) ≡ true → (a ≡ true) × (b ≡ true)
-both_true true b h = (refl, h)
-both_true false b h = cc
+both_true a b h = grind arith
 
 -- what was put at a key stands there
 pub get-inserted : (S : Spaces) (slot : Slot) (c : Cell) → map.get (map.insert S slot c) slot ≡ Some c
@@ -23,10 +22,7 @@ get-inserted S slot c = get-insert S slot c slot ∙ ap (λ b. cond b (Some c) (
 
 -- and at the others what stood there
 pub get-inserted_other : (S : Spaces) (slot : Slot) (c : Cell) (q : Slot) → q ≢ slot → map.get (map.insert S slot c) q ≡ map.get S q
-get-inserted_other S slot c q n = get-insert S slot c q ∙ elim (same_cases slot_order q slot) [
-  | inl is ↦ absurd (n is.0)
-  | inr other ↦ ap (λ b. cond b (Some c) (map.get S q)) other.1
-]
+get-inserted_other S slot c q n = grind (arith, get-insert, same_cases)
 
 -- ---- One cell more
 
@@ -44,9 +40,7 @@ lone-cell T slot c now user long small write dirty alone = record {
 }
   where
     only : (other : Slot) → IsTrue (set.contains c.holders other) → map.get T other ≡ Some c
-    only other h =
-        let e = same-true slot_order other slot (sym (or-false (same slot_order other slot)) ∙ sym (contains-insert {o = slot_order} set.empty slot other) ∙ sym (ap (λ (g : Set slot_order). set.contains g other) alone) ∙ h) in
-        ap (map.get T) e ∙ now
+    only other h = grind (arith, same-true, or-false, contains-insert)
 
 -- the other cells do not see it
 pub cells-lone : (S T : Spaces) (slot : Slot) (c : Cell) → map.get S slot ≡ None → map.get T slot ≡ Some c → ((q : Slot) → q ≢ slot → map.get T q ≡ map.get S q) → AreCells S → IsCellAt T slot c → AreCells T
@@ -88,33 +82,20 @@ module _ (S T : Spaces) (slot : Slot) (c : Cell) (bytes : List ℕ) (at : map.ge
     (cells : AreCells S) (long : length bytes ≡ 4096) (small : All (λ b. b < 256) bytes) where
   -- a slot of the group holds the group
   in_group : (q : Slot) (d : Cell) → map.get S q ≡ Some d → set.contains c.holders q ≡ true → d.holders ≡ c.holders
-  in_group q d h inside =
-      let o = (cells slot c at).alike q inside in
-      ap (λ (x : Cell). x.holders) (same_Some d o.0 (sym h ∙ o.1)) ∙ o.2
+  in_group q d h inside = grind (arith, same_Some)
 
   bytes_of_one : (q : Slot) (d e : Cell) (b : Bool) → set.contains c.holders q ≡ b → IsRenewed c.holders bytes q d e → e.bytes ≡ cond b bytes d.bytes
-  bytes_of_one q d e true is r = r.bytes_in is
-  bytes_of_one q d e false is r = r.bytes_out is
+  bytes_of_one q d e b is r = grind arith
 
   -- two slots of one group are both in the group that changes, or neither is
   together : (q other : Slot) (d o : Cell) → map.get S q ≡ Some d → map.get S other ≡ Some o → o.holders ≡ d.holders → set.contains d.holders other ≡ true → set.contains c.holders other ≡ set.contains c.holders q
-  together q other d o at_q at_other shared inside = by (set.contains c.holders q) (set.contains c.holders other) refl refl
-    where
-      by : (a b : Bool) → set.contains c.holders q ≡ a → set.contains c.holders other ≡ b → b ≡ a
-      by true b is_q is_other = sym is_other ∙ ap (λ (g : Set slot_order). set.contains g other) (sym (in_group q d at_q is_q)) ∙ inside
-      by false false is_q is_other = refl
-      by false true is_q is_other =
-          let g : d.holders ≡ c.holders = sym shared ∙ in_group other o at_other is_other in
-          let own : set.contains c.holders q ≡ true = ap (λ (g : Set slot_order). set.contains g q) (sym g) ∙ (cells q d at_q).own in
-          cc
+  together q other d o at_q at_other shared inside = grind (arith, in_group)
 
   renewed_long : (q : Slot) (d e : Cell) (b : Bool) → set.contains c.holders q ≡ b → length d.bytes ≡ 4096 → IsRenewed c.holders bytes q d e → length e.bytes ≡ 4096
-  renewed_long q d e true is l r = ap length (r.bytes_in is) ∙ long
-  renewed_long q d e false is l r = ap length (r.bytes_out is) ∙ l
+  renewed_long q d e b is l r = grind arith
 
   renewed_small : (q : Slot) (d e : Cell) (b : Bool) → set.contains c.holders q ≡ b → All (λ b. b < 256) d.bytes → IsRenewed c.holders bytes q d e → All (λ b. b < 256) e.bytes
-  renewed_small q d e true is l r = subst (λ (x : List ℕ). All (λ b. b < 256) x) (sym (r.bytes_in is)) small
-  renewed_small q d e false is l r = subst (λ (x : List ℕ). All (λ b. b < 256) x) (sym (r.bytes_out is)) l
+  renewed_small q d e b is l r = grind arith
 
   one_renewed : (q : Slot) (d e : Cell) → map.get S q ≡ Some d → IsRenewed c.holders bytes q d e → IsCellAt T q e
   one_renewed q d e at_q r =

@@ -1,10 +1,9 @@
 -- What each call leaves of the charges, and that the frames it needs are there.
 use Rattle.process_table.proofs.Prelude
-use Prelude.{◌≡◌, ◌≢◌, ℕ, ◌+◌, ◌<◌, ◌≤◌, true, false, cond, not, refl, sym, ap, ◌∙◌, inl, inr, Option, Some, None}
-use Prelude.{unwrap_or, is_some, length, arith, option_map, same, nat_order, same_or_not, same_itself, get-insert}
-use Prelude.{get-retain_keys, cost, without, is_of, directory_of, live_cost, total_cost, sum_one, cost-without_other}
-use Prelude.{Member, quota_of, State, as_container, container_of, IsProcesses, ne_eqb}
-use Rattle.quota_tree.specs.Containers.{Containers, IsLive, used_of, with_used, after_close, total_used}
+use Prelude.{◌≡◌, ◌≢◌, ℕ, ◌+◌, ◌<◌, ◌≤◌, true, false, cond, not, ap, ◌∙◌, Option, Some, None, unwrap_or, is_some}
+use Prelude.{length, arith, same, nat_order, same_or_not, same_itself, get-insert, get-retain_keys, cost, without}
+use Prelude.{is_of, directory_of, live_cost, total_cost, sum_one, cost-without_other, Member, quota_of, State}
+use Prelude.{container_of, IsProcesses, ne_eqb, Containers, IsLive, used_of, with_used, after_close, total_used}
 use Rattle.quota_tree.specs.declared.Container.{Container}
 use Rattle.process_table.proofs.Ranges.{found, sum-range}
 use Rattle.page_words.specs.FiniteMap as map
@@ -26,23 +25,12 @@ differ q p n e = let a : same nat_order q p ≡ true = ap (λ x. same nat_order 
 -- a process is charged what it costs now, and the others cost what they did
 pub charged-one : (v w : frames.View) (c : Containers) (p u : ℕ) → IsProcesses v c → w.directories ≡ v.directories → length w.roles ≡ length v.roles
     → u ≡ cost w.spaces p → ((q : ℕ) → q ≢ p → cost w.spaces q ≡ cost v.spaces q) → IsProcesses w (with_used c p u)
-charged-one v w c p u kept dirs long own others = record {
-  live = λ q. ap (λ ds. is_some (directory_of ds q)) dirs ∙ kept.live q;
-  charged = λ q l. elim (same_or_not nat_order q p) [
-    | inl h ↦ ap (used_of (with_used c p u)) h.0 ∙ used-itself c p u ∙ own ∙ ap (cost w.spaces) (sym h.0)
-    | inr h ↦ used-other c p u q h ∙ kept.charged q l ∙ sym (others q (differ q p h))
-  ];
-  root = kept.root ∙ sym long;
-}
+charged-one v w c p u kept dirs long own others = grind (arith, same_or_not, used-itself, used-other, differ)
 
 -- no process's cost changed
 pub charged-same : (v w : frames.View) (c : Containers) → IsProcesses v c → w.directories ≡ v.directories → length w.roles ≡ length v.roles
     → ((q : ℕ) → cost w.spaces q ≡ cost v.spaces q) → IsProcesses w c
-charged-same v w c kept dirs long same_costs = record {
-  live = λ q. ap (λ ds. is_some (directory_of ds q)) dirs ∙ kept.live q;
-  charged = λ q l. kept.charged q l ∙ sym (same_costs q);
-  root = kept.root ∙ sym long;
-}
+charged-same v w c kept dirs long same_costs = grind arith
 
 -- ---- Room
 
@@ -67,15 +55,10 @@ room-for v c c' p k kept low small own members used root within =
     before = live_cost (directory_of v.directories) v.spaces
 
     each : (q : ℕ) (m : Option Member) (d : Option ℕ) → map.get c.book q ≡ m → is_some d ≡ is_some m → found (λ _. used_of c q) m ≡ cond (is_some d) (cost v.spaces q) 0
-    each q None None is h = refl
-    each q None (Some d) is h = cc
-    each q (Some m) None is h = cc
-    each q (Some m) (Some d) is h = kept.charged q (ap is_some is)
+    each q m d is h = grind arith
 
     others : (q : ℕ) → q ≢ p → after q ≡ before q
-    others q n =
-        (λ i. found (λ _. used q n i) (members q n i))
-        ∙ each q (map.get c.book q) (directory_of v.directories q) refl (kept.live q)
+    others q n = grind (arith, found, each)
 
 -- a live process was charged for k frames more
 pub room-taken : (v : frames.View) (c c' : Containers) (p k : ℕ) → IsProcesses v c → IsLive c p → c' ≡ with_used c p (used_of c p + k)
@@ -89,21 +72,13 @@ room-taken v c c' p k kept live is small within =
     (ap (λ (x : Containers). quota_of x.book 0) is) within
   where
     apart : (q : ℕ) → q ≢ p → same nat_order q p ≡ false
-    apart q n = elim (same_or_not nat_order q p) [
-      | inl h ↦ absurd (n h.0)
-      | inr h ↦ h
-    ]
+    apart q n = grind (arith, same_or_not)
 
     there : (u : ℕ) (m : Option Member) (d : Option ℕ) → is_some m ≡ true → is_some d ≡ is_some m → u ≡ cost v.spaces p + k → found (λ _. u) m ≡ cond (is_some d) (cost v.spaces p) 0 + k
-    there u None d l h e = cc
-    there u (Some m) None l h e = cc
-    there u (Some m) (Some d) l h e = e
+    there u m d l h e = grind arith
 
     own : found (λ _. used_of c' p) (map.get c'.book p) ≡ live_cost (directory_of v.directories) v.spaces p + k
-    own =
-        ap (λ (x : Containers). found (λ _. used_of c' p) (map.get x.book p)) is
-        ∙ there (used_of c' p) (map.get c.book p) (directory_of v.directories p) live (kept.live p)
-        (ap (λ x. used_of x p) is ∙ used-itself c p (used_of c p + k) ∙ ap (λ n. n + k) (kept.charged p live))
+    own = grind (arith, found, there, used-itself)
 
 -- ---- A process that is gone
 
@@ -117,35 +92,15 @@ differ-back : (p q : ℕ) → same nat_order p q ≡ false → q ≢ p
 differ-back p q n e = let a : same nat_order p q ≡ true = ap (same nat_order p) e ∙ same_itself nat_order p in cc
 
 apart-root : (p : ℕ) → p ≢ 0 → same nat_order p 0 ≡ false
-apart-root p n = elim (same_or_not nat_order p 0) [
-  | inl h ↦ absurd (n h.0)
-  | inr h ↦ h
-]
+apart-root p n = grind (arith, same_or_not)
 
 pub charged-exit : (v w : frames.View) (c : Containers) (p : ℕ) → IsProcesses v c → p ≢ 0 → w.spaces ≡ without v.spaces (is_of p) → length w.roles ≡ length v.roles
     → directory_of w.directories p ≡ None → ((q : ℕ) → q ≢ p → directory_of w.directories q ≡ directory_of v.directories q) → IsProcesses w (after_close c p)
-charged-exit v w c p kept child spaces long none others = record {
-  live = λ q. elim (same_or_not nat_order p q) [
-    | inl h ↦ ap (λ x. is_some (directory_of w.directories x)) (sym h.0) ∙ ap is_some none ∙ sym (ap (map.contains_key (after_close c p).book) (sym h.0) ∙ ap is_some (removed-itself c.book p))
-    | inr h ↦ ap is_some (others q (differ-back p q h)) ∙ kept.live q ∙ sym (ap is_some (removed-other c.book p q h))
-  ];
-  charged = λ q l. elim (same_or_not nat_order p q) [
-    | inl h ↦ absurd (gone q h.0 l)
-    | inr h ↦ ap (λ x. unwrap_or x 0) (removed-other c.used p q h) ∙ kept.charged q (sym (ap is_some (removed-other c.book p q h)) ∙ l)
-        ∙ sym (ap (λ S. cost S q) spaces ∙ cost-without_other v.spaces (is_of p) q (λ page. ne_eqb q p (differ-back p q h)))
-  ];
-  root = ap (λ (x : Option Member). 1 + unwrap_or (option_map (λ m. m.quota) x) 0) (removed-other c.book p 0 (apart-root p child)) ∙ kept.root ∙ sym long;
-}
-  where
-    gone : (q : ℕ) → p ≡ q → map.contains_key (after_close c p).book q ≡ true → ⊥
-    gone q e l = let a = sym (ap is_some (removed-itself c.book p)) ∙ ap (map.contains_key (after_close c p).book) e ∙ l in cc
+charged-exit v w c p kept child spaces long none others =
+    grind (arith, same_or_not, removed-itself, differ-back, removed-other, cost-without_other, ne_eqb, apart-root)
 
 -- ---- Readings of a cell
 
 -- a live process's container tells its cost
 pub used-container : (s : State) (p : ℕ) (c : Container) → container_of s p ≡ Some c → c.used ≡ cost s.spaces p
-used-container s p c is = by (map.get s.book p) is
-  where
-    by : (x : Option Member) → option_map (λ member. as_container s p member) x ≡ Some c → c.used ≡ cost s.spaces p
-    by None h = cc
-    by (Some m) h = sym (ap (λ o. (unwrap_or o c).used) h)
+used-container s p c is = grind arith

@@ -4,8 +4,9 @@ use Prelude.{◌≡◌, ◌≢◌, ℕ, ◌+◌, ◌≤◌, ◌==◌, Bool, true
 use Prelude.{None, unwrap_or, is_some, is_none, Ok, arith, if◌then◌else◌, nat_lt, option_map, cases_eq, same_Some}
 use Prelude.{nat_order, same_itself, get-insert, some_value, no_value, Slot, Cell, Spaces, cost, copy_of, copied}
 use Prelude.{at_page, copied-own, copied-other, cost-copied, cost-copied_other, Member, given, quota_of, next_number}
-use Prelude.{given-insert, given-none, child_no, State, is_live, room, child_of, spawn_refusal, fork_refusal}
-use Prelude.{after_spawn, after_fork, child_unless, for_copy, spawn_answer, fork_answer, IsCellAt, IsWellFormed, Cause}
+use Prelude.{child_no, State, is_live, room, child_of, spawn_refusal, fork_refusal, after_spawn, after_fork}
+use Prelude.{child_unless, for_copy, spawn_answer, fork_answer, IsCellAt, IsWellFormed, Cause}
+use Rattle.quota_tree.proofs.Sums.{given-insert, given-none}
 use Rattle.process_table.proofs.BookLaws.{next_free, well_formed-spawn, root-spawn}
 use Rattle.process_table.proofs.CellLaws.{AreCells, lone-cell}
 use Rattle.process_table.proofs.SpaceLaws.{not_less, with-spaces}
@@ -24,14 +25,7 @@ fork-by s p quota live =
     by : (none : Bool) (next : Option ℕ) (small over : Bool)
         → child_unless (if none then Some cause.BadQuota else if is_none next then Some cause.TableFull else if small then Some cause.TooSmall else if over then Some cause.Quota else None) (child_of s)
         ≡ for_copy small (child_unless (if none then Some cause.BadQuota else if is_none next then Some cause.TableFull else if over then Some cause.Quota else None) (child_of s))
-    by true next true over = refl
-    by true next false over = refl
-    by false None true over = refl
-    by false None false over = refl
-    by false (Some k) true true = refl
-    by false (Some k) true false = refl
-    by false (Some k) false true = refl
-    by false (Some k) false false = refl
+    by none next small over = grind arith
 
 -- a process may be copied: what it tells
 pub record MayFork (s : State) (p quota : ℕ) : Type 0 where
@@ -127,8 +121,7 @@ module _ (s : State) (p quota : ℕ) (w : IsWellFormed s) (live : is_live s p �
 
   rooms : (q : ℕ) → is_live spawned q ≡ true → cost T q + given spawned.book q ≤ quota_of spawned.book q
   rooms q h = elim (cases_eq q child) [
-    | inl same ↦ subst (λ n. cost T n + given spawned.book n ≤ quota_of spawned.book n) (sym same)
-        (let a = cost-copied s.spaces p child in let b = given_child in let c = quota_child in let d = may.large in omega (arith, a, b, c, d))
+    | inl same ↦ grind (arith, cost-copied, given_child, quota_child, may)
     | inr differ ↦ (let a = cost-copied_other s.spaces p child q differ in let b = spawned-well.rooms q h in omega (arith, a, b))
   ]
 

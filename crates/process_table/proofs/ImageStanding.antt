@@ -1,17 +1,13 @@
 -- What memory and the book together represent: the image of a view is sound, and represents one state.
 use Rattle.process_table.proofs.Prelude
 use Prelude.{◌≡◌, ℕ, ◌+◌, ◌<◌, ◌≤◌, ◌&&◌, Bool, true, false, cond, List, [], ◌∷◌, length, refl, sym, ap, subst, ◌∙◌}
-use Prelude.{Option, Some, None, is_some, sum_by, arith, unwrap_or, nat_lt, if◌then◌else◌, option_and_then, option_map}
-use Prelude.{range_with_len, nat_tests, sum_by-cons, slice_get_within, slot_number, index_number, Slot}
-use Prelude.{Cell, Spaces, pages_of, regions_of, cost, at_page, table_at, page_word, present_word}
-use Prelude.{word_of, directory_of, contains-pages_of, Member, is_child, given, quota_of, State, is_live, View, Account}
+use Prelude.{Option, Some, None, is_some, sum_by, arith, unwrap_or, ◌*◌, filter, nat_lt, if◌then◌else◌, option_and_then}
+use Prelude.{option_map, range_with_len, nat_tests, sum_by-cons, slice_get_within, slot_number, index_number, Slot}
+use Prelude.{Cell, Spaces, pages_of, regions_of, cost, at_page, table_at, page_word, present_word, word_of}
+use Prelude.{directory_of, contains-pages_of, Member, is_child, given, quota_of, State, is_live, View, Account}
 use Prelude.{as_account, account_of, memory_of, IsCharge, quota_from, IsSoundImage, StandsFor, is_some-map, some_value}
-use Rattle.std.proofs.Common.{◌*◌, filter}
+use Prelude.{same_map, Table, region_member, region_there, stands_for_one}
 use Rattle.process_table.specs.Image.{image_of, StandsForOne}
-use Rattle.page_words.proofs.MapLemmas.{same_map}
-use Rattle.alloc_table.specs.declared.Role.TheVariants.{Table}
-use Rattle.address_space.proofs.costs.CostSteps.{region_member, region_there}
-use Rattle.address_space.proofs.standing.Standing.{stands_for_one}
 use Rattle.process_table.proofs.Ranges.{found, sum-same, sum-range}
 use Rattle.page_words.specs.FiniteMap as map
 use Rattle.page_words.specs.FiniteSet as set
@@ -24,24 +20,17 @@ module _ (M : memory.Image) (S : Spaces) (stands : memory.StandsFor M S) (p : �
   page_at page = at_page p page
 
   both_or_none : (slot : Slot) (w : Option ℕ) (c : Option Cell) → memory.SlotStands M slot w c → is_some c ≡ is_some w
-  both_or_none slot None None h = refl
-  both_or_none slot None (Some c) h = absurd h
-  both_or_none slot (Some w) None h = absurd h
-  both_or_none slot (Some w) (Some c) h = refl
+  both_or_none slot w c h = grind arith
 
   page_is : (page : ℕ) → set.contains (pages_of S p) page ≡ is_some (page_word M (page_at page))
   page_is page = contains-pages_of S p page ∙ both_or_none (page_at page) (page_word M (page_at page)) (map.get S (page_at page)) (stands.cells (page_at page))
 
   through : (x : Option ℕ) (f : ℕ → Option ℕ) → is_some (option_and_then f x) ≡ true → is_some x ≡ true
-  through None f h = cc
-  through (Some t) f h = refl
+  through x f h = grind arith
 
   -- the table of a mapped page is named
   named-region : (s : ℕ) → set.contains (regions_of (pages_of S p)) s ≡ true → is_some (table_at M p s) ≡ true
-  named-region s h =
-      let r = region_member (pages_of S p) s h in
-      subst (λ n. is_some (table_at M p n) ≡ true) r.1
-      (through (table_at M p (slot_number r.0)) (λ t. present_word M t (word_of M t (index_number r.0))) (sym (page_is r.0) ∙ r.2))
+  named-region s h = grind (arith, region_member, through, page_is)
 
   -- a table that is named has a present word, which is a mapped page of its region
   region-named : (s t : ℕ) → table_at M p s ≡ Some t → set.contains (regions_of (pages_of S p)) s ≡ true
@@ -59,8 +48,7 @@ module _ (M : memory.Image) (S : Spaces) (stands : memory.StandsFor M S) (p : �
       subst (λ n. set.contains (regions_of (pages_of S p)) n ≡ true) region (region_there (pages_of S p) page (page_is page ∙ word))
 
   region-some : (s : ℕ) (x : Option ℕ) → table_at M p s ≡ x → is_some x ≡ true → set.contains (regions_of (pages_of S p)) s ≡ true
-  region-some s None is h = cc
-  region-some s (Some t) is h = region-named s t is
+  region-some s x is h = grind (arith, region-named)
 
   -- a process's cost counts its directory, tables and pages
   pub charge-stands : IsCharge M p (cost S p)
@@ -93,14 +81,12 @@ given-range s p small =
     ∙ sum-same (λ k. found (λ m. cond (is_child p (k, m)) m.quota 0) (map.get s.book k)) (λ q. quota_from p q (account_of s q)) (range_with_len 0 64) (λ q. each q (map.get s.book q))
   where
     each : (q : ℕ) (x : Option Member) → found (λ m. cond (is_child p (q, m)) m.quota 0) x ≡ quota_from p q (option_map (λ m. as_account s q m) x)
-    each q None = refl
-    each q (Some m) = refl
+    each q x = grind arith
 
 -- ---- The image of a view
 
 from_some : {A B : Type 0} (f : A → B) (x : Option A) (c : B) → option_map f x ≡ Some c → (a : A) × (x ≡ Some a) × (f a ≡ c)
-from_some f None c h = cc
-from_some f (Some a) c h = (a, refl, ap (λ o. unwrap_or o (f a)) h)
+from_some f x c h = grind arith
 
 module _ (v : View) (stands : memory.StandsFor (memory_of v) v.state.spaces) (live : (p : ℕ) → is_some (directory_of v.directories p) ≡ is_live v.state p)
     (root_quota : 1 + quota_of v.state.book 0 ≡ length v.roles) (root : is_live v.state 0 ≡ true)
@@ -116,16 +102,10 @@ module _ (v : View) (stands : memory.StandsFor (memory_of v) v.state.spaces) (li
   member_of p c h = from_some (λ m. as_account v.state p m) (map.get v.state.book p) c h
 
   parent_there : (p : ℕ) (c : Account) → account_of v.state p ≡ Some c → is_some (account_of v.state c.parent) ≡ true
-  parent_there p c h =
-      let m = member_of p c h in
-      is_some-map (λ m. as_account v.state c.parent m) (map.get v.state.book c.parent) ∙ ap (λ (c : Account). is_live v.state c.parent) (sym m.2) ∙ (members p m.0 m.1).1
+  parent_there p c h = grind (arith, member_of, is_some-map)
 
   within_quota : (p : ℕ) (c : Account) → account_of v.state p ≡ Some c → c.used + c.given ≤ c.quota
-  within_quota p c h =
-      let m = member_of p c h in
-      let a = rooms p (ap is_some m.1) in
-      let b = quota_is p m.0 m.1 in
-      subst (λ (c : Account). c.used + c.given ≤ c.quota) m.2 (omega (arith, a, b))
+  within_quota p c h = grind (arith, member_of, quota_is)
 
   sound_image : IsSoundImage (image_of v)
   sound_image = record {
@@ -148,12 +128,7 @@ module _ (v : View) (stands : memory.StandsFor (memory_of v) v.state.spaces) (li
 -- ---- One state at most
 
 same_member : (s t : State) (p : ℕ) (x y : Option Member) → option_map (λ m. as_account s p m) x ≡ option_map (λ m. as_account t p m) y → x ≡ y
-same_member s t p None None h = refl
-same_member s t p None (Some n) h = cc
-same_member s t p (Some m) None h = cc
-same_member s t p (Some m) (Some n) h =
-    let c = ap (λ o. unwrap_or o (as_account s p m)) h in
-    λ i. Some (record { parent = (c i).parent; quota = (c i).quota })
+same_member s t p x y h = grind arith
 
 -- an image stands for at most one pair of spaces and book
 pub stands_for_one_state : StandsForOne

@@ -1,15 +1,13 @@
 -- Each call whose test passes keeps states well formed.
 use Rattle.process_table.proofs.Prelude
-use Prelude.{◌≡◌, ℕ, Bool, true, false, refl, sym, ap, subst, ◌∙◌, length, Option, Some, None, if◌then◌else◌, IsOk}
-use Prelude.{IfSome, option_map, byte_count, page_number, offset_number, second_page, touched, EachTouched, Size}
-use Prelude.{Spaces, cost, slot_at, stored, with_pages, all_accessed, all_stored, bytes_of, IsThere, bytes_there}
-use Prelude.{key-all_accessed, key-all_stored, cost-same, Containers, Offers, Read, Write, State, is_live, child_of}
-use Prelude.{as_container, container_of, map_refusal, protect_refusal, offer_refusal, accept_refusal, spawn_refusal}
-use Prelude.{exit_refusal, after_map, after_protect, after_offer, after_accept, after_spawn, after_exit, child_unless}
-use Prelude.{map_answer, protect_answer, offer_answer, accept_answer, spawn_answer, exit_answer, IsProcesses, IsWhole}
-use Prelude.{state_of, IsWellFormed, Cause, NoProcess}
-use Rattle.address_space.proofs.costs.MapFirst.{with_touched-same}
-use Rattle.process_table.specs.Calls.{after_access}
+use Prelude.{◌≡◌, ℕ, Bool, true, false, refl, sym, ap, subst, ◌∙◌, length, Option, Some, None, arith, if◌then◌else◌}
+use Prelude.{IsOk, IfSome, byte_count, page_number, offset_number, second_page, touched, EachTouched, Size, Spaces}
+use Prelude.{cost, slot_at, stored, with_pages, all_accessed, all_stored, bytes_of, IsThere, bytes_there}
+use Prelude.{key-all_accessed, key-all_stored, with_touched-same, cost-same, Containers, Offers, Read, Write, State}
+use Prelude.{is_live, child_of, container_of, map_refusal, protect_refusal, offer_refusal, accept_refusal}
+use Prelude.{spawn_refusal, exit_refusal, after_map, after_protect, after_offer, after_accept, after_spawn, after_exit}
+use Prelude.{after_access, child_unless, map_answer, protect_answer, offer_answer, accept_answer, spawn_answer}
+use Prelude.{exit_answer, IsProcesses, IsWhole, state_of, IsWellFormed, Cause, NoProcess}
 use Rattle.address_space.proofs.steps.Bytes.{stored_in_page}
 use Rattle.table_walk.specs.declared.Access.{Access}
 use Rattle.process_table.proofs.BookLaws.{well_formed-spawn, well_formed-exit}
@@ -17,7 +15,6 @@ use Rattle.process_table.proofs.Charged.{charged-same}
 use Rattle.process_table.proofs.Refusals.{no_cause}
 use Rattle.process_table.proofs.SharingLaws.{well_formed-protect, well_formed-offer, well_formed-accept}
 use Rattle.process_table.proofs.SpaceLaws.{well_formed-map, well_formed-loaded, well_formed-bytes}
-use Rattle.page_words.specs.FiniteMap as map
 use Rattle.address_space.specs.View as frames
 
 -- parts that agree are whole where the state that they make is well formed
@@ -62,20 +59,12 @@ keeps-access s p address size access value w there = by access
 
 -- nobody's cost changes by it
 pub cost-access : (s : State) (p address : ℕ) (size : Size) (access : Access) (value : ℕ) → EachTouched address size (IsThere s.spaces p) → (q : ℕ) → cost (after_access s p address size access value).spaces q ≡ cost s.spaces q
-cost-access s p address size Read value there q =
-    ap (λ T. cost (all_accessed T p (touched address size)) q) (with_touched-same s.spaces p address size there)
-    ∙ cost-same (all_accessed s.spaces p (touched address size)) s.spaces q (key-all_accessed s.spaces p address size there)
-cost-access s p address size Write value there q =
-    ap (λ T. cost (all_stored T p address (bytes_of (byte_count size) value)) q) (with_touched-same s.spaces p address size there)
-    ∙ cost-same (all_stored s.spaces p address (bytes_of (byte_count size) value)) s.spaces q (key-all_stored s.spaces p address (byte_count size) value (bytes_there s.spaces p address size there))
+cost-access s p address size access value there q =
+    grind (arith, with_touched-same, cost-same, key-all_accessed, key-all_stored, bytes_there)
 
 -- nor what else is told of anybody
 pub container-access : (s t : State) (p address : ℕ) (size : Size) (access : Access) (value : ℕ) → EachTouched address size (IsThere s.spaces p) → t ≡ after_access s p address size access value → (q : ℕ) → container_of t q ≡ container_of s q
-container-access s t p address size access value there is q = ap (λ (t : State). container_of t q) is ∙ by access (cost-access s p address size access value there q)
-  where
-    by : (access : Access) → cost (after_access s p address size access value).spaces q ≡ cost s.spaces q → container_of (after_access s p address size access value) q ≡ container_of s q
-    by Read same = ap (λ used. option_map (λ m. record (as_container s q m) { used = used }) (map.get s.book q)) same
-    by Write same = ap (λ used. option_map (λ m. record (as_container s q m) { used = used }) (map.get s.book q)) same
+container-access s t p address size access value there is q = grind (arith, cost-access)
 
 -- and the parts stay whole
 pub whole-access : (v w : frames.View) (c : Containers) (o : Offers) (p address : ℕ) (size : Size) (access : Access) (value : ℕ) → IsWhole v c o → EachTouched address size (IsThere v.spaces p)

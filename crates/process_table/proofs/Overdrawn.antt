@@ -1,7 +1,9 @@
 -- What pages cost a process more, by what it needs for them.
-use Rattle.process_table.proofs.Prelude.{◌≡◌, ℕ, ◌+◌, ◌-◌, ◌∙◌, false, List, [], ◌∷◌, ap, arith, if◌then◌else◌, touched}
-use Rattle.process_table.proofs.Prelude.{Size, cost, need, page_need, access_need, with_pages, at_page, cost-with_page}
-use Rattle.process_table.proofs.Prelude.{cost-with_touched, State, is_mapped, extra_cost}
+use Rattle.process_table.proofs.Prelude
+use Prelude.{◌≡◌, ℕ, ◌+◌, ◌-◌, ◌∙◌, false, List, [], ◌∷◌, ap, arith, if◌then◌else◌, touched, Size, cost, need}
+use Prelude.{page_need, access_need, with_pages, at_page, State, is_mapped}
+use Rattle.address_space.proofs.costs.AccessNeeds.{cost-with_page, cost-with_touched}
+use Rattle.process_table.specs.State.{extra_cost}
 
 rest_of : (a b n : ℕ) → a ≡ b + n → a - b ≡ n
 rest_of a b n is = omega (arith, is)
@@ -22,5 +24,4 @@ extra_new s p page none = extra_page s p page ∙ ap (λ b. if b then 0 else nee
 -- the pages that an access touches
 pub extra_touched : (s : State) (p address : ℕ) (size : Size)
     → extra_cost s p (touched address size) ≡ access_need s.spaces p address size
-extra_touched s p address size =
-    extra_is s p (touched address size) (access_need s.spaces p address size) (cost-with_touched s.spaces p address size)
+extra_touched s p address size = grind (arith, extra_is, cost-with_touched)

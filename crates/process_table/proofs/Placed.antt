@@ -1,14 +1,13 @@
 -- What the place of a page says, if there is one.
-use Rattle.process_table.proofs.Prelude.{◌≡◌, ℕ, Bool, true, false, not, refl, ap, ◌&&◌, ◌≤◌, Option, Some, None}
-use Rattle.process_table.proofs.Prelude.{unwrap_or, arith, is_some, and_parts, not-true, nat_tests, if◌then◌else◌}
-use Rattle.process_table.proofs.Prelude.{nat_le, IfSome, option_map, option_and_then, IsUserPage, is_user_page}
-use Rattle.process_table.proofs.Prelude.{entry_found, Image, is_lazy_at, takes_stores, Spaces, Slot, Cell, at_page}
-use Rattle.process_table.proofs.Prelude.{cell_or_fresh, fresh, State, is_live, is_mapped, View, IsWellFormed}
+use Rattle.process_table.proofs.Prelude
+use Prelude.{◌≡◌, ℕ, true, false, not, ap, ◌&&◌, ◌≤◌, Option, Some, None, arith, is_some, and_parts, not-true}
+use Prelude.{if◌then◌else◌, IfSome, option_map, option_and_then, IsUserPage, is_user_page, Image, is_lazy_at}
+use Prelude.{takes_stores, Spaces, Slot, at_page, cell_or_fresh, State, is_live, is_mapped, View, IsWellFormed}
+use Prelude.{place_in, need_of, place_at}
+use Rattle.address_space.specs.Finds.{entry_found}
 use Rattle.address_space.specs.declared.place.Place.{Place}
 use Rattle.address_space.specs.declared.place.Found.{Found}
-use Rattle.address_space.specs.declared.place.Place.TheVariants.{Bare, Open, Mapped}
-use Rattle.address_space.specs.Places.{Flags, place_in, need_of, entry_flags, cell_flags}
-use Rattle.process_table.specs.Places.{place_at}
+use Rattle.address_space.specs.Places.{entry_flags, cell_flags}
 use Rattle.process_table.proofs.SpaceLaws.{user_page}
 use Rattle.page_words.specs.FiniteMap as map
 
@@ -18,63 +17,40 @@ placed v p page user = ap (λ b. if b then Some (place_in v.directories v.bytes 
 
 -- one of the user range, as a test
 pub page_is_user : (page : ℕ) → IsUserPage page → is_user_page page ≡ true
-page_is_user page h =
-    let low = h.0 in
-    let high = h.1 in
-    let a : nat_le 0x40000 page ≡ true = grind (arith, nat_tests) in
-    let b : nat_le page 0xeffff ≡ true = grind (arith, nat_tests) in
-    (λ i. a i && b i)
+page_is_user page h = grind arith
 
 pub has_place : (v : View) (p page : ℕ) → IsUserPage page → is_some (place_at v p page) ≡ true
 has_place v p page user = ap is_some (placed v p page (page_is_user page user))
 
 -- and no other
 pub place_known : (v : View) (p page : ℕ) (place : Place) → place_at v p page ≡ Some place → IsUserPage page × (place ≡ place_in v.directories v.bytes p page)
-place_known v p page place = by (is_user_page page) refl
-  where
-    by : (b : Bool) → is_user_page page ≡ b → (if b then Some (place_in v.directories v.bytes p page) else None) ≡ Some place → IsUserPage page × (place ≡ place_in v.directories v.bytes p page)
-    by true is h = (user_page page is, cc)
-    by false is h = cc
+place_known v p page place = grind (arith, user_page)
 
 -- of a second page of the user range, where there is one
 pub placed_second : (v : View) (p : ℕ) (x : Option ℕ) → IfSome x IsUserPage → option_and_then (place_at v p) x ≡ option_map (place_in v.directories v.bytes p) x
-placed_second v p None user = refl
-placed_second v p (Some page) user = placed v p page (page_is_user page user)
+placed_second v p x user = grind (arith, placed, page_is_user)
 
 -- ---- What the flags of a place are
 
 -- a place needs one frame or two more
 pub few_needed : (place : Place) → need_of place ≤ 2
-few_needed Bare = omega arith
-few_needed (Open t) = omega arith
-few_needed (Mapped f) = omega arith
+few_needed place = grind arith
 
 pub told_flags : (S : Spaces) (p page : ℕ) (found : Option Found) → option_map entry_flags (entry_found found) ≡ option_map cell_flags (map.get S (at_page p page))
     → IfSome found (λ f. entry_flags f.entry ≡ cell_flags (cell_or_fresh S (at_page p page)))
-told_flags S p page None h = tt
-told_flags S p page (Some f) h = by (map.get S (at_page p page)) h
-  where
-    by : (x : Option Cell) → Some (entry_flags f.entry) ≡ option_map cell_flags x → entry_flags f.entry ≡ cell_flags (unwrap_or x (fresh (at_page p page) true))
-    by None h = cc
-    by (Some c) h = cc
+told_flags S p page found h = grind arith
 
 pub told_write : (S : Spaces) (p page : ℕ) (found : Option Found) → option_map entry_flags (entry_found found) ≡ option_map cell_flags (map.get S (at_page p page))
     → IfSome found (λ f. f.entry.write ≡ (cell_or_fresh S (at_page p page)).write)
-told_write S p page None h = tt
-told_write S p page (Some f) h = ap (λ (x : Flags). x.write) (told_flags S p page (Some f) h)
+told_write S p page found h = grind (arith, told_flags)
 
 pub told_may : (S : Spaces) (p page : ℕ) (found : Option Found) → option_map entry_flags (entry_found found) ≡ option_map cell_flags (map.get S (at_page p page))
     → IfSome found (λ f. f.entry.may ≡ (cell_or_fresh S (at_page p page)).may)
-told_may S p page None h = tt
-told_may S p page (Some f) h = ap (λ (x : Flags). x.may) (told_flags S p page (Some f) h)
+told_may S p page found h = grind (arith, told_flags)
 
 -- a page that is mapped is one of a live process
 pub mapped_live : (s : State) (slot : Slot) → IsWellFormed s → is_mapped s slot ≡ true → is_live s slot.pid ≡ true
-mapped_live s slot w mapped = by (map.get s.spaces slot) refl mapped
-  where
-    by : (x : Option Cell) → map.get s.spaces slot ≡ x → is_some x ≡ true → is_live s slot.pid ≡ true
-    by None is h = cc
-    by (Some g) is h = w.owners slot g is
+mapped_live s slot w mapped = grind arith
 
 -- ---- What takes a store
 

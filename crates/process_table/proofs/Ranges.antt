@@ -1,12 +1,10 @@
 -- Sums over a map's entries as sums over the numbers below a bound.
-use Rattle.process_table.proofs.Prelude.{◌≡◌, ◌≢◌, ℕ, ◌+◌, ◌<◌, ◌&&◌, ◌==◌, Bool, true, false, cond, List, [], ◌∷◌}
-use Rattle.process_table.proofs.Prelude.{refl, sym, ap, subst, ◌∙◌, Option, Some, None, is_some, sum_by, arith, inl}
-use Rattle.process_table.proofs.Prelude.{inr, nat_cmp, range_with_len, cases_eq, sum_by-cons, Map, nat_order, cost}
-use Rattle.process_table.proofs.Prelude.{directory_of, live_cost, total_cost, sum_one, Member, State, is_live, total}
-use Rattle.process_table.proofs.Prelude.{eqb-true, eq-eqb}
-use Rattle.std.proofs.Common.{T}
-use Rattle.std.specs.Cmp.{unsigned_tied}
-use Rattle.std.specs.FinMap.Entries.{find, below_all, is_sorted}
+use Rattle.process_table.proofs.Prelude
+use Prelude.{◌≡◌, ◌≢◌, ℕ, ◌+◌, ◌<◌, ◌&&◌, ◌==◌, Bool, true, false, cond, List, [], ◌∷◌, refl, sym, ap, subst, ◌∙◌}
+use Prelude.{Option, Some, None, is_some, sum_by, arith, inl, inr, T, nat_cmp, range_with_len, cases_eq, sum_by-cons}
+use Prelude.{Map, nat_order, cost, directory_of, live_cost, total_cost, sum_one, Member, State, is_live, total}
+use Prelude.{eqb-true, eq-eqb, unsigned_tied, below_all, is_sorted}
+use Rattle.std.specs.FinMap.Entries.{find}
 use Rattle.quota_tree.proofs.Sums.{lt_not_eq}
 use Rattle.page_words.specs.FiniteMap as map
 
@@ -26,8 +24,7 @@ sum-zero [] = refl
 sum-zero {A} (x ∷ xs) = let a = sum_by-cons (λ (_ : A). 0) x xs in let d = sum-zero xs in omega (arith, a, d)
 
 both : (a b : Bool) → T (a && b) → T a × T b
-both true b h = (tt, h)
-both false b h = absurd h
+both a b h = grind arith
 
 module _ {X : Type 0} where
   -- a key below all entries is none of them
@@ -42,8 +39,7 @@ module _ {X : Type 0} where
   find-other k e es n = ap (λ b. cond b (Some e.1) (find nat_cmp k es)) (unsigned_tied k e.0 ∙ by (k == e.0) refl)
     where
       by : (b : Bool) → (k == e.0) ≡ b → b ≡ false
-      by true is = absurd (n (eqb-true k e.0 is))
-      by false is = refl
+      by b is = grind (arith, eqb-true)
 
   sum-entries : (f : ℕ → X → ℕ) (n : ℕ) (es : List (ℕ × X)) → T (is_sorted nat_cmp es) → ((k : ℕ) (x : X) → find nat_cmp k es ≡ Some x → k < n)
       → sum_by (λ e. f e.0 e.1) es ≡ sum_by (λ k. found (f k) (find nat_cmp k es)) (range_with_len 0 n)
@@ -66,10 +62,7 @@ module _ {X : Type 0} where
       ]
 
       own : found (f e.0) (find nat_cmp e.0 (e ∷ es)) ≡ found (f e.0) (find nat_cmp e.0 es) + f e.0 e.1
-      own =
-          let a = ap (found (f e.0)) (find-head e es) in
-          let b = ap (found (f e.0)) (find-below e.0 es (both _ _ h).0) in
-          omega (arith, a, b)
+      own = grind (arith, find-head, find-below, both)
 
   -- a sum over a map's entries is one over the numbers below n, where all its keys are
   pub sum-range : (m : Map nat_order X) (f : ℕ → X → ℕ) (n : ℕ) → ((k : ℕ) (x : X) → map.get m k ≡ Some x → k < n)
@@ -77,10 +70,7 @@ module _ {X : Type 0} where
   sum-range m f n keys = sum-entries f n m.entries m.sorted keys
 
 one-cost : (n : ℕ) (d : Option ℕ) (m : Option Member) → is_some d ≡ is_some m → cond (is_some d) n 0 ≡ found (λ _. n) m
-one-cost n None None h = refl
-one-cost n None (Some m) h = cc
-one-cost n (Some d) None h = cc
-one-cost n (Some d) (Some m) h = refl
+one-cost n d m h = grind arith
 
 -- costs summed over directories are those summed over the book
 pub total-book : (directories : List (Option ℕ)) (s : State) → ((p : ℕ) → is_some (directory_of directories p) ≡ is_live s p) → ((p : ℕ) → is_live s p ≡ true → p < 64) → total_cost directories s.spaces ≡ total s

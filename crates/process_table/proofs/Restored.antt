@@ -5,18 +5,15 @@ use Prelude.{is_some, unwrap_or, arith, option_map, option_and_then, range_with_
 use Prelude.{index_number, IsUserPage, Order, nat_order, same_set, is_some-map, some_value, Slot, Cell, Spaces, cost}
 use Prelude.{SlotStands, directory_at, table_at, present_word, page_word, word_of, Book, Member, given, quota_of}
 use Prelude.{Containers, IsLive, used_of, Offers, Account, as_account, account_of, IsCharge, quota_from, IsSoundImage}
-use Prelude.{StandsFor, State, IsWhole, IsCellAt, IsWellFormed}
+use Prelude.{StandsFor, State, IsWhole, IsCellAt, IsWellFormed, ◌↔◌, IsTrue, MatchBool, slice_index, Page, directory_of}
+use Prelude.{spaces_in, one_group, word_names}
 use Rattle.address_space.specs.Image.{IsCount, CellStands, IsOneGroup, image_from, named_by, page_frame}
 use Rattle.process_table.specs.Image.{Image}
-use Rattle.std.specs.Prelude.{◌↔◌, IsTrue, MatchBool, slice_index}
 use Rattle.page_words.specs.Words.{frame_number, is_lazy, NamesPage}
 use Rattle.alloc_table.specs.declared.Role.{Role}
-use Rattle.alloc_table.specs.declared.Role.TheVariants.{Page}
 use Rattle.address_space.specs.ImageWords.{own_frame}
 use Rattle.address_space.specs.Restored.{HasRoom, view_from}
-use Rattle.address_space.specs.View.{directory_of, spaces_in, total_cost}
 use Rattle.address_space.proofs.standing.Restored.{from_map, from_then, user_named}
-use Rattle.address_space.proofs.standing.Standing.{one_group, word_names}
 use Rattle.address_space.proofs.standing.TablesStand.{owned, own_is}
 use Rattle.address_space.proofs.steps.Steps.{live_small}
 use Rattle.quota_tree.specs.Accounts.{account_at, member_in, book_in, containers_in, Agree}
@@ -103,14 +100,10 @@ module _ (directories : List (Option ℕ)) (accounts : List (Option quota_tree.A
       ∙ sym (given-range state p (λ k member is. process-small k (ap is_some is)))
     where
       same : (q : ℕ) (x : Option quota_tree.Account) → quota_from p q (option_map account_told x) ≡ quota_from p q (option_map (as_account state q) (option_map member_in x))
-      same q None = refl
-      same q (Some a) = refl
+      same q x = grind arith
 
   root-account : (a : quota_tree.Account) × (account_at accounts 0 ≡ Some a) × (1 + a.quota ≡ length roles)
-  root-account =
-      let r = I.root in
-      let a = from_map account_told (account_at accounts 0) r.0 r.1 in
-      (a.0, a.1, ap (λ (c : Account). 1 + c.quota) a.2 ∙ r.2)
+  root-account = grind (arith, from_map)
 
   quota-is : (p : ℕ) (a : quota_tree.Account) → account_at accounts p ≡ Some a → quota_of book p ≡ a.quota
   quota-is p a is = ap (λ o. unwrap_or (option_map (λ (m : Member). m.quota) o) 0) (book-is p a is)
@@ -124,12 +117,7 @@ module _ (directories : List (Option ℕ)) (accounts : List (Option quota_tree.A
       quota = root-account.0.quota;
       is = book-is 0 root-account.0 root-account.1 ∙ ap (λ q. Some (record { parent = q; quota = root-account.0.quota })) (root_parent root-account.0 root-account.1);
     };
-    each = λ p a is. record {
-      parent = parent-live p a is;
-      given = given-is p a is;
-      used = (let u = used-is p a is in omega (arith, u));
-      within = I.within p (account_told a) (account-is p a is);
-    };
+    each = grind (arith, parent-live, given-is, used-is, account-is);
   }
 
   -- ---- The cells
@@ -138,8 +126,7 @@ module _ (directories : List (Option ℕ)) (accounts : List (Option quota_tree.A
   word-of-cell slot cell found = by (page_word M slot) refl (subst (SlotStands M slot (page_word M slot)) found (stands.cells slot))
     where
       by : (x : Option ℕ) → page_word M slot ≡ x → SlotStands M slot x (Some cell) → (word : ℕ) × (page_word M slot ≡ Some word) × CellStands M slot word cell
-      by None is h = absurd h
-      by (Some word) is h = (word, is, h)
+      by x is h = grind arith
 
   cell-of-word : (slot : Slot) (word : ℕ) → page_word M slot ≡ Some word → (cell : Cell) × (map.get spaces slot ≡ Some cell) × CellStands M slot word cell
   cell-of-word slot word at = by (map.get spaces slot) refl (subst (λ x. SlotStands M slot x (map.get spaces slot)) at (stands.cells slot))
@@ -172,17 +159,11 @@ module _ (directories : List (Option ℕ)) (accounts : List (Option quota_tree.A
   -- the group of a slot with a frame of its own
   group-real : (slot : Slot) (word : ℕ) (cell : Cell) → CellStands M slot word cell → is_lazy word ≡ false → (f : ℕ) → frame_number word ≡ f
       → (q : Slot) → IsTrue (set.contains cell.holders q) ↔ (page_frame M q ≡ Some f)
-  group-real slot word cell c real f same q =
-      subst (λ n. IsTrue (set.contains cell.holders q) ↔ (page_frame M q ≡ Some n)) same
-      (subst (λ b. IsTrue (set.contains cell.holders q) ↔ MatchBool b (q ≡ slot) (page_frame M q ≡ Some (frame_number word))) real (c.group q))
+  group-real slot word cell c real f same q = grind arith
 
   -- a slot is in its own group
   own-group : (slot : Slot) (word : ℕ) → page_word M slot ≡ Some word → IsOneGroup M slot word slot
-  own-group slot word at = by (is_lazy word) refl
-    where
-      by : (b : Bool) → is_lazy word ≡ b → MatchBool b (slot ≡ slot) (page_frame M slot ≡ Some (frame_number word))
-      by true is = refl
-      by false is = ap (option_and_then (own_frame 2)) at ∙ own_is word is
+  own-group slot word at = grind (arith, own_is)
 
   -- the slots of a group have the same bytes and the same group
   alike-in : (slot : Slot) (cell : Cell) (word : ℕ) → map.get spaces slot ≡ Some cell → CellStands M slot word cell → (other : Slot) → IsOneGroup M slot word other
@@ -254,26 +235,15 @@ module _ (directories : List (Option ℕ)) (accounts : List (Option quota_tree.A
       omega (arith, t, e, q)
 
   charged : (p : ℕ) → IsLive (containers_in accounts) p → used_of (containers_in accounts) p ≡ cost spaces p
-  charged p live =
-      let m = some_value (map.get book p) live in
-      let b = in-book p m.0 m.1 in
-      ap (λ o. unwrap_or o 0) (get-collected (λ (a : quota_tree.Account). a.used) accounts p ∙ ap (option_map (λ (a : quota_tree.Account). a.used)) b.1) ∙ used-is p b.0 b.1
+  charged p live = grind (arith, some_value, in-book, get-collected, used-is)
 
   -- the parts that are made of the image agree
   pub parts_whole : (v : frames.View) (c : Containers) (o : Offers) → v ≡ view_from directories bytes roles → c ≡ containers_in accounts → o ≡ no_offers → IsWhole v c o
-  parts_whole v c o is_v is_c is_o =
-      subst (λ (v : frames.View). IsWhole v c o) (sym is_v)
-      (subst (λ (c : Containers). IsWhole (view_from directories bytes roles) c o) (sym is_c)
-      (subst (IsWhole (view_from directories bytes roles) (containers_in accounts)) (sym is_o)
-      (record { kept = record { live = live-directory; charged = charged; root = root-quota }; well_formed = well_formed })))
+  parts_whole v c o is_v is_c is_o = grind (arith, live-directory, charged, root-quota, well_formed)
 
   -- and the image stands for their state
   pub state_stands : StandsFor image state
   state_stands = record { sound = I; memory = stands; accounts = λ p. by p (account_at accounts p) refl }
     where
       by : (p : ℕ) (x : Option quota_tree.Account) → account_at accounts p ≡ x → option_map account_told (account_at accounts p) ≡ option_map (as_account state p) (map.get book p)
-      by p None is = ap (option_map account_told) is ∙ sym (ap (option_map (as_account state p)) (get-book p ∙ ap (option_map member_in) is))
-      by p (Some a) is =
-          ap (option_map account_told) is
-          ∙ (λ i. Some (record { parent = a.parent; quota = a.quota; used = used-is p a is i; given = given-is p a is i }))
-          ∙ sym (ap (option_map (as_account state p)) (get-book p ∙ ap (option_map member_in) is))
+      by p x is = grind (arith, get-book, used-is, given-is)

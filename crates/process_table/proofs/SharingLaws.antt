@@ -1,16 +1,14 @@
 -- States stay well formed by a change of a right, and by an offer, its withdrawal and its acceptance.
 use Rattle.process_table.proofs.Prelude
 use Prelude.{◌≡◌, ◌≢◌, ℕ, ◌+◌, ◌<◌, ◌≤◌, ◌||◌, ◌==◌, not, Bool, true, false, cond, refl, sym, ap, subst, ◌∙◌, Option}
-use Prelude.{Some, None, is_some, unwrap_or, arith, inl, inr, if◌then◌else◌, nat_lt, IfSome, option_map, cases_eq}
-use Prelude.{IsUserPage, EachTouched, page_number, second_page, Size, IsThere, same, Set, same_itself, same-true}
-use Prelude.{get-insert, get-map_values, contains-insert, retain-insert, same_cases, Slot, slot_order, Cell, Spaces}
-use Prelude.{cost, need, fresh, cell_or_fresh, with_holders, set_holders, joined, at_page, cost-joined}
-use Prelude.{cost-joined_other, given, quota_of, OfferKey, Offers, offer_order, offer_key, pending, State, is_live}
-use Prelude.{room, protect_refusal, offer_refusal, accept_refusal, offered, after_protect, after_offer, after_withdraw}
-use Prelude.{after_accept, IsCellAt, IsOfferIn, IsWellFormed, eqb-true, same_Some, some_value}
-use Rattle.std.proofs.Common.{◌⊎◌}
-use Rattle.page_words.proofs.MapLemmas.{len-insert, retain-insert_other}
-use Rattle.address_space.specs.Spaces.{join_in}
+use Prelude.{Some, None, is_some, unwrap_or, arith, inl, inr, if◌then◌else◌, nat_lt, option_map, cases_eq, or_cases}
+use Prelude.{or_right, IsUserPage, EachTouched, Size, IsThere, same, Set, same_itself, same-true, get-insert}
+use Prelude.{get-map_values, contains-insert, retain-insert, len-insert, retain-insert_other, same_cases, Slot}
+use Prelude.{slot_order, Cell, Spaces, cost, need, fresh, cell_or_fresh, with_holders, set_holders, joined, at_page}
+use Prelude.{join_in, cost-joined, cost-joined_other, given, quota_of, OfferKey, Offers, offer_order, offer_key}
+use Prelude.{pending, State, is_live, room, protect_refusal, offer_refusal, accept_refusal, offered, after_protect}
+use Prelude.{after_offer, after_withdraw, after_accept, IsCellAt, IsOfferIn, IsWellFormed, eqb-true, same_Some}
+use Prelude.{some_value}
 use Rattle.process_table.proofs.Overdrawn.{extra_new}
 use Rattle.process_table.proofs.CellLaws.{AreCells, get-inserted, get-inserted_other}
 use Rattle.process_table.proofs.BookLaws.{retained}
@@ -45,8 +43,7 @@ few-more : (offers : Offers) (key : OfferKey) (write : Bool) → map.contains_ke
 few-more offers key write new few most p = by (key.offerer == p) refl
   where
     one : (b : Bool) (n : ℕ) → n < 32 → cond b n (n + 1) ≤ 32
-    one true n h = omega (arith, h)
-    one false n h = omega (arith, h)
+    one b n h = grind arith
 
     by : (b : Bool) → (key.offerer == p) ≡ b → map.len (pending (map.insert offers key write) p) ≤ 32
     by true is =
@@ -81,9 +78,7 @@ module _ (s : State) (p page target : ℕ) (write : Bool) (w : IsWellFormed s) (
 
   offers-more : (key : OfferKey) (right : Bool) → map.get more_offers key ≡ Some right → IsOfferIn (record s { offers = more_offers }) key right
   offers-more key right h = elim (same_cases offer_order key new_key) [
-    | inl is ↦ (
-        let same_right : write ≡ right = same_Some write right (sym (get-insert s.offers new_key write key ∙ ap (λ b. cond b (Some write) (map.get s.offers key)) is.1) ∙ h) in
-        subst (λ k. IsOfferIn (record s { offers = more_offers }) k right) (sym is.0) (subst (IsOfferIn (record s { offers = more_offers }) new_key) same_right new-offer))
+    | inl is ↦ grind (arith, same_Some, get-insert, new-offer)
     | inr other ↦ offer-same s more_offers key right (w.offers key right (sym (get-insert s.offers new_key write key ∙ ap (λ b. cond b (Some write) (map.get s.offers key)) other.1) ∙ h))
   ]
 
@@ -153,23 +148,15 @@ module _ (S : Spaces) (giver slot : Slot) (g : Cell) (right : Bool) (at : map.ge
   get-outside : (q : Slot) (d : Cell) → map.get S q ≡ Some d → set.contains group q ≡ false → map.get joined_spaces q ≡ Some d
   get-outside q d h outside = get-other q (apart q d h) ∙ ap (option_map (widened q)) h ∙ ap (λ b. Some (if b then with_holders d wider else d)) outside
 
-  either : (a b : Bool) → (a || b) ≡ true → (a ≡ true) ⊎ (b ≡ true)
-  either true b h = inl refl
-  either false b h = inr h
-
-  or_true : (a b : Bool) → b ≡ true → (a || b) ≡ true
-  or_true true b h = refl
-  or_true false b h = h
-
   wider-slot : set.contains wider slot ≡ true
   wider-slot = contains-insert group slot slot ∙ ap (λ b. b || set.contains group slot) (same_itself slot_order slot)
 
   wider-inside : (q : Slot) → set.contains group q ≡ true → set.contains wider q ≡ true
-  wider-inside q inside = contains-insert group slot q ∙ or_true (same slot_order q slot) (set.contains group q) inside
+  wider-inside q inside = contains-insert group slot q ∙ or_right (same slot_order q slot) (set.contains group q) inside
 
   -- each slot of the wider group has the group's bytes, and the wider group
   alike_wider : (other : Slot) → set.contains wider other ≡ true → (f : Cell) × (map.get joined_spaces other ≡ Some f) × (f.holders ≡ wider) × (f.bytes ≡ g.bytes)
-  alike_wider other h = elim (either (same slot_order other slot) (set.contains group other) (sym (contains-insert group slot other) ∙ h)) [
+  alike_wider other h = elim (or_cases (same slot_order other slot) (set.contains group other) (sym (contains-insert group slot other) ∙ h)) [
     | inl is ↦ (new_cell, ap (map.get joined_spaces) (same-true slot_order other slot is) ∙ get-slot, refl, refl)
     | inr inside ↦ (let o = (cells giver g at).alike other inside in (with_holders o.0 wider, get-inside other o.0 o.1 inside, refl, o.3))
   ]
@@ -274,11 +261,7 @@ mapped_user s slot w mapped = by (map.get s.spaces slot) refl mapped
 
 -- the pages of an access, where they are mapped
 pub touched_user : (s : State) (p address : ℕ) (size : Size) → IsWellFormed s → EachTouched address size (IsThere s.spaces p) → EachTouched address size IsUserPage
-touched_user s p address size w there = (mapped_user s (at_page p (page_number address)) w there.0, by (second_page address size) there.1)
-  where
-    by : (x : Option ℕ) → IfSome x (IsThere s.spaces p) → IfSome x IsUserPage
-    by None h = h
-    by (Some second) h = mapped_user s (at_page p second) w h
+touched_user s p address size w there = grind (arith, mapped_user)
 
 pub giver_user : (s : State) (p giver giver_page : ℕ) → IsWellFormed s → map.contains_key s.offers (offer_key giver giver_page p) ≡ true → IsUserPage giver_page
 giver_user s p giver giver_page w there = let g = giver_mapped s p giver giver_page w there in (w.cells (at_page giver giver_page) g.0 g.1).user
@@ -292,23 +275,10 @@ module _ (s : State) (p giver giver_page page : ℕ) (right : Bool) (g : Cell) (
   join_is = ap (λ (x : Option Cell). join_in s.spaces (unwrap_or x (fresh (at_page giver giver_page) true)) (at_page p page) right) (sym at)
 
   rooms-joined : (q : ℕ) → is_live s q ≡ true → cost after_join q + given s.book q ≤ quota_of s.book q
-  rooms-joined q h = elim (cases_eq q p) [
-    | inl own ↦ subst (λ n. cost after_join n + given s.book n ≤ quota_of s.book n) (sym own) acceptor
-    | inr differ ↦ (let e = cost-joined_other s.spaces (at_page giver giver_page) (at_page p page) right q differ in let old = w.rooms q h in omega (arith, e, old))
-  ]
-    where
-      acceptor : cost after_join p + given s.book p ≤ quota_of s.book p
-      acceptor =
-          let a = cost-joined s.spaces (at_page giver giver_page) (at_page p page) right none in
-          let b = not_less (room s p) (need s.spaces p page) has_room in
-          let c = w.rooms p live in
-          omega (arith, a, b, c)
+  rooms-joined q h = grind (arith, cases_eq, cost-joined_other, cost-joined, not_less)
 
   owners-joined : (q : Slot) (e : Cell) → map.get (join_in s.spaces g (at_page p page) right) q ≡ Some e → is_live s q.pid ≡ true
-  owners-joined q e h = elim (same_cases slot_order q (at_page p page)) [
-    | inl is ↦ ap (λ (x : Slot). is_live s x.pid) is.0 ∙ live
-    | inr other ↦ (let d = joined-was s.spaces (at_page giver giver_page) (at_page p page) g right at none user w.cells q e other.0 h in w.owners q d.0 d.1)
-  ]
+  owners-joined q e h = grind (arith, same_cases, joined-was)
 
   well_formed-joined : IsWellFormed (record s { spaces = joined s.spaces (at_page giver giver_page) (at_page p page) right })
   well_formed-joined =

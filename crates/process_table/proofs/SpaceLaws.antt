@@ -1,46 +1,33 @@
 -- States stay well formed where their spaces alone change: by a map, an access, or an unmap with its offers.
 use Rattle.process_table.proofs.Prelude
-use Prelude.{◌≡◌, ◌≢◌, ℕ, ◌+◌, ◌<◌, ◌≤◌, ◌&&◌, not, Bool, true, false, List, [], ◌∷◌, length, refl, sym, ap, subst, ◌∙◌}
-use Prelude.{Option, Some, None, is_some, unwrap_or, arith, inl, inr, zero, suc, if◌then◌else◌, nat_lt, nat_le, IfSome}
-use Prelude.{option_map, All, nat_tests, IsUserPage, is_user_page, byte_count, offset_number, page_number, second_page}
-use Prelude.{touched, EachTouched, Size, get-map_values, same_cases, Slot, slot_order, Cell, Spaces, cost}
-use Prelude.{cost_of, need, page_need, access_need, fresh, cell_or_fresh, accessed, stored, with_page, with_pages}
-use Prelude.{all_accessed, all_stored, set_bytes, with_bytes, write_at, bytes_of, slot_at, at_page, same_pages}
-use Prelude.{cost-insert, kept, given, quota_of, OfferKey, State, is_live, is_mapped, overdrawn, room, map_refusal}
-use Prelude.{after_map, after_load, after_store, BadPage, Mapped, Quota, IsCellAt, IsOfferIn, IsWellFormed, same_Some}
-use Prelude.{some_value, no_value}
-use Rattle.std.proofs.Common.{◌/◌, ◌%◌, ◌++◌, take, drop}
-use Rattle.page_words.specs.Addresses.{page_and}
-use Rattle.address_space.specs.Spaces.{store_in}
-use Rattle.std.proofs.lemmas.List.{length-replicate}
-use Rattle.std.proofs.lemmas.Bool.{cases_lt, cases_eq, le-ltb}
+use Prelude.{◌≡◌, ◌≢◌, ℕ, ◌+◌, ◌<◌, ◌≤◌, not, Bool, true, false, List, [], ◌∷◌, length, refl, sym, ap, subst, ◌∙◌}
+use Prelude.{Option, Some, None, is_some, unwrap_or, arith, inl, inr, zero, suc, ◌/◌, ◌%◌, ◌++◌, take, drop}
+use Prelude.{if◌then◌else◌, nat_lt, IfSome, option_map, All, IsUserPage, is_user_page, byte_count, offset_number}
+use Prelude.{page_number, second_page, touched, EachTouched, page_and, Size, get-map_values, same_cases, Slot}
+use Prelude.{slot_order, Cell, Spaces, cost, cost_of, need, page_need, access_need, fresh, cell_or_fresh, accessed}
+use Prelude.{stored, with_page, with_pages, all_accessed, all_stored, set_bytes, with_bytes, write_at, bytes_of}
+use Prelude.{slot_at, at_page, store_in, same_pages, cost-insert, kept, given, quota_of, OfferKey, State, is_live}
+use Prelude.{is_mapped, overdrawn, room, map_refusal, after_map, after_load, after_store, BadPage, Mapped, Quota}
+use Prelude.{IsCellAt, IsOfferIn, IsWellFormed, same_Some, some_value, no_value, length-replicate, cases_lt, cases_eq}
+use Prelude.{le-ltb, IsThere, AreThere, touched-there, first_there, rest_there, bytes_there}
 use Rattle.std.proofs.lemmas.List.Elements.{All-nil, All-cons, All-append, All-take, All-drop, All-replicate}
 use Rattle.page_words.specs.declared.addresses.Size.TheVariants.{One}
 use Rattle.address_space.proofs.costs.AccessNeeds.{need-in_one, need-in_two, cost-with_page}
-use Rattle.address_space.proofs.costs.MapFirst.{IsThere, AreThere, touched-there, first_there, rest_there, bytes_there}
 use Rattle.address_space.proofs.steps.Stores.{length-write_at, written_long}
 use Rattle.process_table.proofs.Overdrawn.{extra_new, extra_touched}
-use Rattle.process_table.proofs.CellLaws.{AreCells, get-inserted, get-inserted_other, lone-cell, cells-lone, IsRenewed, cells-renewed}
+use Rattle.process_table.proofs.CellLaws.{AreCells, get-inserted, get-inserted_other, lone-cell, cells-lone, IsRenewed}
+use Rattle.process_table.proofs.CellLaws.{cells-renewed}
 use Rattle.process_table.proofs.Sizes.{cost-fewer}
 use Rattle.page_words.specs.FiniteMap as map
 use Rattle.page_words.specs.FiniteSet as set
 
 -- what a test of order that fails says
 pub not_less : (a b : ℕ) → nat_lt a b ≡ false → b ≤ a
-not_less a b h = elim (cases_lt a b) [
-  | inl less ↦ absurd (let t : nat_lt a b ≡ true = grind (arith, nat_tests) in cc)
-  | inr least ↦ least
-]
+not_less a b h = grind (arith, cases_lt)
 
 -- a page that passes the test is one of the user range
 pub user_page : (page : ℕ) → is_user_page page ≡ true → IsUserPage page
-user_page page h = elim (cases_lt page 0x40000) [
-  | inl below ↦ absurd (let f : nat_le 0x40000 page ≡ false = grind (arith, nat_tests) in let g : is_user_page page ≡ false = (λ i. f i && nat_le page 0xeffff) in cc)
-  | inr low ↦ elim (cases_lt page 0xf0000) [
-    | inl high ↦ (low, high)
-    | inr past ↦ absurd (let f : nat_le page 0xeffff ≡ false = grind (arith, nat_tests) in let a : nat_le 0x40000 page ≡ true = grind (arith, nat_tests) in let g : is_user_page page ≡ false = (λ i. a i && f i) in cc)
-  ]
-]
+user_page page h = grind (arith, cases_lt)
 
 -- a state with other spaces, where each process has room, each slot an owner, each cell is well formed, and
 -- what was mapped still is, with its right
@@ -70,8 +57,7 @@ with-spaces s T w rooms owners cells keeps = record {
 -- what is needed for one fits, where it does not overdraw
 pub new_fits : (s : State) (p page : ℕ) → map.get s.spaces (at_page p page) ≡ None → overdrawn s p (page ∷ []) ≡ false
     → need s.spaces p page ≤ room s p
-new_fits s p page none fits = not_less (room s p) (need s.spaces p page)
-    (ap (nat_lt (room s p)) (sym (extra_new s p page (ap is_some none))) ∙ fits)
+new_fits s p page none fits = grind (arith, not_less, extra_new)
 
 -- ---- A page of zeros more
 
@@ -89,17 +75,10 @@ module _ (s : State) (slot : Slot) (write : Bool) (w : IsWellFormed s) (live : i
   ]
     where
       owner : cost more slot.pid + given s.book slot.pid ≤ quota_of s.book slot.pid
-      owner =
-          let a = cost-insert s.spaces slot (fresh slot write) none in
-          let b = not_less (room s slot.pid) (need s.spaces slot.pid slot.page) has_room in
-          let c = w.rooms slot.pid live in
-          omega (arith, a, b, c)
+      owner = grind (arith, cost-insert, not_less)
 
   owner_more : (q : Slot) (c : Cell) → map.get more q ≡ Some c → is_live s q.pid ≡ true
-  owner_more q c h = elim (same_cases slot_order q slot) [
-    | inl is ↦ ap (λ (x : Slot). is_live s x.pid) is.0 ∙ live
-    | inr other ↦ w.owners q c (sym (get-inserted_other s.spaces slot (fresh slot write) q other.0) ∙ h)
-  ]
+  owner_more q c h = grind (arith, same_cases, get-inserted_other)
 
   kept_more : (q : Slot) (c : Cell) → map.get s.spaces q ≡ Some c → (d : Cell) × (map.get more q ≡ Some d) × (d.may ≡ c.may)
   kept_more q c h = (c, get-inserted_other s.spaces slot (fresh slot write) q apart ∙ h, refl)
@@ -119,10 +98,7 @@ module _ (s : State) (slot : Slot) (write : Bool) (w : IsWellFormed s) (live : i
       kept_more
 
 map_allowed : (a b c : Bool) → (if not a then Some BadPage else if b then Some Mapped else if c then Some Quota else None) ≡ None → (a ≡ true) × (b ≡ false) × (c ≡ false)
-map_allowed false b c h = cc
-map_allowed true true c h = cc
-map_allowed true false true h = cc
-map_allowed true false false h = (refl, refl, refl)
+map_allowed a b c h = grind arith
 
 -- a map that is not refused
 pub well_formed-map : (s : State) (p page : ℕ) (write : Bool) → IsWellFormed s → is_live s p ≡ true → map_refusal s p page ≡ None → IsWellFormed (after_map s p page write)

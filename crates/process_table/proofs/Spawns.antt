@@ -1,17 +1,16 @@
 -- What the test of a spawn answers, and what a child's charge is.
 use Rattle.process_table.proofs.Prelude
 use Prelude.{◌≡◌, ◌≢◌, ℕ, ◌+◌, ◌-◌, ◌<◌, ◌≤◌, ◌==◌, Bool, true, false, cond, not, refl, sym, ap, subst, ◌∙◌, inl, inr}
-use Prelude.{List, [], ◌∷◌, Option, Some, None, unwrap_or, is_some, is_none, length, Ok, Err, arith, if◌then◌else◌}
-use Prelude.{nat_lt, find, range_with_len, option_map, same, nat_order, same_or_not, same_itself, get-insert, Slot}
-use Prelude.{Cell, Spaces, cost, at_page, directory_of, total_cost, Book, Member, given, quota_of}
-use Prelude.{number_of_children, next_number, Containers, IsLive, used_of, total_used, split_answer, after_split}
-use Prelude.{Offers, room, child_of, as_container, container_of, spawn_refusal, state_of, IsProcesses, Cause, not-true}
-use Rattle.std.proofs.Common.{Result}
-use Rattle.quota_tree.specs.Containers.{room_of, fitting, opening}
+use Prelude.{List, [], ◌∷◌, Option, Some, None, unwrap_or, is_some, is_none, length, Ok, Err, arith, Result}
+use Prelude.{if◌then◌else◌, nat_lt, range_with_len, option_map, same, nat_order, same_or_not, same_itself, get-insert}
+use Prelude.{Slot, Cell, Spaces, cost, at_page, directory_of, total_cost, Member, given, quota_of, next_number}
+use Prelude.{Containers, IsLive, used_of, total_used, split_answer, after_split, room_of, fitting, opening, Offers}
+use Prelude.{room, child_of, container_of, spawn_refusal, state_of, IsProcesses, Cause, not-true, Image, SlotStands}
+use Prelude.{directory_at, page_word, image_of, translated, child_unless, spawn_answer}
+use Rattle.std.specs.List.{find}
 use Rattle.page_words.specs.declared.addresses.Pid.{Pid}
-use Rattle.address_space.specs.Image.{Image, StandsFor, SlotStands, directory_at, page_word, image_of}
+use Rattle.address_space.specs.Image.{StandsFor}
 use Rattle.quota_tree.specs.declared.QuotaFault.{QuotaFault}
-use Rattle.process_table.specs.TestAnswers.{translated, child_unless, spawn_answer}
 use Rattle.process_table.proofs.Charged.{differ, room-for}
 use Rattle.process_table.proofs.Ranges.{found}
 use Rattle.process_table.proofs.Sizes.{cost-no_pages}
@@ -36,20 +35,14 @@ spawn-split v c o p asked kept live =
   where
     by : (b : Bool) (next : Option ℕ) (over : Bool) → nat_lt (room_of c p) asked ≡ over
         → child_unless (refused b next over) (unwrap_or next 0) ≡ translated (if b then Err quota.BadQuota else fitting c p asked next)
-    by true next over is = refl
-    by false None over is = refl
-    by false (Some child) true is = ap (λ b. translated (if b then Err quota.NoRoom else Ok child)) (sym is)
-    by false (Some child) false is = ap (λ b. translated (if b then Err quota.NoRoom else Ok child)) (sym is)
+    by b next over is = grind arith
 
 -- where a spawn may be, its process is live, and the quotas' split has that child
 pub spawn-may : (v : frames.View) (c : Containers) (o : Offers) (p asked child : ℕ) → IsProcesses v c → spawn_answer (state_of v c o) p asked ≡ Ok child → (IsLive c p) × (split_answer c p asked ≡ Ok child)
 spawn-may v c o p asked child kept is = by (map.contains_key c.book p) refl is
   where
     whole : (r : Result Pid QuotaFault) → translated r ≡ Ok child → r ≡ Ok child
-    whole (Ok k) h = let same : k ≡ child = cc in ap Ok same
-    whole (Err quota.BadQuota) h = cc
-    whole (Err quota.TableFull) h = cc
-    whole (Err quota.NoRoom) h = cc
+    whole r h = grind arith
 
     by : (b : Bool) → map.contains_key c.book p ≡ b → child_unless (if b then spawn_refusal (state_of v c o) p asked else Some cause.NoProcess) (child_of (state_of v c o)) ≡ Ok child → (IsLive c p) × (split_answer c p asked ≡ Ok child)
     by true live h = (live, whole (split_answer c p asked) (sym (spawn-split v c o p asked kept live) ∙ is))
@@ -67,16 +60,14 @@ next-of c p asked child h = by (asked == 0) (next_number c.book) refl h
     by false (Some k) next e = room (nat_lt (room_of c p) asked) e
       where
         room : (b : Bool) → cond b (Err quota.NoRoom) (Ok k) ≡ Ok child → next_number c.book ≡ Some child
-        room true e = cc
-        room false e = let same : k ≡ child = cc in next ∙ ap Some same
+        room b e = grind arith
 
 found-passes : (p : ℕ → Bool) (xs : List ℕ) (x : ℕ) → find p xs ≡ Some x → p x ≡ true
 found-passes p [] x h = cc
 found-passes p (y ∷ xs) x h = by (λ e. found-passes p xs x e) (p y) refl h
   where
     by : (find p xs ≡ Some x → p x ≡ true) → (b : Bool) → p y ≡ b → cond b (Some y) (find p xs) ≡ Some x → p x ≡ true
-    by rest true is e = let same : y ≡ x = cc in ap p (sym same) ∙ is
-    by rest false is e = rest e
+    by rest b is e = grind arith
 
 -- it is not live
 pub child-absent : (c : Containers) (p asked child : ℕ) → split_answer c p asked ≡ Ok child → map.contains_key c.book child ≡ false
@@ -87,8 +78,7 @@ pub child-is : (v : frames.View) (c : Containers) (o : Offers) (p asked child : 
 child-is v c o p asked child is = ap (λ x. unwrap_or x 0) (next-of c p asked child is)
 
 no_directory : (d : Option ℕ) → is_some d ≡ false → d ≡ None
-no_directory None h = refl
-no_directory (Some f) h = cc
+no_directory d h = grind arith
 
 pub child-has_none : (v : frames.View) (c : Containers) (p asked child : ℕ) → IsProcesses v c → split_answer c p asked ≡ Ok child → directory_of v.directories child ≡ None
 child-has_none v c p asked child kept is = no_directory (directory_of v.directories child) (kept.live child ∙ child-absent c p asked child is)
@@ -106,8 +96,7 @@ nothing-mapped image S p page stands none = by (map.get S slot) (subst (λ x. Sl
     absent = rw none refl
 
     by : (x : Option Cell) → SlotStands image slot None x → is_some x ≡ false
-    by None h = refl
-    by (Some cell) h = absurd h
+    by x h = grind arith
 
 pub cost-child : (v : frames.View) (p : ℕ) → StandsFor (image_of v) v.spaces → directory_of v.directories p ≡ None → cost v.spaces p ≡ 1
 cost-child v p stands none = cost-no_pages v.spaces p (λ page. nothing-mapped (image_of v) v.spaces p page stands none)
@@ -175,43 +164,11 @@ used-before c p asked child q n = get-insert c.used child 1 q ∙ ap (λ b. cond
 
 -- the containers and the state tell the same of a process
 pub container-same : (v : frames.View) (c : Containers) (o : Offers) (p : ℕ) → IsProcesses v c → quotas.container_of c p ≡ container_of (state_of v c o) p
-container-same v c o p kept = by (map.get c.book p) (λ l. kept.charged p l)
-  where
-    by : (x : Option Member) → (is_some x ≡ true → used_of c p ≡ cost v.spaces p) → option_map (quotas.as_container c p) x ≡ option_map (as_container (state_of v c o) p) x
-    by None charged = refl
-    by (Some m) charged = λ i. Some (record {
-      parent = m.parent;
-      quota = m.quota;
-      used = charged refl i;
-      given = given c.book p;
-      children = number_of_children c.book p;
-    })
+container-same v c o p kept = grind arith
 
 -- ---- Process 0 alone
 
 -- process 0 has a directory, alone, and is charged for it
 pub charged-root : (w : frames.View) (c : Containers) (n : ℕ) → c ≡ opening n → w.spaces ≡ map.empty → 1 + n ≡ length w.roles
     → is_some (directory_of w.directories 0) ≡ true → ((q : ℕ) → q ≢ 0 → directory_of w.directories q ≡ None) → IsProcesses w c
-charged-root w c n is empty long live others = subst (IsProcesses w) (sym is) (record {
-  live = λ q. elim (same_or_not nat_order q 0) [
-    | inl h ↦ ap (λ x. is_some (directory_of w.directories x)) h.0 ∙ live ∙ sym (book-at q ∙ ap (λ b. is_some (cond b (Some root) (map.get no_book q))) h.1)
-    | inr h ↦ ap is_some (others q (differ q 0 h)) ∙ sym (book-at q ∙ ap (λ b. is_some (cond b (Some root) (map.get no_book q))) h)
-  ];
-  charged = λ q l. elim (same_or_not nat_order q 0) [
-    | inl h ↦ ap (used_of (opening n)) h.0 ∙ sym (ap (cost w.spaces) h.0 ∙ ap (λ S. cost S 0) empty)
-    | inr h ↦ absurd (dead q h l)
-  ];
-  root = long;
-})
-  where
-    root : Member
-    root = record { parent = 0; quota = n }
-
-    no_book : Book
-    no_book = map.empty
-
-    book-at : (q : ℕ) → map.contains_key (opening n).book q ≡ is_some (cond (same nat_order q 0) (Some root) (map.get no_book q))
-    book-at q = ap is_some (get-insert no_book 0 root q)
-
-    dead : (q : ℕ) → same nat_order q 0 ≡ false → map.contains_key (opening n).book q ≡ true → ⊥
-    dead q n l = let a = sym l ∙ book-at q ∙ ap (λ b. is_some (cond b (Some root) (map.get no_book q))) n in cc
+charged-root w c n is empty long live others = grind (arith, same_or_not, differ, get-insert)

@@ -12,6 +12,7 @@ ghost use Rattle.address_space.specs.Spaces.{at_page};
 ghost use Rattle.address_space.specs.Stays.{FramesStay, LooseStay, none_goes, of_process};
 
 use crate::causes::Cause;
+use crate::charges::charge_of;
 use crate::processes::Processes;
 use page_words::Pid;
 use quota_tree::{Container, QuotaFault, Quotas};
@@ -140,10 +141,11 @@ impl Processes {
     {
         self.spaces.stands();
         self.quotas.within();
+        let used = charge_of(self, pid);
         self.quotas.fork_as(pid, quota, copy);
         self.quotas.within();
         self.spaces.fresh(copy);
-        self.spaces.copy_space(pid, copy);
+        self.spaces.copy_space(pid, copy, used);
     }
 
     /// Makes a child of a process, where nothing is against it, as `fork` does: its number; else the first cause
@@ -191,7 +193,8 @@ impl Processes {
         ensures stay { FramesStay (of_process pid) (memory_of self.old) (memory_of self.new) }
         ensures loose { LooseStay (memory_of self.old) (memory_of self.new) }
     {
-        self.spaces.drop_space(pid);
+        let used = charge_of(self, pid);
+        self.spaces.drop_space(pid, used);
         self.quotas.close(pid);
         self.offers.drop_process(pid);
     }

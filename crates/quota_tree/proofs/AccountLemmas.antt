@@ -53,20 +53,13 @@ fill_goes_on g xs k inside so_far p low = elim (cases_eq p k) [
 module _ (accounts : List (Option Account)) (containers : List (Option Container)) (long : length accounts ≡ 64) (places : length containers ≡ 64)
     (each : (p : ℕ) → p < 64 → slice_get containers p ≡ Some (container_in accounts p)) where
   container-is : (p : ℕ) → get_or containers p None ≡ container_in accounts p
-  container-is p = elim (cases_lt p 64) [
-    | inl low ↦ get_or_from_slice_get containers p (container_in accounts p) None (each p low)
-    | inr past ↦
-        get_or_past containers p None (omega (arith, places))
-        ∙ sym (ap (option_map (as_container (number_of_children (book_in accounts) p))) (get_or_past accounts p None (omega (arith, long))))
-  ]
+  container-is p = grind (arith, cases_lt, get_or_from_slice_get, get_or_past)
 
   member-kept : (n : ℕ) (x : Option Account) → option_map member_of (option_map (as_container n) x) ≡ option_map member_in x
-  member-kept n None = refl
-  member-kept n (Some a) = refl
+  member-kept n x = grind arith
 
   used-kept : (n : ℕ) (x : Option Account) → option_map (λ (c : Container). c.used) (option_map (as_container n) x) ≡ option_map (λ (a : Account). a.used) x
-  used-kept n None = refl
-  used-kept n (Some a) = refl
+  used-kept n x = grind arith
 
   same-book : collected member_of containers ≡ book_in accounts
   same-book = same_map (collected member_of containers) (book_in accounts) (λ q.

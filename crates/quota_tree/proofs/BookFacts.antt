@@ -1,6 +1,7 @@
 -- Who is a child, and what one entry of the book more or less leaves of the others.
-use Rattle.quota_tree.proofs.Prelude.{◌≡◌, ◌≢◌, ℕ, ◌&&◌, ◌==◌, not, true, false, refl, ap, ◌∙◌, is_some, inl, inr}
-use Rattle.quota_tree.proofs.Prelude.{nat_order, get-insert, same_cases, Book, Member, is_child, eq-eqb}
+use Rattle.std.proofs.Common.{arith}
+use Rattle.quota_tree.proofs.Prelude.{◌≡◌, ◌≢◌, ℕ, ◌&&◌, ◌==◌, not, true, false, refl, ap, ◌∙◌}
+use Rattle.quota_tree.proofs.Prelude.{get-insert, same_cases, Book, Member, is_child, eq-eqb}
 use Rattle.std.proofs.Math.Bool.{and-false}
 use Rattle.std.proofs.lemmas.Bool.{ne_eqb}
 use Rattle.page_words.specs.FiniteMap as map
@@ -15,14 +16,8 @@ child_no p x k q n = ap (λ b. not (k == 0) && b) (ne_eqb p x n) ∙ and-false (
 
 -- one entry more leaves who is live
 pub contains_key-insert : (book : Book) (k : ℕ) (m : Member) (x : ℕ) → map.contains_key book x ≡ true → map.contains_key (map.insert book k m) x ≡ true
-contains_key-insert book k m x h = ap is_some (get-insert book k m x) ∙ elim (same_cases nat_order x k) [
-  | inl is ↦ rw is.1 refl
-  | inr other ↦ rw other.1 h
-]
+contains_key-insert book k m x h = grind (arith, get-insert, same_cases)
 
 -- and the other entries
 pub get-insert_other : (book : Book) (k : ℕ) (m : Member) (x : ℕ) → x ≢ k → map.get (map.insert book k m) x ≡ map.get book x
-get-insert_other book k m x n = get-insert book k m x ∙ elim (same_cases nat_order x k) [
-  | inl is ↦ absurd (n is.0)
-  | inr other ↦ rw other.1 refl
-]
+get-insert_other book k m x n = grind (arith, get-insert, same_cases)

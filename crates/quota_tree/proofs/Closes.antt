@@ -1,7 +1,7 @@
 -- What a close leaves.
 use Rattle.quota_tree.proofs.Prelude.{◌≡◌, ◌≢◌, ℕ, ◌+◌, ◌<◌, ◌≤◌, ◌⊎◌, inl, inr, true, false, List, length, get_or}
-use Rattle.quota_tree.proofs.Prelude.{is_some, refl, sym, ap, ◌∙◌, Option, Some, None, unwrap_or, arith, subst}
-use Rattle.quota_tree.proofs.Prelude.{length-set, slice_set, option_map, Map, nat_order, same, Container, Member, Book}
+use Rattle.quota_tree.proofs.Prelude.{is_some, refl, sym, ap, ◌∙◌, Option, Some, None, arith, subst}
+use Rattle.quota_tree.proofs.Prelude.{length-set, slice_set, option_map, nat_order, Container, Book}
 use Rattle.quota_tree.proofs.Prelude.{is_child, given, number_of_children, collected, member_of, seen_as, IsBooked}
 use Rattle.quota_tree.proofs.Prelude.{IsQuotas, same_Some}
 use Rattle.page_words.proofs.SetLemmas.{same_cases, get-remove_other}
@@ -29,10 +29,7 @@ module _ (cs : List (Option Container)) (kept : IsQuotas cs) (k : ℕ) (k_in : k
   -- nobody's parent is the process that goes
   parent_other : (x : ℕ) (c : Container) → get_or cs x None ≡ Some c → c.parent ≢ k
   parent_other x c h e = elim (same_cases nat_order x 0) [
-    | inl is ↦
-        (let m : Some (member_of c) ≡ Some (record { parent = 0; quota = kept.root.quota }) = sym (get-member cs x c h) ∙ ap (map.get (collected member_of cs)) is.0 ∙ kept.root.is in
-        let zero : c.parent ≡ 0 = ap (λ (o : Option Member). unwrap_or (option_map (λ y. y.parent) o) 0) m in
-        not_0 (sym e ∙ zero))
+    | inl is ↦ grind (arith, get-member)
     | inr other ↦
         (let a = number-remove (collected member_of cs) x (member_of c) (get-member cs x c h) k in
         let yes : is_child k (x, member_of c) ≡ true = ap (λ n. is_child n (x, member_of c)) (sym e) ∙ child_yes c.parent x c.quota other.0 in

@@ -1,9 +1,9 @@
 -- What the map of a list of options answers, and what a write into the list leaves of it.
-use Rattle.quota_tree.proofs.Prelude.{◌≡◌, ◌≢◌, ℕ, zero, suc, ◌+◌, ◌<◌, inl, inr, Bool, true, false, cond, not, List}
+use Rattle.quota_tree.proofs.Prelude.{◌≡◌, ◌≢◌, ℕ, zero, suc, ◌+◌, ◌<◌, inl, inr, Bool, cond, List}
 use Rattle.quota_tree.proofs.Prelude.{[], ◌∷◌, length, replicate, get_or, refl, sym, ap, ◌∙◌, Option, Some, None, arith}
-use Rattle.quota_tree.proofs.Prelude.{position, slice_set, nat_lt, option_map, get_or-set_same, get_or-set_other}
-use Rattle.quota_tree.proofs.Prelude.{cases_lt, nat_tests, Map, nat_order, same, collected_from, collected}
-use Rattle.std.specs.List.{find, position_or_len, range_with_len}
+use Rattle.quota_tree.proofs.Prelude.{position, slice_set, option_map, get_or-set_same, get_or-set_other}
+use Rattle.quota_tree.proofs.Prelude.{nat_order, collected_from, collected}
+use Rattle.std.specs.List.{find, range_with_len}
 use Rattle.page_words.proofs.MapLemmas.{get-insert, same_itself, same_map}
 use Rattle.page_words.proofs.SetLemmas.{get-remove, same_cases, same_apart}
 use Rattle.page_words.specs.FiniteMap as map
@@ -22,10 +22,7 @@ module _ {C X : Type 0} (f : C → X) where
   get-at start [] i q e = refl
   get-at start (None ∷ values) zero q e = get-before (start + 1) values q (omega arith)
   get-at start (None ∷ values) (suc i) q e = get-at (start + 1) values i q (omega arith)
-  get-at start (Some c ∷ values) zero q e =
-      let is : q ≡ start = omega arith in
-      get-insert (collected_from f (start + 1) values) start (f c) q
-      ∙ ap (λ b. cond b (Some (f c)) (map.get (collected_from f (start + 1) values) q)) (ap (λ k. same nat_order q k) (sym is) ∙ same_itself nat_order q)
+  get-at start (Some c ∷ values) zero q e = grind (arith, get-insert, same_itself)
   get-at start (Some c ∷ values) (suc i) q e =
       let other : q ≢ start = omega arith in
       get-insert (collected_from f (start + 1) values) start (f c) q
@@ -61,39 +58,13 @@ module _ {C X : Type 0} (f : C → X) where
       ]
       ∙ sym (get-remove (collected f values) k q))
 
-module _ {X : Type 0} (p : X → Bool) where
-  position-yes : (x : X) (xs : List X) → p x ≡ true → position p (x ∷ xs) ≡ Some 0
-  position-yes x xs is =
-      let first : position_or_len p (x ∷ xs) ≡ 0 = ap (λ b. cond (not b) (1 + position_or_len p xs) 0) is in
-      let within : nat_lt 0 (length (x ∷ xs)) ≡ true = grind (arith, nat_tests) in
-      rw first (ap (λ b. cond b (Some 0) None) within)
-
-  position-no : (x : X) (xs : List X) → p x ≡ false → position p (x ∷ xs) ≡ option_map (λ i. 1 + i) (position p xs)
-  position-no x xs is =
-      let later : position_or_len p (x ∷ xs) ≡ 1 + position_or_len p xs = ap (λ b. cond (not b) (1 + position_or_len p xs) 0) is in
-      rw later (elim (cases_lt (position_or_len p xs) (length xs)) [
-        | inl below ↦
-            (let a : nat_lt (1 + position_or_len p xs) (length (x ∷ xs)) ≡ true = grind (arith, nat_tests) in
-            let b : nat_lt (position_or_len p xs) (length xs) ≡ true = grind (arith, nat_tests) in
-            rw (a, b) refl)
-        | inr above ↦
-            (let a : nat_lt (1 + position_or_len p xs) (length (x ∷ xs)) ≡ false = grind (arith, nat_tests) in
-            let b : nat_lt (position_or_len p xs) (length xs) ≡ false = grind (arith, nat_tests) in
-            rw (a, b) refl)
-      ])
-
 module _ {X : Type 0} (p : X → Bool) (t : ℕ → Bool) (start : ℕ) (x : X) (xs : List X) where
   again : (o : Option ℕ) → option_map (λ i. (start + 1) + i) o ≡ option_map (λ i. start + i) (option_map (λ i. 1 + i) o)
-  again None = refl
-  again (Some i) = let e : (start + 1) + i ≡ start + (1 + i) = omega arith in ap Some e
+  again o = grind arith
 
   find-step : t start ≡ p x → find t (range_with_len (start + 1) (length xs)) ≡ option_map (λ i. (start + 1) + i) (position p xs) → (b : Bool) → p x ≡ b
       → find t (range_with_len start (length (x ∷ xs))) ≡ option_map (λ i. start + i) (position p (x ∷ xs))
-  find-step here rest true is =
-      let e : start ≡ start + 0 = omega arith in
-      ap (λ b. cond b (Some start) (find t (range_with_len (start + 1) (length xs)))) (here ∙ is) ∙ ap Some e ∙ ap (option_map (λ i. start + i)) (sym (position-yes p x xs is))
-  find-step here rest false is =
-      ap (λ b. cond b (Some start) (find t (range_with_len (start + 1) (length xs)))) (here ∙ is) ∙ rest ∙ again (position p xs) ∙ ap (option_map (λ i. start + i)) (sym (position-no p x xs is))
+  find-step here rest b is = grind (arith, again)
 
 -- the first number that passes a test is the first place that does
 pub find-position : {X : Type 0} (p : X → Bool) (t : ℕ → Bool) (d : X) (start : ℕ) (xs : List X)

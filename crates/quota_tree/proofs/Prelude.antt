@@ -8,7 +8,7 @@ pub use Rattle.std.proofs.lemmas.List.{get_or-set_other, get_or-set_same}
 pub use Rattle.std.proofs.lemmas.Option.{same_Some}
 pub use Rattle.std.specs.List.{find, range_with_len}
 pub use Rattle.std.specs.Option.{option_map}
-pub use Rattle.std.specs.Prelude.{nat_lt, position, slice_get, slice_set}
+pub use Rattle.std.specs.Prelude.{position, slice_get, slice_set}
 pub use borrow.Author.Tests.{eq-eqb}
 pub use Rattle.page_words.proofs.MapLemmas.{get-insert, same_map}
 pub use Rattle.page_words.proofs.SetLemmas.{same_cases}

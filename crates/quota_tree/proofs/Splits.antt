@@ -66,15 +66,10 @@ module _ (cs : List (Option Container)) (kept : IsQuotas cs) (p k q : ℕ) (p_in
   length_first = length-set cs p (Some (giver_after_split g q))
 
   book_after_split : collected member_of (slice_set (slice_set cs p (Some (giver_after_split g q))) k (Some child)) ≡ book2
-  book_after_split =
-      collected-set member_of (slice_set cs p (Some (giver_after_split g q))) k child (omega (arith, length_first, k_in))
-      ∙ ap (λ b. map.insert b k (record { parent = p; quota = q })) given_first
+  book_after_split = grind (arith, collected-set, length_first, given_first)
 
   pub seen_as-split : seen_as (slice_set (slice_set cs p (Some (giver_after_split g q))) k (Some child)) ≡ record { book = (after_split (seen_as cs) p q k).book; used = map.insert (seen_as cs).used k u }
-  seen_as-split =
-      let used = collected-set (λ c. c.used) (slice_set cs p (Some (giver_after_split g q))) k child (omega (arith, length_first, k_in)) in
-      let same_used = collected-set (λ c. c.used) cs p (giver_after_split g q) p_in ∙ insert_same (collected (λ c. c.used) cs) p g.used (get-collected (λ c. c.used) cs p ∙ ap (option_map (λ c. c.used)) hg) in
-      λ i. record { book = book_after_split i; used = (used ∙ ap (λ m. map.insert m k u) same_used) i }
+  seen_as-split = grind (arith, collected-set, length_first, insert_same, get-collected, book_after_split)
 
   given2 : (x : ℕ) → given book2 x ≡ only_if (is_child x (k, record { parent = p; quota = q })) q + given (collected member_of cs) x
   given2 x = given-insert (collected member_of cs) k (record { parent = p; quota = q }) absent x

@@ -7,7 +7,6 @@ use Rattle.std.specs.Ordering.{nat_cmp, is_lt, is_eq}
 use Rattle.std.specs.Cmp.{unsigned_tied, nat_eq_equiv}
 use Rattle.std.specs.FinMap.Entries.{find, below_all, is_sorted, put, by_order}
 use Rattle.std.proofs.lemmas.List.Sums.{sum_by-cons}
-use Rattle.page_words.specs.FiniteMap.{Map, nat_order}
 use Rattle.quota_tree.specs.Book.{Member, Book, is_child, given, number_of_children}
 use borrow.Author.Tests.{eqb-true, eq-eqb}
 use Rattle.std.proofs.lemmas.Option.{same_Some}
@@ -15,17 +14,13 @@ use Rattle.page_words.proofs.SetLemmas.{get-removed, put_back}
 use Rattle.page_words.specs.FiniteMap as map
 
 first_of : (a b : Bool) → T (a && b) → T a
-first_of true b h = tt
-first_of false b h = h
+first_of a b h = grind arith
 
 second_of : (a b : Bool) → T (a && b) → T b
-second_of true b h = h
-second_of false b h = absurd h
+second_of a b h = grind arith
 
 pub lt_not_eq : (r : Ordering) → T (is_lt r) → is_eq r ≡ false
-lt_not_eq Less h = refl
-lt_not_eq Equal h = absurd h
-lt_not_eq Greater h = refl
+lt_not_eq r h = grind arith
 
 apart : (x y : ℕ) → T (is_lt (nat_cmp x y)) → (x == y) ≡ false
 apart x y h = sym (unsigned_tied x y) ∙ lt_not_eq (nat_cmp x y) h
@@ -74,12 +69,7 @@ sum_one k f (e ∷ es) v h found =
     ∙ by (λ found. sum_one k f es v (second_of _ _ h) found) (k == e.0) refl (ap (λ b. cond b (Some e.1) (find nat_cmp k es)) (sym (unsigned_tied k e.0)) ∙ found)
   where
     by : (find nat_cmp k es ≡ Some v → sum_by (at_key k f) es ≡ f (k, v)) → (b : Bool) → (k == e.0) ≡ b → cond b (Some e.1) (find nat_cmp k es) ≡ Some v → cond b (f e) 0 + sum_by (at_key k f) es ≡ f (k, v)
-    by rest true is found' =
-        let key = eqb-true k e.0 is in
-        let a = sum_none k f es (subst (λ n. T (below_all nat_cmp n es)) (sym key) (first_of _ _ h)) in
-        let b : f e ≡ f (k, v) = λ i. f (sym key i, same_Some e.1 v found' i) in
-        omega arith
-    by rest false is found' = let a = rest found' in omega arith
+    by rest known is given = grind (arith, eqb-true, sum_none, first_of, same_Some)
 
 -- where f is at most g at each key that is found, so are the sums
 sum_le : (f g : Entry → ℕ) (es : List Entry) → T (is_sorted nat_cmp es) → ((k : ℕ) (v : Member) → find nat_cmp k es ≡ Some v → f (k, v) ≤ g (k, v)) → sum_by f es ≤ sum_by g es
@@ -92,8 +82,7 @@ sum_le f g (e ∷ es) h each =
     omega arith
   where
     later : (k : ℕ) (v : Member) → find nat_cmp k es ≡ Some v → (b : Bool) → (k == e.0) ≡ b → cond b (Some e.1) (find nat_cmp k es) ≡ Some v
-    later k v found true is = let none = find_none k es (subst (λ n. T (below_all nat_cmp n es)) (sym (eqb-true k e.0 is)) (first_of _ _ h)) in cc
-    later k v found false is = found
+    later k v found known is = grind (arith, find_none, eqb-true, first_of)
 
 abbrev quota : Entry → ℕ
 quota e = e.1.quota
@@ -151,8 +140,7 @@ costs_within book cost root found parents rooms =
     parts k q = rw (nat_eq_equiv.symm 0 k) (by (k == 0))
       where
         by : (b : Bool) → q ≡ cond b q 0 + cond b 0 q
-        by true = omega arith
-        by false = omega arith
+        by h = grind arith
 
 -- ---- One member more, or less
 
@@ -220,9 +208,7 @@ module _ (book : Book) (p : ℕ) (none : map.get book p ≡ None) (parents : Par
           m = parents k v found
 
           by : (a b : Bool) → (v.parent == p) ≡ b → cond (a && b) (f (k, v)) 0 ≤ 0
-          by false b is = omega arith
-          by true false is = omega arith
-          by true true is = absurd (let e : Some m.0 ≡ None = sym m.1 ∙ ap (map.get book) (eqb-true v.parent p is) ∙ none in cc)
+          by h b is = grind (arith, m, eqb-true)
 
   pub given-none : given book p ≡ 0
   given-none = let a = no_child quota in omega arith
@@ -240,5 +226,4 @@ number-given book each p =
     omega (arith, a, b, d, e)
   where
     one : (b : Bool) (q : ℕ) → 1 ≤ q → cond b 1 0 ≤ cond b q 0
-    one true q h = h
-    one false q h = omega arith
+    one known q h = grind arith

@@ -1,8 +1,8 @@
 -- What containers are seen as, what holds of every process, and what they keep where they open.
 use Rattle.quota_tree.proofs.Prelude.{◌≡◌, ◌≢◌, ℕ, zero, suc, ◌+◌, ◌-◌, ◌<◌, ◌≤◌, inl, inr, true, false, not, List, ◌∷◌}
 use Rattle.quota_tree.proofs.Prelude.{length, replicate, get_or, is_some, refl, sym, ap, ◌∙◌, Option, Some, None}
-use Rattle.quota_tree.proofs.Prelude.{unwrap_or, arith, subst, find, range_with_len, option_map, cases_lt, Map}
-use Rattle.quota_tree.proofs.Prelude.{nat_order, same, Container, Member, Book, given, quota_of, next_number, collected}
+use Rattle.quota_tree.proofs.Prelude.{unwrap_or, arith, find, range_with_len, option_map, cases_lt}
+use Rattle.quota_tree.proofs.Prelude.{Container, Member, given, quota_of, next_number, collected}
 use Rattle.quota_tree.proofs.Prelude.{IsLive, used_of, room_of, total_used, opened_container, container_of, member_of}
 use Rattle.quota_tree.proofs.Prelude.{seen_as, IsBooked, IsQuotas, same_Some}
 use Rattle.quota_tree.specs.Containers.{as_container, opening}
@@ -14,28 +14,16 @@ use Rattle.quota_tree.proofs.Sums.{Parents, costs_within}
 use Rattle.page_words.specs.FiniteMap as map
 
 pub IfSome-each : {A : Type 0} (P : A → Type 0) (o : Option A) → ((x : A) → o ≡ Some x → P x) → IfSome o P
-IfSome-each P None h = tt
-IfSome-each P (Some x) h = h x refl
+IfSome-each P o h = grind arith
 
 module _ (cs : List (Option Container)) where
   -- a live process has a container, and what is seen of it is what that says
   pub container_where_live : (p : ℕ) → IsLive (seen_as cs) p → (c : Container) × (get_or cs p None ≡ Some c)
-  container_where_live p live = by (get_or cs p None) refl
-    where
-      found : is_some (option_map member_of (get_or cs p None)) ≡ true
-      found = ap is_some (sym (get-collected member_of cs p)) ∙ live
-
-      by : (o : Option Container) → get_or cs p None ≡ o → (c : Container) × (get_or cs p None ≡ Some c)
-      by None is = absurd (let e : false ≡ true = ap (λ o. is_some (option_map member_of o)) (sym is) ∙ found in cc)
-      by (Some c) is = (c, is)
+  container_where_live p live = grind (arith, get-collected)
 
   -- a process is live exactly where it has a container
   pub live-is_some : (p : ℕ) → is_some (get_or cs p None) ≡ map.contains_key (collected member_of cs) p
-  live-is_some p = sym (present (get_or cs p None)) ∙ ap is_some (sym (get-collected member_of cs p))
-    where
-      present : (o : Option Container) → is_some (option_map member_of o) ≡ is_some o
-      present None = refl
-      present (Some c) = refl
+  live-is_some p = grind (arith, get-collected)
 
   pub is_some-live : (p : ℕ) → IsLive (seen_as cs) p → is_some (get_or cs p None) ≡ true
   is_some-live p live = let c = container_where_live p live in ap is_some c.1
@@ -206,5 +194,4 @@ module _ (n quota : ℕ) (some : 1 ≤ quota) where
       root_kept = record { parent = refl; given = refl; children = refl; used = omega arith; within = some }
 
       each : (p : ℕ) (c : Container) → get_or (Some (opened_container 0 quota) ∷ replicate n None) p None ≡ Some c → IsBooked (collected member_of (Some (opened_container 0 quota) ∷ replicate n None)) p c
-      each zero c h = subst (λ (b : Book). IsBooked b 0 c) (sym (collected-opening member_of)) (subst (λ (x : Container). IsBooked (map.insert map.empty 0 (member_of (opened_container 0 quota))) 0 x) (same_Some (opened_container 0 quota) c h) root_kept)
-      each (suc p) c h = absurd (none_later n p c h)
+      each k c h = grind (arith, collected-opening, same_Some, root_kept, none_later)

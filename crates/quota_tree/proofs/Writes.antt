@@ -1,4 +1,5 @@
 -- What a write of one container leaves of the others, and a charge of the book.
+use Rattle.std.proofs.Common.{arith}
 use Rattle.quota_tree.proofs.Prelude.{◌≡◌, ◌≢◌, ℕ, ◌<◌, ◌⊎◌, inl, inr, Bool, true, false, cond, List, length, get_or}
 use Rattle.quota_tree.proofs.Prelude.{is_some, refl, sym, ap, ◌∙◌, Option, Some, None, subst, length-set, slice_set}
 use Rattle.quota_tree.proofs.Prelude.{get_or-set_same, get_or-set_other, Map, nat_order, same, get-insert, same_map}
@@ -13,10 +14,7 @@ use Rattle.page_words.specs.FiniteMap as map
 -- what stands at a place after a write
 pub after_set : (cs : List (Option Container)) (a : ℕ) (x : Option Container) (p : ℕ) (c : Container) → a < length cs → get_or (slice_set cs a x) p None ≡ Some c
     → ((p ≡ a) × (x ≡ Some c)) ⊎ ((p ≢ a) × (get_or cs p None ≡ Some c))
-after_set cs a x p c within h = elim (same_cases nat_order p a) [
-  | inl is ↦ inl (is.0, sym (get_or-set_same cs a x None within) ∙ ap (λ q. get_or (slice_set cs a x) q None) (sym is.0) ∙ h)
-  | inr other ↦ inr (other.0, sym (get_or-set_other cs a p x None other.0) ∙ h)
-]
+after_set cs a x p c within h = grind (arith, same_cases, get_or-set_same, get_or-set_other)
 
 -- to write a value that is there changes nothing
 pub insert_same : {X : Type 0} (m : Map nat_order X) (k : ℕ) (v : X) → map.get m k ≡ Some v → map.insert m k v ≡ m
@@ -34,8 +32,7 @@ insert_twice {X} m k v w = same_map (map.insert (map.insert m k v) k w) (map.ins
     ∙ sym (get-insert m k w q))
   where
     twice : (b : Bool) (o : Option X) → cond b (Some w) (cond b (Some v) o) ≡ cond b (Some w) o
-    twice true o = refl
-    twice false o = refl
+    twice h o = grind arith
 
 -- ---- A charge changes what a process uses
 

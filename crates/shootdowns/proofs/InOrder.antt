@@ -34,7 +34,7 @@ use Rattle.kernel_calls.proofs.Leaving.{left_read}
 use Rattle.kernel_calls.proofs.MixedRuns.{among_read, read_with, serves_call, one}
 use Rattle.kernel_calls.proofs.Runs.{kept-next}
 use Rattle.kernel_calls.proofs.WalkedReplies.{answered, lives}
-use Rattle.shootdowns.specs.Windows.{only_takes, Acknowledged, nobody, usable, Moment, acknowledged, ended_in, settled, under_way, IsStale, LeavesFree, Step, begun, loaded, stored, walked, marked, ordered, usual, refilled, forgotten, invalidated, told, Steps, none, first, memory_in, state_of, Stands, ShootdownsMakeEvents, StaleStoresComeFirst}
+use Rattle.shootdowns.specs.Windows.{only_takes, Acknowledged, nobody, usable, Moment, acknowledged, ended_in, settled, under_way, IsStale, LeavesFree, Step, begun, loaded, stored, walked, marked, ordered, usual, refilled, forgotten, invalidated, told, Steps, none, first, memory_in, state_of, Stands, ShootdownsMakeEvents}
 use Rattle.shootdowns.proofs.Accesses.{frame_at, kept_answer, kept_next, kept_beside, kept_long}
 use Rattle.shootdowns.proofs.Alike.{Alike, with_state, FlagsGrow, flags_read, alike_same, alike_then, alike_filled, again}
 use Rattle.shootdowns.proofs.Filled.{fill, filled_state, get_filled, answer_filled, next_filled}
@@ -492,13 +492,3 @@ pub shootdowns_make_events : ShootdownsMakeEvents
 shootdowns_make_events v m keeps last events replies core all steps =
     let came = all_steps steps (record { stands = (core, λ i. subst (AreRead v) (sym (none_left (keeps i))) (all i)); taken = tt }) in
     record { replies = came.replies; state = came.state; stands = came.stands }
-
-pub stale_stores_come_first : StaleStoresComeFirst
-stale_stores_come_first v w keeps i e a r q bytes core all b takes l =
-    let came = shootdowns_make_events v
-    (settled (ended_by v e) nobody (record w { bytes = bytes; state = next (next v.state a) e })) keeps keeps (a ∷ e ∷ []) (q ∷ r ∷ []) core all
-    (first (begun b) (first (stored i takes l) (first ordered none))) in
-    let told : (q ∷ r ∷ []) ≡ (answer v.state a ∷ answer (next v.state a) e ∷ []) = came.replies in
-    let one : q ≡ answer v.state a = cc in
-    let two : r ≡ answer (next v.state a) e = cc in
-    (one, two, came.stands.0)

@@ -7,6 +7,7 @@ pub mod Onward
 pub mod Played
 pub mod Refilled
 pub mod Rewritten
+pub mod Rows
 pub mod Stored
 pub mod Swapped
 pub mod Taking

@@ -168,3 +168,33 @@ StaleStoresComeFirst = (v w : View) (keeps : Processors) (i : ℕ) (e a : Event)
     → AllAreRead v keeps → Begins v e r w → only_takes e.call ≡ true → IsStale (keeps i) w a q bytes
     → (q ≡ answer v.state a) × (r ≡ answer (next v.state a) e)
     × IsCore (record w { bytes = bytes; state = next (next v.state a) e })
+
+-- So it is with a load by what a processor keeps.
+abbrev pub StaleLoadsComeFirst : Type 0
+StaleLoadsComeFirst = (v w : View) (keeps : Processors) (i : ℕ) (e a : Event) (r q : Reply) → IsCore v
+    → AllAreRead v keeps → Begins v e r w → only_takes e.call ≡ true → IsLoaded (keeps i) w a q
+    → (q ≡ answer v.state a) × (r ≡ answer (next v.state a) e) × (w.state ≡ next (next v.state a) e)
+
+-- and with an access by a walk, which finds what the event left
+abbrev pub WalksComeFirst : Type 0
+WalksComeFirst = (v w u : View) (e a : Event) (r q : Reply) → IsCore v → Begins v e r w → only_takes e.call ≡ true
+    → IsWalked w a q u → LeavesFree w u
+    → (q ≡ answer v.state a) × (r ≡ answer (next v.state a) e) × (u.state ≡ next (next v.state a) e) × IsCore u
+
+-- After any event, walks read all that was kept and isn't ended.
+abbrev pub OthersAreRead : Type 0
+OthersAreRead = (v w : View) (keeps : Processors) (e : Event) (r : Reply) → IsCore v → AllAreRead v keeps → Begins v e r w
+    → AllAreRead w (usable (ended_by v e) nobody keeps)
+
+-- a call of this kind may end translations
+abbrev pub may_end : Call → Bool
+may_end (call.Store addr size value) = true
+may_end (call.Unmap page) = true
+may_end (call.Protect page write) = not write
+may_end (call.Accept giver giver_page page) = true
+may_end call.Exit = true
+may_end _ = false
+
+-- An event of any other kind ends nothing.
+abbrev pub OthersEndNothing : Type 0
+OthersEndNothing = (v : View) (e : Event) → may_end e.call ≡ false → ended_by v e ≡ end.Nothing

@@ -1,13 +1,22 @@
 //! Laws of shootdowns. Each is the contract of a function that computes nothing.
 
-ghost use Rattle.shootdowns.specs.Windows.{ShootdownsMakeEvents, StaleStoresComeFirst};
+ghost use Rattle.shootdowns.specs.Windows.{OthersAreRead, OthersEndNothing, ShootdownsMakeEvents};
+ghost use Rattle.shootdowns.specs.Windows.{StaleLoadsComeFirst, StaleStoresComeFirst, WalksComeFirst};
 
 /// States which events the steps of a core and its processors are, where invalidating takes time. The accesses come in
 /// the order in which they are made. Each event comes in it between its begin and the last invalidation, after each
 /// access by what it ended. Only events that only take away may have such accesses. Replies and values are the answers
-/// to the events in that order, and memory is a core's at each moment. So a store by what a processor keeps, made after
-/// an event that only takes away, comes before it. It computes nothing.
+/// to the events in that order, and memory is a core's at each moment (`steps`).
+///
+/// What others may do before all have invalidated depends on the event. It may only take away. Then a load or store by
+/// what a processor keeps (`loads`, `stale`), and an access by a walk (`walks`), come before it in the order. After an
+/// event of any kind walks read all that was kept and isn't ended (`kept`). All but Unmap, Exit, Protect to read only,
+/// Accept and Store end nothing (`nothing`). It computes nothing.
 pub fn shootdowns_make_events()
     ensures steps { ShootdownsMakeEvents }
     ensures stale { StaleStoresComeFirst }
+    ensures loads { StaleLoadsComeFirst }
+    ensures walks { WalksComeFirst }
+    ensures kept { OthersAreRead }
+    ensures nothing { OthersEndNothing }
 {}

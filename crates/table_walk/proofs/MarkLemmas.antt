@@ -1,5 +1,5 @@
 -- A mark changes two words, and leaves every walk as it was.
-use Rattle.std.proofs.Common.{◌≡◌, ◌≢◌, ℕ, ◌+◌, ◌*◌, ◌^◌, ◌<◌, ◌≤◌, true, List, length, refl, ap, sym, ◌∙◌, arith, inl, inr, subst}
+use Rattle.std.proofs.Common.{◌≡◌, ◌≢◌, ℕ, ◌+◌, ◌*◌, ◌^◌, ◌<◌, ◌≤◌, true, List, length, refl, ap, ◌∙◌, arith, inl, inr}
 use Rattle.std.specs.Prelude.{◌⊎◌, slice_index, bit_or}
 use Rattle.std.proofs.lemmas.Nat.{or_lt}
 use Rattle.std.proofs.lemmas.Nat.Bits.{bit_at_or, same_from_bits}
@@ -45,8 +45,7 @@ set_twice : (w m : ℕ) → bit_or (bit_or w m) m ≡ bit_or w m
 set_twice w m = same_from_bits _ _ (λ i. omega (arith, bit_at_or (bit_or w m) m i, bit_at_or w m i))
 
 touched_twice : (access : Access) (w : ℕ) → touched_word access (accessed_word w) ≡ touched_word access w
-touched_twice Read w = set_twice w 32
-touched_twice Write w = ap (λ v. bit_or v 64) (set_twice w 32)
+touched_twice access w = grind (arith, set_twice)
 
 -- the walk's words of two lists of bytes are alike
 record SameWalks (xs ys : List ℕ) : Type 0 where
@@ -55,13 +54,7 @@ record SameWalks (xs ys : List ℕ) : Type 0 where
 
 -- two words at multiples of four are one word or stand apart
 apart : (a i b j : ℕ) → (word_place a i ≡ word_place b j) ⊎ ((word_place b j + 4 ≤ word_place a i) ⊎ (word_place a i + 4 ≤ word_place b j))
-apart a i b j = elim (cases_lt (1024 * a + i) (1024 * b + j)) [
-  | inl below ↦ inr (inr (omega arith))
-  | inr rest ↦ elim (cases_lt (1024 * b + j) (1024 * a + i)) [
-    | inl above ↦ inr (inl (omega arith))
-    | inr equal ↦ inl (omega arith)
-  ]
-]
+apart a i b j = grind (arith, cases_lt)
 
 -- a word that walks read as the one before is written
 written_same : (bytes : List ℕ) (a i w : ℕ) → word_place a i + 4 ≤ length bytes → w < 2 ^ 32
@@ -69,21 +62,15 @@ written_same : (bytes : List ℕ) (a i w : ℕ) → word_place a i + 4 ≤ lengt
 written_same bytes a i w h l s = record {
   size = length-with_word bytes (word_place a i) w h;
   word = λ b j. elim (apart a i b j) [
-    | inl e ↦ let P : ℕ → Type 0 = λ q. SameForWalk (word_at (with_word bytes (word_place a i) w) q) (word_at bytes q)
-        in subst P e (let Q : ℕ → Type 0 = λ v. SameForWalk v (word_at bytes (word_place a i)) in subst Q (sym (word_at-with_word_same bytes (word_place a i) w h l)) s)
-    | inr n ↦ let Q : ℕ → Type 0 = λ v. SameForWalk v (word_at bytes (word_place b j))
-        in subst Q (sym (word_at-with_word_other bytes (word_place a i) (word_place b j) w h n)) (same _)
+    | inl e ↦ grind (arith, word_at-with_word_same)
+    | inr n ↦ grind (arith, word_at-with_word_other, same)
   ];
 }
 
 -- and every word is below 2 ^ 32 that was
 written_lt : (bytes : List ℕ) (a i w : ℕ) → word_place a i + 4 ≤ length bytes → w < 2 ^ 32
     → (b j : ℕ) → word_at bytes (word_place b j) < 2 ^ 32 → word_at (with_word bytes (word_place a i) w) (word_place b j) < 2 ^ 32
-written_lt bytes a i w h l b j fits = elim (apart a i b j) [
-  | inl e ↦ let P : ℕ → Type 0 = λ q. word_at (with_word bytes (word_place a i) w) q < 2 ^ 32
-      in subst P e (omega (arith, word_at-with_word_same bytes (word_place a i) w h l))
-  | inr n ↦ omega (arith, word_at-with_word_other bytes (word_place a i) (word_place b j) w h n)
-]
+written_lt bytes a i w h l b j fits = grind (arith, apart, word_at-with_word_same, word_at-with_word_other)
 
 pub touched_lt : (access : Access) (w : ℕ) → w < 2 ^ 32 → touched_word access w < 2 ^ 32
 touched_lt Read w h = or_lt 32 w 32 h (omega arith)
@@ -91,11 +78,7 @@ touched_lt Write w h = or_lt 32 (bit_or w 32) 64 (or_lt 32 w 32 h (omega arith))
 
 same_walks : (xs ys : List ℕ) → SameWalks xs ys → (other at : ℕ) (kind : Access) → walk_of xs other at kind ≡ walk_of ys other at kind
 unfolding walk_of
-same_walks xs ys s other at kind =
-    let d = s.word other (slot_number (page_number at)) in
-    let f : frame_number (dir_word xs other at) ≡ frame_number (dir_word ys other at) = d.frame in
-    let t = s.word (frame_number (dir_word ys other at)) (index_number (page_number at)) in
-    rw (s.size, d.frame, d.present, d.user, d.writable, t.present, t.user, t.writable, t.frame)
+same_walks xs ys s other at kind = grind arith
 
 then_walks : (xs ys zs : List ℕ) → SameWalks xs ys → SameWalks ys zs → SameWalks xs zs
 then_walks xs ys zs a b = record { size = a.size ∙ b.size; word = λ f i. then _ _ _ (a.word f i) (b.word f i) }
@@ -116,21 +99,14 @@ record TwoWrites (bytes : List ℕ) (a i b j : ℕ) (access : Access) (after : L
 
 second_word : (bytes : List ℕ) (a i b j : ℕ) (access : Access) → word_place a i + 4 ≤ length bytes → accessed_word (word_at bytes (word_place a i)) < 2 ^ 32
     → touched_word access (word_at (halfway bytes a i) (word_place b j)) ≡ touched_word access (word_at bytes (word_place b j))
-second_word bytes a i b j access inside fits = elim (apart a i b j) [
-  | inl e ↦ let P : ℕ → Type 0 = λ q. touched_word access (word_at (halfway bytes a i) q) ≡ touched_word access (word_at bytes q)
-      in subst P e (ap (touched_word access) (word_at-with_word_same bytes (word_place a i) (accessed_word (word_at bytes (word_place a i))) inside fits) ∙ touched_twice access (word_at bytes (word_place a i)))
-  | inr side ↦ ap (touched_word access) (word_at-with_word_other bytes (word_place a i) (word_place b j) (accessed_word (word_at bytes (word_place a i))) inside side)
-]
+second_word bytes a i b j access inside fits =
+    grind (arith, apart, word_at-with_word_same, touched_twice, word_at-with_word_other)
 
 first_word : (bytes : List ℕ) (a i b j : ℕ) (access : Access) → word_place a i + 4 ≤ length bytes → word_place b j + 4 ≤ length (halfway bytes a i)
     → accessed_word (word_at bytes (word_place a i)) < 2 ^ 32 → word_place a i ≢ word_place b j
     → word_at (written_twice bytes a i b j access) (word_place a i) ≡ accessed_word (word_at bytes (word_place a i))
-first_word bytes a i b j access inside also fits n = elim (apart b j a i) [
-  | inl e ↦ absurd (n (sym e))
-  | inr side ↦
-      word_at-with_word_other (halfway bytes a i) (word_place b j) (word_place a i) (touched_word access (word_at (halfway bytes a i) (word_place b j))) also side
-      ∙ word_at-with_word_same bytes (word_place a i) (accessed_word (word_at bytes (word_place a i))) inside fits
-]
+first_word bytes a i b j access inside also fits n =
+    grind (arith, apart, word_at-with_word_other, word_at-with_word_same)
 
 two_writes : (bytes : List ℕ) (a i b j : ℕ) (access : Access) → word_at bytes (word_place a i) < 2 ^ 32 → word_at bytes (word_place b j) < 2 ^ 32 → word_place a i + 4 ≤ length bytes → word_place b j + 4 ≤ length bytes
     → TwoWrites bytes a i b j access (written_twice bytes a i b j access)

@@ -1,8 +1,8 @@
 -- What accesses cost: nothing where the page is mapped, and what its page needs where it is not.
-use Rattle.address_space.proofs.Prelude.{◌≡◌, ℕ, Bool, true, false, cond, List, refl, ap, sym, ◌∙◌, inl, inr, Option}
-use Rattle.address_space.proofs.Prelude.{Some, None, is_some, if◌then◌else◌, option_map, same, Set, same_or_not}
-use Rattle.address_space.proofs.Prelude.{get-insert, get-map_values, Slot, slot_order, Cell, Spaces, cost, cost_of}
-use Rattle.address_space.proofs.Prelude.{stored, set_bytes, with_bytes, cell_or_fresh, at_page}
+use Rattle.address_space.proofs.Prelude
+use Prelude.{arith, ◌≡◌, ℕ, true, cond, List, ap, sym, ◌∙◌, Option, is_some, if◌then◌else◌, option_map, same, Set}
+use Prelude.{same_or_not, get-insert, get-map_values, Slot, slot_order, Cell, Spaces, cost, cost_of, stored, set_bytes}
+use Prelude.{with_bytes, cell_or_fresh, at_page}
 use Rattle.address_space.proofs.costs.Costs.{same_pages}
 use Rattle.page_words.specs.FiniteMap as map
 use Rattle.page_words.specs.FiniteSet as set
@@ -12,25 +12,17 @@ pub cost-same : (S T : Spaces) (p : ℕ) → ((q : Slot) → map.contains_key S 
 cost-same S T p is = ap cost_of (same_pages S T p p (λ page. is (at_page p page)))
 
 pub key-insert : (S : Spaces) (slot : Slot) (c : Cell) (q : Slot) → map.contains_key (map.insert S slot c) q ≡ cond (same slot_order q slot) true (map.contains_key S q)
-key-insert S slot c q = ap is_some (get-insert S slot c q) ∙ by (same slot_order q slot)
-  where
-    by : (b : Bool) → is_some (cond b (Some c) (map.get S q)) ≡ cond b true (is_some (map.get S q))
-    by true = refl
-    by false = refl
+key-insert S slot c q = grind (arith, is_some, get-insert, same, slot_order)
 
 key-set_bytes : (S : Spaces) (group : Set slot_order) (bytes : List ℕ) (q : Slot) → map.contains_key (set_bytes S group bytes) q ≡ map.contains_key S q
 key-set_bytes S group bytes q = ap is_some (get-map_values slot_order (λ slot cell. if set.contains group slot then with_bytes cell bytes else cell) S q) ∙ by (map.get S q)
   where
     by : (x : Option Cell) → is_some (option_map (λ cell. if set.contains group q then with_bytes cell bytes else cell) x) ≡ is_some x
-    by None = refl
-    by (Some c) = refl
+    by x = grind arith
 
 -- a store maps the slots that an insertion maps
 pub key-stored : (S : Spaces) (slot : Slot) (at : ℕ) (new : List ℕ) (c : Cell) (q : Slot) → map.contains_key (stored S slot at new) q ≡ map.contains_key (map.insert S slot c) q
 key-stored S slot at new c q = key-insert (set_bytes S (cell_or_fresh S slot).holders _) slot _ q ∙ ap (cond (same slot_order q slot) true) (key-set_bytes S (cell_or_fresh S slot).holders _ q) ∙ sym (key-insert S slot c q)
 
 pub kept : (S : Spaces) (slot : Slot) (c : Cell) → is_some (map.get S slot) ≡ true → (q : Slot) → map.contains_key (map.insert S slot c) q ≡ map.contains_key S q
-kept S slot c found q = key-insert S slot c q ∙ elim (same_or_not slot_order q slot) [
-  | inl h ↦ ap (λ b. cond b true (map.contains_key S q)) h.1 ∙ sym (ap (map.contains_key S) h.0 ∙ found)
-  | inr h ↦ ap (λ b. cond b true (map.contains_key S q)) h
-]
+kept S slot c found q = grind (arith, key-insert, same_or_not, slot_order)

@@ -1,13 +1,11 @@
 -- What a process is charged for, as its directory and tables show it.
 use Rattle.address_space.proofs.Prelude
 use Prelude.{◌≡◌, ℕ, ◌+◌, ◌*◌, ◌<◌, ◌≤◌, Bool, true, false, cond, ◌||◌, List, refl, ap, sym, ◌∙◌, arith, inl, inr}
-use Prelude.{Option, Some, ◌&&◌, is_some, nat_lt, if◌then◌else◌, option_and_then, option_map, cases_lt, nat_tests}
-use Prelude.{slot_number, nat_order, same, Set, same_or_not, same_itself, same_set, contains-insert}
-use Prelude.{contains-retain, len-insert, get-map_values, frame_bytes, Role, PageEntry, table_of, entry_at}
-use Prelude.{get-entries_user, get-entries_other, user_cases, Cell, Spaces, cost, pages_of, regions_of, at_page}
-use Prelude.{cell_of, directory_of, table_in, entries_in, spaces_in, IsSpaces, and-false, and-true, is_some-map}
-use Rattle.page_words.proofs.MapLemmas.{len-change_each}
-use Rattle.page_map.specs.Pages.{entries_of, counted}
+use Prelude.{Option, Some, ◌&&◌, is_some, nat_lt, if◌then◌else◌, option_and_then, cases_lt, nat_tests, slot_number}
+use Prelude.{nat_order, same, Set, same_or_not, same_itself, same_set, contains-insert, contains-retain, len-insert}
+use Prelude.{get-map_values, len-change_each, frame_bytes, Role, PageEntry, table_of, get-entries_user}
+use Prelude.{get-entries_other, user_cases, Cell, Spaces, cost, pages_of, regions_of, at_page, cell_of, directory_of}
+use Prelude.{table_in, entries_in, spaces_in, IsSpaces, and-false, and-true, is_some-map, entries_of, counted}
 use Rattle.address_space.proofs.costs.Costs.{contains-pages_of}
 use Rattle.address_space.proofs.costs.CostSteps.{region_member}
 use Rattle.address_space.proofs.steps.Departures.{no_cell_outside}
@@ -22,10 +20,7 @@ abbrev priced : Bool → ℕ
 priced b = if b then 1 else 2
 
 one_price : (b c : Bool) → priced b ≡ priced c → b ≡ c
-one_price true true h = refl
-one_price true false h = cc
-one_price false true h = cc
-one_price false false h = refl
+one_price b c h = grind arith
 
 -- how many of some regions are below one
 abbrev pub regions_below : Set nat_order → ℕ → ℕ
@@ -40,13 +35,7 @@ lt_false : (q s : ℕ) → s ≤ q → nat_lt q s ≡ false
 lt_false q s l = grind (arith, nat_tests)
 
 next_below : (q s : ℕ) → (q ≡ s → ⊥) → nat_lt q (s + 1) ≡ nat_lt q s
-next_below q s n = elim (cases_lt q s) [
-  | inl below ↦ lt_true q (s + 1) (omega arith) ∙ sym (lt_true q s below)
-  | inr above ↦ lt_false q (s + 1) (let k = not_at q s above n in omega arith) ∙ sym (lt_false q s above)
-]
-  where
-    not_at : (q s : ℕ) → s ≤ q → (q ≡ s → ⊥) → s + 1 ≤ q
-    not_at q s l n = omega arith
+next_below q s n = grind (arith, cases_lt, lt_true, lt_false)
 
 not_same : (q s : ℕ) → same nat_order q s ≡ false → q ≡ s → ⊥
 not_same q s h e = let t : same nat_order q s ≡ true = ap (same nat_order q) (sym e) ∙ same_itself nat_order q in cc
@@ -104,10 +93,7 @@ module _ (directories : List (Option ℕ)) (bytes : List ℕ) (roles : List Role
 
   -- what is mapped lies in the user range
   user_cell : (page : ℕ) → map.contains_key S (at_page p page) ≡ true → (0x40000 ≤ page) × (page < 0xf0000)
-  user_cell page there = elim (user_cases page) [
-    | inl user ↦ user
-    | inr out ↦ absurd (let none = ap is_some (no_cell_outside directories bytes roles p page spaces.sound out) in cc)
-  ]
+  user_cell page there = grind (arith, user_cases, no_cell_outside)
 
   user_region : (s : ℕ) → set.contains regions s ≡ true → (256 ≤ s) × (s < 960)
   user_region s there =
@@ -128,15 +114,13 @@ module _ (directories : List (Option ℕ)) (bytes : List ℕ) (roles : List Role
   regions_at_first = sym (ap set.len (same_set (set.retain regions (λ r. nat_lt r 256)) set.empty (λ q. contains-retain regions (λ r. nat_lt r 256) q ∙ by q (set.contains regions q) refl)))
     where
       by : (q : ℕ) (b : Bool) → set.contains regions q ≡ b → (b && nat_lt q 256) ≡ false
-      by q true there = let u = user_region q there in lt_false q 256 u.0
-      by q false none = refl
+      by q b there = grind (arith, user_region, lt_false)
 
   pub regions_at_last : regions_below regions 960 ≡ set.len regions
   regions_at_last = ap set.len (same_set (set.retain regions (λ r. nat_lt r 960)) regions (λ q. contains-retain regions (λ r. nat_lt r 960) q ∙ by q (set.contains regions q) refl))
     where
       by : (q : ℕ) (b : Bool) → set.contains regions q ≡ b → (set.contains regions q && nat_lt q 960) ≡ set.contains regions q
-      by q true there = let u = user_region q there in ap (λ b. set.contains regions q && b) (lt_true q 960 u.1) ∙ and-true (set.contains regions q)
-      by q false none = ap (λ b. b && nat_lt q 960) none ∙ sym none
+      by q b there = grind (arith, user_region, lt_true, and-true)
 
   pub regions_next : (s n k : ℕ) → 256 ≤ s → s < 960 → n ≡ regions_below regions s → k ≡ counted (is_some (table_of (frame_bytes bytes) d s)) → n + k ≡ regions_below regions (s + 1)
   regions_next s n k low high so_far one =
@@ -150,8 +134,7 @@ module _ (directories : List (Option ℕ)) (bytes : List ℕ) (roles : List Role
   pages_are_entries = same_set (pages_of S p) (map.map_values (λ page (e : PageEntry). tt) (entries_of (frame_bytes bytes) d)) (λ page.
       contains-pages_of S p page
       ∙ elim (user_cases page) [
-        | inl user ↦ ap is_some (get-spaces_in directories bytes p page few user.0 user.1 ∙ ap (λ x. option_map (cell page) (option_and_then (λ d. entry_at (frame_bytes bytes) d page) x)) live) ∙ is_some-map (cell page) (entry_at (frame_bytes bytes) d page)
-            ∙ sym (ap is_some (get-entries_user (frame_bytes bytes) d page user))
+        | inl user ↦ grind (arith, get-spaces_in, few, cell, is_some-map, get-entries_user)
         | inr out ↦ ap is_some (no_cell_outside directories bytes roles p page spaces.sound out) ∙ sym (ap is_some (get-entries_other (frame_bytes bytes) d page out))
       ]
       ∙ sym (ap is_some (get-map_values nat_order (λ page (e : PageEntry). tt) (entries_of (frame_bytes bytes) d) page) ∙ is_some-map (λ (e : PageEntry). tt) (map.get (entries_of (frame_bytes bytes) d) page)))
@@ -166,9 +149,4 @@ module _ (directories : List (Option ℕ)) (bytes : List ℕ) (roles : List Role
   charged tables pages t n = let k = count_pages in omega (arith, t, n, k)
 
   pub charge_fits : (tables pages : ℕ) → tables ≡ set.len regions → pages ≡ map.len (entries_of (frame_bytes bytes) d) → 1 + tables + pages ≤ 1048576
-  charge_fits tables pages t n =
-      let c = charged tables pages t n in
-      let w = cost_within directories S p spaces.sound.pids (ap is_some live) in
-      let in_all = spaces.within in
-      let most = spaces.sound.few in
-      omega (arith, c, w, in_all, most)
+  charge_fits tables pages t n = grind (arith, charged, cost_within, few)

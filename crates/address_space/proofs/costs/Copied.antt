@@ -1,9 +1,9 @@
 -- What stands where after a process's pages were copied to another, and what they cost it.
-use Rattle.address_space.proofs.Prelude.{◌≡◌, ◌≢◌, ℕ, Bool, true, false, cond, ◌||◌, ◌==◌, List, [], ◌∷◌, ◌++◌, map}
-use Rattle.address_space.proofs.Prelude.{refl, sym, ap, ◌∙◌, inl, inr, Option, Some, None, if◌then◌else◌, is_some, ◌⊎◌}
-use Rattle.address_space.proofs.Prelude.{option_map, list_any, is_some-find, or-true, ne_eqb, Order, same, same_or_not}
-use Rattle.address_space.proofs.Prelude.{same_itself, get-collect, list_any-map, Slot, slot_order, slot_cmp, Cell}
-use Rattle.address_space.proofs.Prelude.{Spaces, cost, cost_of, copy_of, copied_at, copied, at_page, eqb-true, eq-eqb}
+use Rattle.address_space.proofs.Prelude
+use Prelude.{arith, ◌≡◌, ◌≢◌, ℕ, Bool, true, false, cond, ◌||◌, ◌==◌, List, [], ◌∷◌, ◌++◌, map, refl, sym, ap, ◌∙◌}
+use Prelude.{Option, Some, None, if◌then◌else◌, is_some, ◌⊎◌, option_map, list_any, is_some-find, or-true, ne_eqb}
+use Prelude.{Order, same, same_or_not, same_itself, get-collect, list_any-map, Slot, slot_order, slot_cmp, Cell, Spaces}
+use Prelude.{cost, cost_of, copy_of, copied_at, copied, at_page, eqb-true, eq-eqb}
 use Rattle.std.proofs.lemmas.List.Folds.{list_any-append}
 use Rattle.address_space.proofs.costs.Costs.{same_pages}
 use Rattle.page_words.specs.FiniteMap as map_of
@@ -14,8 +14,7 @@ passes o t k [] h there = cc
 passes o t k (x ∷ xs) h there = one (same_or_not o k x) (passes o t k xs h)
   where
     one : ((k ≡ x) × (same o k x ≡ true)) ⊎ (same o k x ≡ false) → (list_any (same o k) xs ≡ true → list_any t xs ≡ true) → (t x || list_any t xs) ≡ true
-    one (inl e) rest = ap (λ b. b || list_any t xs) (ap t (sym e.0) ∙ h)
-    one (inr e) rest = ap (λ b. t x || b) (rest (sym (ap (λ b. b || list_any (same o k) xs) e) ∙ there)) ∙ or-true (t x)
+    one which rest = grind (arith, or-true)
 
 -- what stands at a slot
 pub get-copied : (S : Spaces) (from to : ℕ) (q : Slot) → map_of.get (copied S from to) q ≡ copied_at S from to q
@@ -33,12 +32,7 @@ get-copied S from to q = get-collect slot_order (copied_at S from to) (map_of.ke
     -- where something stands, the key is among those that are looked at
     of_copy : (c : Cell) → (q.pid == to) ≡ true → map_of.get S (at_page from q.page) ≡ Some c → list_any (same slot_order q) (ks ++ copies) ≡ true
     of_copy c own is =
-        let own_slot : q ≡ at_page to q.page = (λ i. record { pid = eqb-true q.pid to own i; page = q.page }) in
-        list_any-append (same slot_order q) ks copies
-        ∙ ap (λ b. list_any (same slot_order q) ks || b)
-        (list_any-map (λ slot. at_page to slot.page) (same slot_order q) ks
-        ∙ passes slot_order (λ slot. same slot_order q (at_page to slot.page)) (at_page from q.page) ks (ap (same slot_order q) (sym own_slot) ∙ same_itself slot_order q) (there (at_page from q.page) c is))
-        ∙ or-true (list_any (same slot_order q) ks)
+        grind (arith, eqb-true, list_any-append, ks, copies, list_any-map, passes, same_itself, there, or-true)
 
     of_other : (c : Cell) → map_of.get S q ≡ Some c → list_any (same slot_order q) (ks ++ copies) ≡ true
     of_other c is = list_any-append (same slot_order q) ks copies ∙ ap (λ b. b || list_any (same slot_order q) copies) (there q c is)
@@ -47,17 +41,14 @@ get-copied S from to q = get-collect slot_order (copied_at S from to) (map_of.ke
     nothing true own none = at (map_of.get S (at_page from q.page)) refl
       where
         at : (x : Option Cell) → map_of.get S (at_page from q.page) ≡ x → None ≡ copied_at S from to q
-        at None is = sym (ap (λ b. if b then option_map (copy_of q) (map_of.get S (at_page from q.page)) else map_of.get S q) own ∙ ap (option_map (copy_of q)) is)
-        at (Some c) is = let y = of_copy c own is in cc
+        at x is = grind (arith, of_copy)
     nothing false own none = at (map_of.get S q) refl
       where
         at : (x : Option Cell) → map_of.get S q ≡ x → None ≡ copied_at S from to q
-        at None is = sym (ap (λ b. if b then option_map (copy_of q) (map_of.get S (at_page from q.page)) else map_of.get S q) own ∙ is)
-        at (Some c) is = let y = of_other c is in cc
+        at x is = grind (arith, of_other)
 
     by : (b : Bool) → list_any (same slot_order q) (ks ++ copies) ≡ b → cond b (copied_at S from to q) None ≡ copied_at S from to q
-    by true is = refl
-    by false is = nothing (q.pid == to) refl is
+    by b is = grind (arith, nothing)
 
 -- at a page of the other process a copy, where there is one to make
 pub copied-own : (S : Spaces) (from to page : ℕ) → map_of.get (copied S from to) (at_page to page) ≡ option_map (copy_of (at_page to page)) (map_of.get S (at_page from page))
@@ -68,8 +59,7 @@ pub copied-other : (S : Spaces) (from to : ℕ) (q : Slot) → q.pid ≢ to → 
 copied-other S from to q n = get-copied S from to q ∙ ap (λ b. if b then option_map (copy_of q) (map_of.get S (at_page from q.page)) else map_of.get S q) (ne_eqb q.pid to n)
 
 copy-there : (slot : Slot) (x : Option Cell) → is_some (option_map (copy_of slot) x) ≡ is_some x
-copy-there slot None = refl
-copy-there slot (Some c) = refl
+copy-there slot x = grind arith
 
 -- the other process costs what the first one does
 pub cost-copied : (S : Spaces) (from to : ℕ) → cost (copied S from to) to ≡ cost S from

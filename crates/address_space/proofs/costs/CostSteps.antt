@@ -1,13 +1,12 @@
 -- The costs of all processes, and what one more page adds.
 use Rattle.address_space.proofs.Prelude
 use Prelude.{◌≡◌, ◌≢◌, ℕ, zero, suc, ◌+◌, ◌<◌, ◌≤◌, Bool, true, false, cond, ◌||◌, List, [], ◌∷◌, map, refl, ap, sym}
-use Prelude.{◌∙◌, subst, arith, inl, inr, Option, Some, None, ◌*◌, ◌⊎◌, is_some, if◌then◌else◌, sum_by, option_map}
+use Prelude.{◌∙◌, arith, inl, inr, Option, Some, None, ◌*◌, ◌⊎◌, is_some, if◌then◌else◌, sum_by, option_map}
 use Prelude.{option_and_then, list_any, range_with_len, is_some-find, cases_eq, sum_by-cons, slot_number, index_number}
 use Prelude.{Frames, word_entry, entry_from, PageEntry, word_in, Set, nat_order, same, Slot, slot_order, Cell, Spaces}
 use Prelude.{cost, cost_of, need, pages_of, regions_of, at_page, user_slots, same_itself, same_or_not, get-insert}
-use Prelude.{contains-from_list, list_any-map, Entries, cell_of, spaces_of, Directories, directory_of, table_in}
-use Prelude.{entry_in, entries_in, live_cost, total_cost, InUseAt, or-true, is_some-map}
-use Rattle.page_words.proofs.MapLemmas.{same-true}
+use Prelude.{contains-from_list, list_any-map, same-true, Entries, cell_of, spaces_of, Directories, directory_of}
+use Prelude.{table_in, entry_in, entries_in, live_cost, total_cost, InUseAt, or-true, is_some-map}
 use Rattle.address_space.proofs.entries.UserSlots.{in_user_slots}
 use Rattle.address_space.proofs.costs.Costs.{contains-pages_of, same_pages, cost-insert}
 use Rattle.address_space.proofs.entries.EntrySteps.{get-entries_in, entry_by_table}
@@ -29,12 +28,7 @@ sum_same f g a (suc n) is =
 pub sum_one : (f g : ℕ → ℕ) (p k a n : ℕ) → a ≤ p → p < a + n → f p ≡ g p + k → ((q : ℕ) → q ≢ p → f q ≡ g q) → sum_by f (range_with_len a n) ≡ sum_by g (range_with_len a n) + k
 sum_one f g p k a zero low high own others = absurd (omega arith)
 sum_one f g p k a (suc n) low high own others = elim (cases_eq p a) [
-  | inl same ↦
-      let s = sum_by-cons f a (range_with_len (a + 1) n) in
-      let t = sum_by-cons g a (range_with_len (a + 1) n) in
-      let h : f a ≡ g a + k = subst (λ x. f x ≡ g x + k) same own in
-      let r = sum_same f g (a + 1) n (λ q l. others q (λ e. above q a p l e same)) in
-      omega (arith, s, t, h, r)
+  | inl same ↦ grind (arith, sum_by-cons, sum_same, above)
   | inr differ ↦
       let s = sum_by-cons f a (range_with_len (a + 1) n) in
       let t = sum_by-cons g a (range_with_len (a + 1) n) in
@@ -53,10 +47,7 @@ unfolding total_cost
 total-same directories S S' is = sum_same _ _ 0 64 (λ p _. ap (λ n. if is_some (directory_of directories p) then n else 0) (ap cost_of (same_pages S' S p p (λ page. is (at_page p page)))))
 
 pub other_slot : (S : Spaces) (slot : Slot) (cell : Cell) (p page : ℕ) → p ≢ slot.pid → map_of.contains_key (map_of.insert S slot cell) (at_page p page) ≡ map_of.contains_key S (at_page p page)
-other_slot S slot cell p page n = ap is_some (get-insert S slot cell (at_page p page) ∙ elim (same_or_not slot_order (at_page p page) slot) [
-  | inl h ↦ absurd (n (ap (λ (s : Slot). s.pid) h.0))
-  | inr h ↦ ap (λ b. cond b (Some cell) (map_of.get S (at_page p page))) h
-])
+other_slot S slot cell p page n = grind (arith, get-insert, same_or_not)
 
 pub total-insert : (directories : List (Option ℕ)) (S : Spaces) (slot : Slot) (cell : Cell) (d : ℕ) → slot.pid < 64 → directory_of directories slot.pid ≡ Some d → map_of.get S slot ≡ None
     → total_cost directories (map_of.insert S slot cell) ≡ total_cost directories S + need S slot.pid slot.page
@@ -67,18 +58,10 @@ total-insert directories S slot cell d few live none =
     (λ q n. ap (λ c. if is_some (directory_of directories q) then c else 0) (ap cost_of (same_pages (map_of.insert S slot cell) S q q (λ page. other_slot S slot cell q page n))))
 
 pub need-least : (S : Spaces) (p page : ℕ) → 1 ≤ need S p page
-need-least S p page = by (set.contains (regions_of (pages_of S p)) (slot_number page))
-  where
-    by : (b : Bool) → 1 ≤ (if b then 1 else 2)
-    by true = omega arith
-    by false = omega arith
+need-least S p page = grind arith
 
 pub need-most : (S : Spaces) (p page : ℕ) → need S p page ≤ 2
-need-most S p page = by (set.contains (regions_of (pages_of S p)) (slot_number page))
-  where
-    by : (b : Bool) → (if b then 1 else 2) ≤ 2
-    by true = omega arith
-    by false = omega arith
+need-most S p page = grind arith
 
 -- ---- A page in a region has a table there
 
@@ -87,8 +70,7 @@ passing : (o : Set nat_order) (t : ℕ → Bool) → list_any t (set.items o) �
 passing o t h = let r = by (set.items o) h in (r.0, r.1, is_some-find nat_order.cmp r.0 o.entries ∙ r.2)
   where
     step : (x : ℕ) (xs : List ℕ) (b : Bool) → t x ≡ b → (b || list_any t xs) ≡ true → (list_any t xs ≡ true → (k : ℕ) × (t k ≡ true) × (list_any (same nat_order k) xs ≡ true)) → (k : ℕ) × (t k ≡ true) × (list_any (same nat_order k) (x ∷ xs) ≡ true)
-    step x xs true is h rest = (x, is, ap (λ b. b || list_any (same nat_order x) xs) (same_itself nat_order x))
-    step x xs false is h rest = let r = rest h in (r.0, r.1, ap (λ b. same nat_order r.0 x || b) r.2 ∙ or-true (same nat_order r.0 x))
+    step x xs b is h rest = grind (arith, same_itself, or-true)
 
     by : (ks : List ℕ) → list_any t ks ≡ true → (k : ℕ) × (t k ≡ true) × (list_any (same nat_order k) ks ≡ true)
     by [] h = cc
@@ -104,15 +86,10 @@ abbrev counted : Bool → ℕ
 counted b = if b then 1 else 2
 
 pub keys : (E : Entries) (m : ℕ → List ℕ) (q : Slot) → map_of.contains_key (spaces_of E m) q ≡ is_some (map_of.get E q)
-keys E m q = ap is_some (get-spaces_of E m q) ∙ by (map_of.get E q)
-  where
-    by : (x : Option PageEntry) → is_some (option_map (cell_of E m q) x) ≡ is_some x
-    by None = refl
-    by (Some d) = refl
+keys E m q = grind (arith, get-spaces_of)
 
 none_cell : (E : Entries) (m : ℕ → List ℕ) (q : Slot) (x : Option PageEntry) → x ≡ None → option_map (cell_of E m q) x ≡ None
-none_cell E m q None h = refl
-none_cell E m q (Some d) h = cc
+none_cell E m q x h = grind arith
 
 -- an entry more costs what its page needs
 pub total-entry : (directories : List (Option ℕ)) (E : Entries) (m m' : ℕ → List ℕ) (slot : Slot) (e : PageEntry) (cell : Cell) (d : ℕ) → slot.pid < 64 → directory_of directories slot.pid ≡ Some d → map_of.get E slot ≡ None
@@ -125,8 +102,7 @@ total-entry directories E m m' slot e cell d few live none =
     ∙ total-insert directories (spaces_of E m) slot cell d few live (get-spaces_of E m slot ∙ none_cell E m slot (map_of.get E slot) none)
   where
     either : (b : Bool) (x : Option PageEntry) (y : Option Cell) → is_some x ≡ is_some y → is_some (cond b (Some e) x) ≡ is_some (cond b (Some cell) y)
-    either true x y h = refl
-    either false x y h = h
+    either b x y h = grind arith
 
 -- an entry in place of another costs the same
 pub total-kept : (directories : List (Option ℕ)) (E : Entries) (m m' : ℕ → List ℕ) (slot : Slot) (old new : PageEntry) → map_of.get E slot ≡ Some old
@@ -153,9 +129,7 @@ need-two D m p page none = by (set.contains (regions_of (pages_of (spaces_of (en
         absurd (gone (list_any (same slot_order q) user_slots) (entry_in D m q) no entry)
       where
         gone : (b : Bool) (x : Option PageEntry) → x ≡ None → is_some (cond b x None) ≡ true → ⊥
-        gone true None n h = cc
-        gone true (Some d) n h = cc
-        gone false x n h = cc
+        gone b x n h = grind arith
 
     by : (b : Bool) → set.contains (regions_of (pages_of (spaces_of (entries_in D m) m) p)) (slot_number page) ≡ b → ◌≡◌ {A = ℕ} (if set.contains (regions_of (pages_of (spaces_of (entries_in D m) m) p)) (slot_number page) then 1 else 2) 2
     by false is = ap (λ b. counted b) is
@@ -173,8 +147,7 @@ spread k (x ∷ xs) h = step (same_or_not nat_order k x) h (spread k xs)
     step : ((k ≡ x) × (same nat_order k x ≡ true)) ⊎ (same nat_order k x ≡ false) → (same nat_order k x || list_any (same nat_order k) xs) ≡ true
         → (list_any (same nat_order k) xs ≡ true → list_any (λ n. same nat_order (slot_number k) (slot_number n)) xs ≡ true)
         → (same nat_order (slot_number k) (slot_number x) || list_any (λ n. same nat_order (slot_number k) (slot_number n)) xs) ≡ true
-    step (inl e) h rest = ap (λ b. b || list_any (λ n. same nat_order (slot_number k) (slot_number n)) xs) (ap (λ y. same nat_order (slot_number k) (slot_number y)) (sym e.0) ∙ same_itself nat_order (slot_number k))
-    step (inr e) h rest = ap (λ b. same nat_order (slot_number k) (slot_number x) || b) (rest (ap (λ b. b || list_any (same nat_order k) xs) (sym e) ∙ h)) ∙ or-true _
+    step k h rest = grind (arith, same_itself, or-true)
 
 -- a page's region is one of the regions
 pub region_there : (pages : Set nat_order) (k : ℕ) → set.contains pages k ≡ true → set.contains (regions_of pages) (slot_number k) ≡ true

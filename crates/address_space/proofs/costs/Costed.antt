@@ -1,9 +1,8 @@
 -- The frames in use stay within the costs.
-use Rattle.address_space.proofs.Prelude.{◌≡◌, ℕ, ◌+◌, ◌<◌, ◌≤◌, List, length, refl, ap, sym, ◌∙◌, arith, inl, inr}
-use Rattle.address_space.proofs.Prelude.{Option, Some, None, slot_number, frame_bytes, Role, free_frames, frames_weight}
-use Rattle.address_space.proofs.Prelude.{Spaces, need, spaces_of, directory_of, table_in, entries_in, spaces_in}
-use Rattle.address_space.proofs.Prelude.{total_cost, IsSound, IsSpaces, table_need, TableGiven, SlotAdded}
-use Rattle.alloc_table.proofs.RoleLemmas.{free-by-weight}
+use Rattle.address_space.proofs.Prelude
+use Prelude.{◌≡◌, ℕ, ◌+◌, ◌<◌, ◌≤◌, List, length, refl, ap, sym, ◌∙◌, arith, inl, inr, Option, slot_number, frame_bytes}
+use Prelude.{Role, free_frames, frames_weight, Spaces, need, spaces_of, directory_of, table_in, entries_in, spaces_in}
+use Prelude.{total_cost, IsSound, IsSpaces, table_need, TableGiven, SlotAdded, free-by-weight}
 use Rattle.address_space.proofs.costs.CostSteps.{need-two, need-least}
 use Rattle.address_space.proofs.frames.FrameSteps.{here_or_not}
 
@@ -13,8 +12,7 @@ unfolding spaces_in
 need_table directories bytes p page = by (table_in (directory_of directories) (frame_bytes bytes) p (slot_number page)) refl
   where
     by : (x : Option ℕ) → table_in (directory_of directories) (frame_bytes bytes) p (slot_number page) ≡ x → table_need x + 1 ≤ need (spaces_of (entries_in (directory_of directories) (frame_bytes bytes)) (frame_bytes bytes)) p page
-    by None is = let h = need-two (directory_of directories) (frame_bytes bytes) p page is in omega (arith, h)
-    by (Some t) is = need-least (spaces_of (entries_in (directory_of directories) (frame_bytes bytes)) (frame_bytes bytes)) p page
+    by x is = grind (arith, need-two, need-least)
 
 abbrev pub Room : List (Option ℕ) → Spaces → List Role → ℕ → ℕ → Type 0
 Room directories spaces roles p page = 1 + total_cost directories spaces + need spaces p page ≤ length roles

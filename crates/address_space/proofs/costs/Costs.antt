@@ -1,12 +1,10 @@
 -- The pages of a process, and what one more page adds to the costs.
 use Rattle.address_space.proofs.Prelude
 use Prelude.{◌≡◌, ℕ, ◌+◌, Bool, true, false, cond, ◌||◌, ◌==◌, List, [], ◌∷◌, map, refl, sym, ap, ◌∙◌, Option, Some}
-use Prelude.{None, arith, ◌&&◌, if◌then◌else◌, is_some, list_any, where_key, is_some-find, nat_order, same}
-use Prelude.{Set, slot_number, Slot, slot_order, slot_cmp, Cell, Spaces, cost, cost_of, need, pages_of, regions_of}
-use Prelude.{at_page, get-insert, same_set, contains-insert, contains-from_list, len-insert, list_any-map}
-use Rattle.page_words.proofs.MapLemmas.{list_any-put}
-use Rattle.std.specs.Ordering.{is_eq, nat_cmp}
-use Rattle.std.specs.Cmp.{unsigned_tied, eq_by_cmp_equiv, tied_then}
+use Prelude.{None, arith, ◌&&◌, if◌then◌else◌, is_some, list_any, where_key, is_some-find, nat_order, same, Set}
+use Prelude.{slot_number, Slot, slot_order, slot_cmp, Cell, Spaces, cost, cost_of, need, pages_of, regions_of, at_page}
+use Prelude.{get-insert, same_set, contains-insert, contains-from_list, len-insert, list_any-map, list_any-put, is_eq}
+use Prelude.{nat_cmp, unsigned_tied, eq_by_cmp_equiv, tied_then}
 use Rattle.page_words.specs.FiniteMap as map
 use Rattle.page_words.specs.FiniteSet as set
 
@@ -47,8 +45,7 @@ pages-insert spaces slot cell = same_set (pages_of (map.insert spaces slot cell)
     ∙ sym (contains-insert (pages_of spaces slot.pid) slot.page page))
   where
     some_or : (b : Bool) (x : Option Cell) → is_some (cond b (Some cell) x) ≡ (b || is_some x)
-    some_or true x = refl
-    some_or false x = refl
+    some_or b x = grind arith
 
 pub regions-insert : (pages : Set nat_order) (page : ℕ) → regions_of (set.insert pages page) ≡ set.insert (regions_of pages) (slot_number page)
 regions-insert pages page = same_set (regions_of (set.insert pages page)) (set.insert (regions_of pages) (slot_number page)) (λ r.
@@ -61,8 +58,7 @@ regions-insert pages page = same_set (regions_of (set.insert pages page)) (set.i
     contains-regions pages r = contains-from_list nat_order (map slot_number (set.items pages)) r ∙ list_any-map slot_number (same nat_order r) (set.items pages) ∙ list_any-map (λ e. e.0) (λ n. same nat_order r (slot_number n)) pages.entries
 
 counted : (b : Bool) (m n : ℕ) → 1 + cond b m (m + 1) + (n + 1) ≡ (1 + m + n) + (if b then 1 else 2)
-counted true m n = omega arith
-counted false m n = omega arith
+counted b m n = grind arith
 
 -- a new page costs its process what it needs
 pub cost-insert : (spaces : Spaces) (slot : Slot) (cell : Cell) → map.get spaces slot ≡ None → cost (map.insert spaces slot cell) slot.pid ≡ cost spaces slot.pid + need spaces slot.pid slot.page

@@ -1,8 +1,8 @@
 -- How often a frame is in a list, and that all frames together are there no more often than the list is long.
-use Rattle.address_space.proofs.Prelude.{◌≡◌, ℕ, zero, suc, ◌+◌, ◌≤◌, ◌==◌, Bool, true, cond, ◌||◌, List, [], ◌∷◌, ◌++◌}
-use Rattle.address_space.proofs.Prelude.{map, length, refl, ap, sym, subst, ◌∙◌, arith, inl, inr, Some, slice_get}
-use Rattle.address_space.proofs.Prelude.{list_any, cases_eq, ne_eqb, sum_by-cons, Order, same, same_or_not, Role}
-use Rattle.address_space.proofs.Prelude.{weight, frames_weight, eq-eqb}
+use Rattle.address_space.proofs.Prelude
+use Prelude.{◌≡◌, ℕ, zero, suc, ◌+◌, ◌≤◌, ◌==◌, Bool, true, cond, ◌||◌, List, [], ◌∷◌, ◌++◌, map, length, refl, ap, sym}
+use Prelude.{subst, ◌∙◌, arith, inl, inr, Some, slice_get, list_any, cases_eq, ne_eqb, sum_by-cons, Order, same}
+use Prelude.{same_or_not, Role, weight, frames_weight, eq-eqb}
 
 abbrev pub once : Bool → ℕ
 once b = cond b 1 0
@@ -29,10 +29,7 @@ sum-add g h a (suc n) = let rest = sum-add g h (a + 1) n in omega (arith, rest)
 once-most : (x a n : ℕ) → sum_from (λ f. once (x == f)) a n ≤ 1
 once-most x a zero = omega arith
 once-most x a (suc n) = elim (cases_eq x a) [
-  | inl is ↦
-      let own : once (x == a) ≡ 1 = ap once (eq-eqb x a is) in
-      let rest = sum-none (λ f. once (x == f)) (a + 1) n (λ f l. ap once (ne_eqb x f (omega (arith, l, is)))) in
-      omega (arith, own, rest)
+  | inl is ↦ grind (arith, eq-eqb, sum-none, ne_eqb)
   | inr differ ↦
       let own : once (x == a) ≡ 0 = ap once (ne_eqb x a differ) in
       let rest = once-most x (a + 1) n in

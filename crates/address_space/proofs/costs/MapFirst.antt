@@ -1,9 +1,9 @@
 -- Pages that are mapped for an access, and what an access of mapped pages leaves mapped.
 use Rattle.address_space.proofs.Prelude
-use Prelude.{◌≡◌, ℕ, zero, suc, ◌+◌, ◌/◌, ◌%◌, ◌<◌, Bool, true, false, cond, [], ◌∷◌, refl, ap, ◌∙◌, arith, Option}
-use Prelude.{Some, None, if◌then◌else◌, IfSome, page_number, offset_number, byte_count, second_page, page_and, touched}
-use Prelude.{EachTouched, Size, same, same_itself, Slot, slot_order, Spaces, at_page, slot_at, cell_or_fresh, fresh}
-use Prelude.{accessed, stored, bytes_of, with_page, with_pages, all_accessed, all_stored}
+use Prelude.{◌≡◌, ℕ, zero, suc, ◌+◌, ◌/◌, ◌%◌, ◌<◌, true, [], ◌∷◌, refl, ap, ◌∙◌, arith, Option, Some, None}
+use Prelude.{if◌then◌else◌, IfSome, page_number, offset_number, byte_count, second_page, page_and, touched, EachTouched}
+use Prelude.{Size, same_itself, Slot, Spaces, at_page, slot_at, cell_or_fresh, fresh, accessed, stored, bytes_of}
+use Prelude.{with_page, with_pages, all_accessed, all_stored}
 use Rattle.address_space.proofs.costs.AccessCosts.{key-insert, key-stored, kept}
 use Rattle.address_space.proofs.steps.Bytes.{each_byte, stored_in_page}
 use Rattle.page_words.specs.FiniteMap as map
@@ -16,41 +16,18 @@ pub with_page-same : (S : Spaces) (p page : ℕ) → IsThere S p page → with_p
 with_page-same S p page there = ap (λ b. if b then S else map.insert S (at_page p page) (fresh (at_page p page) true)) there
 
 pub with_page-there : (S : Spaces) (p page : ℕ) → IsThere (with_page S p page) p page
-with_page-there S p page = by (map.contains_key S (at_page p page)) refl
-  where
-    by : (b : Bool) → map.contains_key S (at_page p page) ≡ b → IsThere (if b then S else map.insert S (at_page p page) (fresh (at_page p page) true)) p page
-    by true is = is
-    by false is = key-insert S (at_page p page) (fresh (at_page p page) true) (at_page p page) ∙ ap (λ b. cond b true (map.contains_key S (at_page p page))) (same_itself slot_order (at_page p page))
+with_page-there S p page = grind (arith, key-insert, same_itself)
 
 pub with_page-keeps : (S : Spaces) (p page : ℕ) (q : Slot) → map.contains_key S q ≡ true → map.contains_key (with_page S p page) q ≡ true
-with_page-keeps S p page q there = by (map.contains_key S (at_page p page))
-  where
-    either : (b : Bool) → cond b true true ≡ true
-    either true = refl
-    either false = refl
-
-    by : (b : Bool) → map.contains_key (if b then S else map.insert S (at_page p page) (fresh (at_page p page) true)) q ≡ true
-    by true = there
-    by false = key-insert S (at_page p page) (fresh (at_page p page) true) q ∙ ap (cond (same slot_order q (at_page p page)) true) there ∙ either (same slot_order q (at_page p page))
+with_page-keeps S p page q there = grind (arith, key-insert)
 
 -- where all pages of an access are mapped, none is mapped for it
 pub with_touched-same : (S : Spaces) (p address : ℕ) (size : Size) → EachTouched address size (IsThere S p) → with_pages S p (touched address size) ≡ S
-with_touched-same S p address size there = by (second_page address size) there.1
-  where
-    by : (x : Option ℕ) → IfSome x (IsThere S p) → with_pages S p (page_and (page_number address) x) ≡ S
-    by None h = with_page-same S p (page_number address) there.0
-    by (Some second) h = ap (λ T. with_page T p second) (with_page-same S p (page_number address) there.0) ∙ with_page-same S p second h
+with_touched-same S p address size there = grind (arith, with_page-same)
 
 -- each page that an access touches is mapped then
 pub touched-there : (S : Spaces) (p address : ℕ) (size : Size) → EachTouched address size (IsThere (with_pages S p (touched address size)) p)
-touched-there S p address size = by (second_page address size)
-  where
-    by : (x : Option ℕ) → IsThere (with_pages S p (page_and (page_number address) x)) p (page_number address) × IfSome x (IsThere (with_pages S p (page_and (page_number address) x)) p)
-    by None = (with_page-there S p (page_number address), tt)
-    by (Some second) = (
-      with_page-keeps (with_page S p (page_number address)) p second (at_page p (page_number address)) (with_page-there S p (page_number address)),
-      with_page-there (with_page S p (page_number address)) p second,
-    )
+touched-there S p address size = grind (arith, with_page-there, with_page-keeps)
 
 -- ---- What is mapped after an access of mapped pages
 
@@ -92,12 +69,8 @@ bytes_there S p address size there = each_byte address size (IsThere S p) there
 
 pub load_in_page : (S : Spaces) (p address : ℕ) (size : Size) → second_page address size ≡ None → IsThere S p (page_number address)
     → all_accessed (with_pages S p (touched address size)) p (touched address size) ≡ accessed S (slot_at p address)
-load_in_page S p address size within there =
-    ap (λ x. all_accessed (with_pages S p (page_and (page_number address) x)) p (page_and (page_number address) x)) within
-    ∙ ap (λ T. accessed T (slot_at p address)) (with_page-same S p (page_number address) there)
+load_in_page S p address size within there = grind (arith, with_page-same)
 
 pub store_in_page : (S : Spaces) (p address : ℕ) (size : Size) (value : ℕ) → second_page address size ≡ None → IsThere S p (page_number address)
     → all_stored (with_pages S p (touched address size)) p address (bytes_of (byte_count size) value) ≡ stored S (slot_at p address) (offset_number address) (bytes_of (byte_count size) value)
-store_in_page S p address size value within there =
-    ap (λ T. all_stored T p address (bytes_of (byte_count size) value)) (ap (λ x. with_pages S p (page_and (page_number address) x)) within ∙ with_page-same S p (page_number address) there)
-    ∙ stored_in_page S p address size value within
+store_in_page S p address size value within there = grind (arith, with_page-same, stored_in_page)

@@ -1,13 +1,13 @@
 -- What a process's cost falls by when one of its pages goes.
 use Rattle.address_space.proofs.Prelude
-use Prelude.{◌≡◌, ◌≢◌, ℕ, ◌+◌, ◌*◌, ◌%◌, ◌<◌, Bool, true, false, cond, not, List, refl, ap, sym, ◌∙◌, arith, inl, inr}
-use Prelude.{Option, Some, None, is_some, if◌then◌else◌, option_and_then, list_any, slot_number, same}
-use Prelude.{same_or_not, same_itself, get-insert, get-retain_keys, get-map_values, frame_bytes, PageEntry, entry_at}
-use Prelude.{Slot, slot_order, Cell, Spaces, cost, cost_of, need, pages_of, regions_of, without, is_slot, with_holders}
+use Prelude.{◌≡◌, ◌≢◌, ℕ, ◌+◌, ◌*◌, ◌%◌, ◌<◌, ◌≤◌, Bool, true, false, cond, not, List, refl, ap, sym, ◌∙◌, arith, inl}
+use Prelude.{inr, Option, Some, None, is_some, if◌then◌else◌, option_and_then, list_any, slot_number, same, same_or_not}
+use Prelude.{same_itself, get-insert, get-retain_keys, get-map_values, frame_bytes, PageEntry, entry_at, Slot}
+use Prelude.{slot_order, Cell, Spaces, cost, cost_of, need, pages_of, regions_of, without, is_slot, with_holders}
 use Prelude.{at_page, user_slots, directory_of, entry_in, entries_in, spaces_in, IsAlone, IsShared, is_some-map}
 use Prelude.{no_value}
 use Rattle.address_space.proofs.costs.Costs.{contains-pages_of, same_pages, cost-insert}
-use Rattle.address_space.proofs.costs.CostSteps.{region_there, region_member, keys}
+use Rattle.address_space.proofs.costs.CostSteps.{need-least, region_there, region_member, keys}
 use Rattle.address_space.proofs.entries.EntrySteps.{get-entries_in}
 use Rattle.address_space.proofs.entries.UserSlots.{in_user_slots}
 use Rattle.page_words.specs.FiniteMap as map
@@ -29,13 +29,12 @@ module _ (S : Spaces) (p page : ℕ) where
       ∙ by (not (is_slot p page q))
     where
       by : (b : Bool) → is_some (cond b (map.get S q) None) ≡ cond b (is_some (map.get S q)) false
-      by true = refl
-      by false = refl
+      by b = grind arith
 
   pub is_gone : map.get left slot ≡ None
   is_gone = no_value (map.get left slot) (key_left slot ∙ ap (λ b. cond (not b) (map.contains_key S slot) false) (same_itself slot_order slot))
 
-  others_left : (q : Slot) → is_slot p page q ≡ false → map.contains_key left q ≡ map.contains_key S q
+  pub others_left : (q : Slot) → is_slot p page q ≡ false → map.contains_key left q ≡ map.contains_key S q
   others_left q h = key_left q ∙ ap (λ b. cond (not b) (map.contains_key S q) false) h
 
   -- with the slot back, the same is mapped as before
@@ -48,13 +47,25 @@ module _ (S : Spaces) (p page : ℕ) where
       ]
     where
       turned : (q : Slot) → same slot_order q slot ≡ false → is_slot p page q ≡ false
-      turned q h = elim (same_or_not slot_order slot q) [
-        | inl e ↦ absurd (let a : same slot_order q slot ≡ true = ap (λ x. same slot_order x slot) (sym e.0) ∙ same_itself slot_order slot in cc)
-        | inr n ↦ n
-      ]
+      turned q h = grind (arith, same_or_not, same_itself)
 
   pub cost_left : (cell : Cell) → map.get S slot ≡ Some cell → cost S p ≡ cost left p + need left p page
   cost_left cell found = ap cost_of (same_pages S (map.insert left slot cell) p p (λ other. sym (put_back_keys cell found (at_page p other)))) ∙ cost-insert left slot cell is_gone
+
+  -- another page of the process is left as it was
+  pub page_left : (other : ℕ) → page ≢ other → map.contains_key left (at_page p other) ≡ map.contains_key S (at_page p other)
+  page_left other apart = others_left (at_page p other) (elim (same_or_not slot_order slot (at_page p other)) [
+    | inl e ↦ absurd (apart (ap (λ (x : Slot). x.page) e.0))
+    | inr n ↦ n
+  ])
+
+  -- a process that is charged for its directory alone doesn't have the page
+  pub light_lacks : cost S p ≤ 1 → map.get S slot ≡ None
+  light_lacks light = by (map.get S slot) refl
+    where
+      by : (x : Option Cell) → map.get S slot ≡ x → map.get S slot ≡ None
+      by None is = is
+      by (Some cell) is = absurd (omega (arith, cost_left cell is, need-least left p page))
 
 abbrev counted : Bool → ℕ
 counted b = if b then 1 else 2
@@ -91,8 +102,7 @@ relief_alone directories bytes p d page live alone = by (set.contains (regions_o
     m = frame_bytes bytes
 
     either : (b : Bool) (x : Option PageEntry) → is_some (cond b x None) ≡ true → is_some x ≡ true
-    either true x h = h
-    either false x h = cc
+    either b x h = grind arith
 
     clash : (other : ℕ) → slot_number other ≡ slot_number page → map.contains_key T (at_page p other) ≡ true → ⊥
     clash other region h =
@@ -108,8 +118,7 @@ relief_alone directories bytes p d page live alone = by (set.contains (regions_o
         cc
       where
         split : (b c : Bool) → cond (not b) c false ≡ true → (b ≡ false) × (c ≡ true)
-        split true c h = cc
-        split false c h = (refl, h)
+        split b c h = grind arith
 
     by : (b : Bool) → set.contains (regions_of (pages_of T p)) (slot_number page) ≡ b → ◌≡◌ {A = ℕ} (counted (set.contains (regions_of (pages_of T p)) (slot_number page))) 2
     by false is = ap counted is

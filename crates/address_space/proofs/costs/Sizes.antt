@@ -1,7 +1,7 @@
 -- A set of some of another's members is no larger, and fewer pages cost no more.
-use Rattle.address_space.proofs.Prelude.{◌≡◌, ℕ, suc, ◌≤◌, Bool, true, false, cond, List, [], ◌∷◌, length, refl, sym}
-use Rattle.address_space.proofs.Prelude.{subst, ◌∙◌, arith, ◌&&◌, where_key, Order, Set, same_set, contains-retain}
-use Rattle.address_space.proofs.Prelude.{Spaces, cost, pages_of, regions_of, at_page}
+use Rattle.address_space.proofs.Prelude
+use Prelude.{◌≡◌, ℕ, suc, ◌≤◌, Bool, true, cond, List, [], ◌∷◌, length, sym, subst, ◌∙◌, arith, ◌&&◌, where_key, Order}
+use Prelude.{Set, same_set, contains-retain, Spaces, cost, pages_of, regions_of, at_page}
 use Rattle.std.specs.declared.cmp.Ordering.{Ordering}
 use Rattle.address_space.proofs.costs.Costs.{contains-pages_of}
 use Rattle.address_space.proofs.costs.CostSteps.{region_member, region_there}
@@ -14,13 +14,10 @@ module _ {K X : Type 0} (R : K → K → Ordering) where
   length-where_key t (e ∷ es) = let rest = length-where_key t es in one (t e.0) rest
     where
       one : (b : Bool) → length (where_key R t es) ≤ length es → length (cond b (e ∷ where_key R t es) (where_key R t es)) ≤ suc (length es)
-      one true rest = omega (arith, rest)
-      one false rest = omega (arith, rest)
+      one b rest = grind arith
 
 both_is : (a b : Bool) → (b ≡ true → a ≡ true) → (a && b) ≡ b
-both_is true b h = refl
-both_is false true h = h refl
-both_is false false h = refl
+both_is a b h = grind arith
 
 -- a set of some of another's members has no more of them
 pub len-subset : {K : Type 0} {o : Order K} (s t : Set o) → ((k : K) → set.contains s k ≡ true → set.contains t k ≡ true) → set.len s ≤ set.len t
@@ -39,7 +36,4 @@ cost-within S T p q inside =
     page n h = contains-pages_of S p n ∙ inside n (sym (contains-pages_of T q n) ∙ h)
 
     region : (r : ℕ) → set.contains (regions_of (pages_of T q)) r ≡ true → set.contains (regions_of (pages_of S p)) r ≡ true
-    region r h =
-        let m = region_member (pages_of T q) r h in
-        let there : set.contains (pages_of S p) m.0 ≡ true = contains-pages_of S p m.0 ∙ inside m.0 (sym (contains-pages_of T q m.0) ∙ m.2) in
-        subst (λ n. set.contains (regions_of (pages_of S p)) n ≡ true) m.1 (region_there (pages_of S p) m.0 there)
+    region r h = grind (arith, region_member, contains-pages_of, region_there)

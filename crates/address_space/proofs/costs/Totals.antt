@@ -1,9 +1,9 @@
 -- What each process and all together cost after each kind of change, as laws of the definitions.
-use Rattle.address_space.proofs.Prelude.{◌≡◌, ◌≢◌, ℕ, ◌+◌, ◌<◌, ◌≤◌, Bool, true, false, cond, not, List, refl, ap, sym}
-use Rattle.address_space.proofs.Prelude.{◌∙◌, arith, Option, Some, None, is_some, if◌then◌else◌, option_map, same}
-use Rattle.address_space.proofs.Prelude.{get-map_values, Slot, slot_order, Cell, Spaces, cost, cost_of, need, accessed}
-use Rattle.address_space.proofs.Prelude.{stored, protected, joined, set_holders, with_holders, cell_or_fresh, without}
-use Rattle.address_space.proofs.Prelude.{at_page, directory_of, total_cost, some_value}
+use Rattle.address_space.proofs.Prelude
+use Prelude.{◌≡◌, ◌≢◌, ℕ, ◌+◌, ◌<◌, ◌≤◌, Bool, true, false, cond, List, ap, sym, ◌∙◌, arith, Option, None, is_some}
+use Prelude.{if◌then◌else◌, option_map, same, get-map_values, Slot, slot_order, Cell, Spaces, cost, cost_of, need}
+use Prelude.{accessed, stored, protected, joined, set_holders, with_holders, cell_or_fresh, without, at_page}
+use Prelude.{directory_of, total_cost, some_value}
 use Rattle.address_space.proofs.costs.AccessCosts.{cost-same, key-insert, key-stored, kept}
 use Rattle.address_space.proofs.costs.Costs.{cost-insert, same_pages}
 use Rattle.address_space.proofs.costs.CostSteps.{total-insert, other_slot, need-most}
@@ -12,11 +12,7 @@ use Rattle.page_words.specs.FiniteMap as map
 use Rattle.page_words.specs.FiniteSet as set
 
 key-each : (f : Slot → Cell → Cell) (S : Spaces) (q : Slot) → map.contains_key (map.map_values f S) q ≡ map.contains_key S q
-key-each f S q = ap is_some (get-map_values slot_order f S q) ∙ by (map.get S q)
-  where
-    by : (x : Option Cell) → is_some (option_map (f q) x) ≡ is_some x
-    by None = refl
-    by (Some c) = refl
+key-each f S q = grind (arith, is_some, get-map_values, slot_order, option_map)
 
 -- spaces with the same pages of a process cost it the same
 cost-by-pages : (S T : Spaces) (p : ℕ) → ((page : ℕ) → map.contains_key S (at_page p page) ≡ map.contains_key T (at_page p page)) → cost S p ≡ cost T p
@@ -57,11 +53,7 @@ cost-joined_other S giver slot right p n = cost-same (joined S giver slot right)
 -- ---- Slots less
 
 pub key-without : (S : Spaces) (gone : Slot → Bool) (q : Slot) → gone q ≡ false → map.contains_key (without S gone) q ≡ map.contains_key S q
-key-without S gone q stays = ap is_some (get-without S gone q ∙ ap (λ b. cond (not b) (option_map (λ cell. with_holders cell (set.retain cell.holders (λ s. not (gone s)))) (map.get S q)) None) stays) ∙ by (map.get S q)
-  where
-    by : (x : Option Cell) → is_some (option_map (λ cell. with_holders cell (set.retain cell.holders (λ s. not (gone s)))) x) ≡ is_some x
-    by None = refl
-    by (Some c) = refl
+key-without S gone q stays = grind (arith, is_some, get-without, option_map, with_holders)
 
 -- where slots go, processes that hold none of them cost the same
 pub cost-without_other : (S : Spaces) (gone : Slot → Bool) (p : ℕ) → ((page : ℕ) → gone (at_page p page) ≡ false) → cost (without S gone) p ≡ cost S p
@@ -71,7 +63,4 @@ cost-without_other S gone p stays = cost-by-pages (without S gone) S p (λ page.
 pub total_mapped_most : (directories : List (Option ℕ)) (S : Spaces) (slot : Slot) (cell : Cell) → slot.pid < 64 → is_some (directory_of directories slot.pid) ≡ true → map.get S slot ≡ None
     → total_cost directories (map.insert S slot cell) ≤ 2 + total_cost directories S
 total_mapped_most directories S slot cell few live none =
-    let d = some_value (directory_of directories slot.pid) live in
-    let t = total-insert directories S slot cell d.0 few d.1 none in
-    let most = need-most S slot.pid slot.page in
-    omega (arith, t, most)
+    grind (arith, some_value, directory_of, total-insert, need-most)

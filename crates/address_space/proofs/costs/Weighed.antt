@@ -1,17 +1,16 @@
 -- Where frames agree, they and the lazy pages weigh no more than the costs: each process has as many uses as it costs,
 -- and a frame has a use for each of its slots.
 use Rattle.address_space.proofs.Prelude
-use Prelude.{◌≡◌, ℕ, zero, suc, ◌+◌, ◌*◌, ◌<◌, ◌≤◌, ◌==◌, Bool, true, false, cond, ◌||◌, List, [], ◌∷◌, ◌++◌, length}
+use Prelude.{◌≡◌, ℕ, zero, suc, ◌+◌, ◌*◌, ◌<◌, ◌≤◌, ◌==◌, Bool, true, cond, ◌||◌, List, [], ◌∷◌, ◌++◌, length}
 use Prelude.{length-append, refl, ap, sym, subst, ◌∙◌, arith, inl, inr, Option, Some, None, slice_get, is_some}
 use Prelude.{if◌then◌else◌, sum_by, unwrap_or, option_map, option_and_then, list_any, range_with_len, is_some-find}
-use Prelude.{cases_eq, cases_lt, length-map, sum_by-cons, slot_number, index_number, Order, nat_order, same, Set}
-use Prelude.{same_or_not, same_itself, contains-from_list, len-insert, frame_bytes, word_in, Role, Reserved, Free}
-use Prelude.{Directory, Table, Page, weight, frames_weight, PageEntry, Frames, table_of, word_table, word_entry}
-use Prelude.{entry_from, entry_at, Slot, slot_order, Spaces, cost, pages_of, regions_of, at_page, user_slots, Entries}
-use Prelude.{names, holders_of, lazy_count, spaces_of, Directories, directory_of, table_in, entry_in, entries_in}
-use Prelude.{spaces_in, live_cost, total_cost, eqb-true, eq-eqb}
+use Prelude.{cases_eq, cases_lt, or_right, length-map, sum_by-cons, slot_number, index_number, Order, nat_order, same}
+use Prelude.{Set, same_or_not, same_itself, contains-from_list, len-insert, frame_bytes, word_in, Role, Reserved, Free}
+use Prelude.{Directory, Table, Page, weight, frames_weight, PageEntry, Frames, table_of, word_entry, entry_from}
+use Prelude.{entry_at, Slot, slot_order, Spaces, cost, pages_of, regions_of, at_page, user_slots, Entries, names}
+use Prelude.{holders_of, lazy_count, spaces_of, Directories, directory_of, table_in, entry_in, entries_in, spaces_in}
+use Prelude.{live_cost, total_cost, eqb-true, eq-eqb, IsSound, InUse, weight_in}
 use Rattle.std.proofs.Common.{map as list_map}
-use Rattle.address_space.specs.Sound.{IsSound, InUse, weight_in}
 use Rattle.address_space.proofs.costs.Costs.{contains-pages_of}
 use Rattle.address_space.proofs.costs.CostSteps.{keys, region_there}
 use Rattle.address_space.proofs.costs.Hits.{once, hits, sum-hits, hits-append, hits-map, weights-below}
@@ -33,26 +32,17 @@ len-from_list o (k ∷ ks) =
     omega (arith, l, most, rest)
   where
     at_most : (b : Bool) (n : ℕ) → cond b n (n + 1) ≤ n + 1
-    at_most true n = omega arith
-    at_most false n = omega arith
+    at_most b n = grind arith
 
 member : {K : Type 0} {o : Order K} (s : Set o) (k : K) → set.contains s k ≡ true → list_any (same o k) (set.items s) ≡ true
 member {K} {o} s k h = sym (is_some-find o.cmp k s.entries) ∙ h
-
-items_length : {K : Type 0} {o : Order K} (s : Set o) → length (set.items s) ≡ set.len s
-items_length s = length-map s.entries (λ e. e.0)
 
 any-append : {A : Type 0} (t : A → Bool) (xs ys : List A) → list_any t (xs ++ ys) ≡ (list_any t xs || list_any t ys)
 any-append t [] ys = refl
 any-append t (x ∷ xs) ys = ap (λ b. t x || b) (any-append t xs ys) ∙ or_assoc (t x) (list_any t xs) (list_any t ys)
   where
     or_assoc : (a b c : Bool) → (a || (b || c)) ≡ ((a || b) || c)
-    or_assoc true b c = refl
-    or_assoc false b c = refl
-
-or_either : (a b : Bool) → b ≡ true → (a || b) ≡ true
-or_either true b h = refl
-or_either false b h = h
+    or_assoc a b c = grind arith
 
 module _ (directories : List (Option ℕ)) (bytes : List ℕ) (roles : List Role) (S : IsSound directories bytes roles) (used : InUse (directory_of directories) (frame_bytes bytes)) where
   abbrev D : Directories
@@ -91,14 +81,7 @@ module _ (directories : List (Option ℕ)) (bytes : List ℕ) (roles : List Role
   uses a (suc n) = uses_of a (D a) ++ uses (a + 1) n
 
   length-uses_of : (p : ℕ) (x : Option ℕ) → length (uses_of p x) ≡ (if is_some x then cost spaces p else 0)
-  length-uses_of p None = refl
-  length-uses_of p (Some d) =
-      let both = length-append (list_map (table_at p) (set.items (regions p))) (list_map (frame_at p) (set.items (pages p))) in
-      let a = length-map (set.items (regions p)) (table_at p) in
-      let b = length-map (set.items (pages p)) (frame_at p) in
-      let c = items_length (regions p) in
-      let e = items_length (pages p) in
-      omega (arith, both, a, b, c, e)
+  length-uses_of p x = grind (arith, length-append, length-map)
 
   length-uses : (a n : ℕ) → length (uses a n) ≡ sum_by (live_cost D spaces) (range_with_len a n)
   unfolding uses
@@ -114,10 +97,7 @@ module _ (directories : List (Option ℕ)) (bytes : List ℕ) (roles : List Role
   unfolding uses
   hits-uses f p a zero low high = absurd (omega arith)
   hits-uses f p a (suc n) low high = elim (cases_eq p a) [
-    | inl is ↦
-        let both = hits-append f (uses_of a (D a)) (uses (a + 1) n) in
-        let own : hits f (uses_of p (D p)) ≡ hits f (uses_of a (D a)) = ap (λ q. hits f (uses_of q (D q))) is in
-        omega (arith, both, own)
+    | inl is ↦ grind (arith, hits-append, hits)
     | inr differ ↦
         let both = hits-append f (uses_of a (D a)) (uses (a + 1) n) in
         let rest = hits-uses f p (a + 1) n (omega (arith, differ)) (omega arith) in
@@ -138,13 +118,7 @@ module _ (directories : List (Option ℕ)) (bytes : List ℕ) (roles : List Role
 
   -- a slot outside the user range has no table
   user_slot : (p d s t : ℕ) → D p ≡ Some d → s < 1024 → table_of m d s ≡ Some t → (256 ≤ s) × (s < 960)
-  user_slot p d s t live wide is = elim (cases_lt s 256) [
-    | inl below ↦ absurd (let z = S.tables.outside p d s live wide (inl below) in let n : table_of m d s ≡ None = ap word_table z in cc)
-    | inr above ↦ elim (cases_lt s 960) [
-      | inl inside ↦ (above, inside)
-      | inr over ↦ absurd (let z = S.tables.outside p d s live wide (inr over) in let n : table_of m d s ≡ None = ap word_table z in cc)
-    ]
-  ]
+  user_slot p d s t live wide is = grind (arith, cases_lt)
 
   -- the region of a table has a page
   region-there : (p d s t : ℕ) → D p ≡ Some d → s < 1024 → table_in D m p s ≡ Some t → set.contains (regions p) s ≡ true
@@ -190,8 +164,7 @@ module _ (directories : List (Option ℕ)) (bytes : List ℕ) (roles : List Role
   length-slots_hit f p (page ∷ rest) = by (frame_at p page == f) (length-slots_hit f p rest)
     where
       by : (b : Bool) → length (slots_hit f p rest) ≡ hits f (list_map (frame_at p) rest) → length (cond b (at_page p page ∷ slots_hit f p rest) (slots_hit f p rest)) ≡ once b + hits f (list_map (frame_at p) rest)
-      by true h = omega (arith, h)
-      by false h = omega (arith, h)
+      by b h = grind arith
 
   any-slots_hit : (f p page : ℕ) (ps : List ℕ) → list_any (same nat_order page) ps ≡ true → frame_at p page ≡ f → list_any (same slot_order (at_page p page)) (slots_hit f p ps) ≡ true
   any-slots_hit f p page [] h e = cc
@@ -201,12 +174,10 @@ module _ (directories : List (Option ℕ)) (bytes : List ℕ) (roles : List Role
   ]
     where
       first : (b : Bool) → b ≡ true → same slot_order (at_page p page) (at_page p x) ≡ true → list_any (same slot_order (at_page p page)) (cond b (at_page p x ∷ slots_hit f p xs) (slots_hit f p xs)) ≡ true
-      first true h t = ap (λ b. b || list_any (same slot_order (at_page p page)) (slots_hit f p xs)) t
-      first false h t = cc
+      first b h t = grind arith
 
       later : (b : Bool) → list_any (same slot_order (at_page p page)) (slots_hit f p xs) ≡ true → list_any (same slot_order (at_page p page)) (cond b (at_page p x ∷ slots_hit f p xs) (slots_hit f p xs)) ≡ true
-      later true h = or_either (same slot_order (at_page p page) (at_page p x)) (list_any (same slot_order (at_page p page)) (slots_hit f p xs)) h
-      later false h = h
+      later b h = grind (arith, or_right)
 
   abbrev slots_of : ℕ → ℕ → Option ℕ → List Slot
   slots_of f p None = []
@@ -219,10 +190,7 @@ module _ (directories : List (Option ℕ)) (bytes : List ℕ) (roles : List Role
 
   length-slots_of : (f p : ℕ) (x : Option ℕ) → length (slots_of f p x) ≤ hits f (uses_of p x)
   length-slots_of f p None = omega arith
-  length-slots_of f p (Some d) =
-      let own = length-slots_hit f p (set.items (pages p)) in
-      let both = hits-append f (list_map (table_at p) (set.items (regions p))) (list_map (frame_at p) (set.items (pages p))) in
-      omega (arith, own, both)
+  length-slots_of f p (Some d) = grind (arith, length-slots_hit, hits-append)
 
   length-slots : (f a n : ℕ) → length (slots f a n) ≤ hits f (uses a n)
   unfolding uses slots
@@ -239,13 +207,12 @@ module _ (directories : List (Option ℕ)) (bytes : List ℕ) (roles : List Role
   any-slots f t p a zero low high h = absurd (omega arith)
   any-slots f t p a (suc n) low high h = any-append t (slots_of f a (D a)) (slots f (a + 1) n) ∙ elim (cases_eq p a) [
     | inl is ↦ ap (λ b. b || list_any t (slots f (a + 1) n)) (ap (λ q. list_any t (slots_of f q (D q))) (sym is) ∙ h)
-    | inr differ ↦ or_either (list_any t (slots_of f a (D a))) (list_any t (slots f (a + 1) n)) (any-slots f t p (a + 1) n (omega (arith, differ)) (omega arith) h)
+    | inr differ ↦ or_right (list_any t (slots_of f a (D a))) (list_any t (slots f (a + 1) n)) (any-slots f t p (a + 1) n (omega (arith, differ)) (omega arith) h)
   ]
 
   -- a slot that names f is one of them
   named : (f : ℕ) (x : Option PageEntry) → names f x ≡ true → (is_some x ≡ true) × (unwrap_or (option_map (λ (e : PageEntry). e.frame) x) 0 ≡ f)
-  named f None h = cc
-  named f (Some e) h = (refl, eqb-true e.frame f h)
+  named f x h = grind (arith, eqb-true)
 
   holder-in : (f : ℕ) (slot : Slot) → set.contains (holders_of E f) slot ≡ true → list_any (same slot_order slot) (slots f 0 64) ≡ true
   holder-in f slot h =
@@ -253,9 +220,7 @@ module _ (directories : List (Option ℕ)) (bytes : List ℕ) (roles : List Role
       by n (D slot.pid) refl
     where
       gone : (b : Bool) (x : Option PageEntry) → x ≡ None → is_some (cond b x None) ≡ true → ⊥
-      gone true None n h = cc
-      gone true (Some d) n h = cc
-      gone false x n h = cc
+      gone b x n h = grind arith
 
       by : (is_some (map_of.get E slot) ≡ true) × (frame_at slot.pid slot.page ≡ f) → (x : Option ℕ) → D slot.pid ≡ x → list_any (same slot_order slot) (slots f 0 64) ≡ true
       by n None is = absurd (gone (list_any (same slot_order slot) user_slots) (entry_in D m slot) (ap (option_and_then (λ d. entry_at m d slot.page)) is) (sym (ap is_some (get-entries_in D m slot)) ∙ n.0))

@@ -1,12 +1,11 @@
 -- How tables and entries change where one frame, one word or one role does.
 use Rattle.address_space.proofs.Prelude
 use Prelude.{◌≡◌, ◌≢◌, ℕ, ◌^◌, ◌<◌, ◌≤◌, Bool, true, false, cond, length, refl, ap, sym, ◌∙◌, subst, arith, inl, inr}
-use Prelude.{Option, Some, None, option_and_then, list_any, cases_eq, slot_number, index_number, IsKernelDirWord}
-use Prelude.{IsKernelTableWord, is_present, word_in, with_word_in, with_frame, with_frame-same, with_frame-other}
-use Prelude.{word_in_same, word_in_other, length-with_word_in, Reserved, Directory, Table, PageEntry, Frames}
-use Prelude.{word_table, table_of, word_entry, entry_at, Slot, slot_order, at_page, same, user_slots}
-use Prelude.{same_or_not, same_itself, get-insert, same_map, get-collect, Directories, Roles, table_in, entry_in}
-use Prelude.{entries_in, Tables, InUseAt}
+use Prelude.{Option, Some, None, option_and_then, list_any, cases_eq, slot_number, index_number, IsKernelTableWord}
+use Prelude.{is_present, word_in, with_word_in, with_frame, with_frame-same, with_frame-other, word_in_same}
+use Prelude.{word_in_other, length-with_word_in, Reserved, Directory, Table, PageEntry, Frames, word_table, table_of}
+use Prelude.{word_entry, entry_at, Slot, slot_order, at_page, same, user_slots, same_or_not, same_itself, get-insert}
+use Prelude.{same_map, get-collect, Directories, Roles, table_in, entry_in, entries_in, Tables, InUseAt}
 use Rattle.address_space.proofs.entries.UserSlots.{in_user_slots}
 use Rattle.address_space.proofs.entries.Removal.{removed, kept_other}
 use Rattle.page_words.specs.FiniteMap as map
@@ -30,23 +29,12 @@ differ q slot h k = let b = same_itself slot_order slot in let c : same slot_ord
 
 -- an entry, by its table
 pub entry_by_table : (D : Directories) (m : Frames) (q : Slot) → entry_in D m q ≡ option_and_then (λ table. word_entry (word_in (m table) (index_number q.page))) (table_in D m q.pid (slot_number q.page))
-entry_by_table D m q = by (D q.pid)
-  where
-    by : (x : Option ℕ) → option_and_then (λ d. entry_at m d q.page) x ≡ option_and_then (λ table. word_entry (word_in (m table) (index_number q.page))) (option_and_then (λ d. table_of m d (slot_number q.page)) x)
-    by None = refl
-    by (Some d) = refl
+entry_by_table D m q = grind arith
 
 -- an entry stays where its table does, with its bytes
 pub entry_kept : (D D' : Directories) (m m' : Frames) (q : Slot) → table_in D' m' q.pid (slot_number q.page) ≡ table_in D m q.pid (slot_number q.page)
     → ((t : ℕ) → table_in D m q.pid (slot_number q.page) ≡ Some t → m' t ≡ m t) → entry_in D' m' q ≡ entry_in D m q
-entry_kept D D' m m' q same kept =
-    entry_by_table D' m' q ∙ ap (option_and_then (λ table. word_entry (word_in (m' table) (index_number q.page)))) same
-    ∙ by (table_in D m q.pid (slot_number q.page)) refl ∙ sym (entry_by_table D m q)
-  where
-    by : (y : Option ℕ) → table_in D m q.pid (slot_number q.page) ≡ y
-        → option_and_then (λ table. word_entry (word_in (m' table) (index_number q.page))) y ≡ option_and_then (λ table. word_entry (word_in (m table) (index_number q.page))) y
-    by None is = refl
-    by (Some t) is = ap (λ l. word_entry (word_in l (index_number q.page))) (kept t is)
+entry_kept D D' m m' q same kept = grind (arith, entry_by_table)
 
 -- where each process has the same entries, so has the whole
 pub same_entries : (D : Directories) (m m' : Frames) → ((q : Slot) → entry_in D m' q ≡ entry_in D m q) → entries_in D m' ≡ entries_in D m
@@ -68,18 +56,10 @@ module _ (D : Directories) (m : Frames) (R : Roles) (T : Tables D m R) (p d page
   dir_kept q d' is = with_frame-other m t d' _ (λ same. let r = T.directory q d' is in let s = role_t in let k : R d' ≡ R t = ap R same in cc)
 
   pub tables_kept : (q s : ℕ) → table_in D (with_word_at m t page w) q s ≡ table_in D m q s
-  tables_kept q s = by (D q) refl
-    where
-      by : (x : Option ℕ) → D q ≡ x → option_and_then (λ d. table_of (with_word_at m t page w) d s) x ≡ option_and_then (λ d. table_of m d s) x
-      by None is = refl
-      by (Some d') is = ap (λ l. word_table (word_in l s)) (dir_kept q d' is)
+  tables_kept q s = grind (arith, dir_kept)
 
   pub entry_own : entry_in D (with_word_at m t page w) (at_page p page) ≡ word_entry w
-  entry_own =
-      ap (option_and_then (λ d. entry_at (with_word_at m t page w) d page)) live
-      ∙ ap (option_and_then (λ table. word_entry (word_in (with_word_at m t page w table) (index_number page)))) (ap (λ l. word_table (word_in l (slot_number page))) (dir_kept p d live) ∙ there)
-      ∙ ap (λ l. word_entry (word_in l (index_number page))) (with_frame-same m t (with_word_in (m t) (index_number page) w))
-      ∙ ap word_entry (word_in_same (m t) (index_number page) w long_t (omega arith) lt)
+  entry_own = grind (arith, dir_kept, with_frame-same, word_in_same, long_t)
 
   pub entry_other : (q : Slot) → (q ≡ record { pid = p; page = page } → ⊥) → entry_in D (with_word_at m t page w) q ≡ entry_in D m q
   entry_other q n = by (D q.pid) refl
@@ -101,8 +81,7 @@ module _ (D : Directories) (m : Frames) (R : Roles) (T : Tables D m R) (p d page
 
       with_table_at : (d' : ℕ) → D q.pid ≡ Some d' → (y : Option ℕ) → table_of m d' (slot_number q.page) ≡ y
           → option_and_then (λ table. word_entry (word_in (with_word_at m t page w table) (index_number q.page))) y ≡ option_and_then (λ table. word_entry (word_in (m table) (index_number q.page))) y
-      with_table_at d' is None found = refl
-      with_table_at d' is (Some t') found = ap word_entry (word d' t' is found)
+      with_table_at d' is y found = grind (arith, word)
 
       by : (x : Option ℕ) → D q.pid ≡ x → option_and_then (λ d. entry_at (with_word_at m t page w) d q.page) x ≡ option_and_then (λ d. entry_at m d q.page) x
       by None is = refl
@@ -115,10 +94,8 @@ module _ (D : Directories) (m : Frames) (R : Roles) (T : Tables D m R) (p d page
   entries-insert e holds few low high = same_map _ _ (λ q.
       get-entries_in D (with_word_at m t page w) q
       ∙ elim (same_or_not slot_order q (at_page p page)) [
-        | inl h ↦ let u : list_any (same slot_order q) user_slots ≡ true = ap (λ q. list_any (same slot_order q) user_slots) h.0 ∙ in_user_slots p page few low high in
-            ap (λ b. cond b (entry_in D (with_word_at m t page w) q) None) u ∙ ap (entry_in D (with_word_at m t page w)) h.0 ∙ entry_own ∙ holds ∙ sym (get-insert (entries_in D m) (at_page p page) e q ∙ ap (λ b. cond b (Some e) (map.get (entries_in D m) q)) h.1)
-        | inr h ↦ ap (λ x. cond (list_any (same slot_order q) user_slots) x None) (entry_other q (differ q (at_page p page) h))
-            ∙ sym (get-entries_in D m q) ∙ sym (get-insert (entries_in D m) (at_page p page) e q ∙ ap (λ b. cond b (Some e) (map.get (entries_in D m) q)) h)
+        | inl h ↦ grind (arith, in_user_slots, entry_own, get-insert)
+        | inr h ↦ grind (arith, entry_other, differ, get-entries_in, get-insert)
       ])
 
   word_kept : (t' i : ℕ) → i < 1024 → IsKernelTableWord w → IsKernelTableWord (word_in (m t') i) → IsKernelTableWord (word_in (with_word_at m t page w t') i)
@@ -131,28 +108,23 @@ module _ (D : Directories) (m : Frames) (R : Roles) (T : Tables D m R) (p d page
   ]
 
   pub tables-entry : IsKernelTableWord w → Tables D (with_word_at m t page w) R
-  tables-entry good = record {
-    zero_role = T.zero_role;
-    zero_bytes = with_frame-other m t 0 _ (λ is. let r = T.zero_role in let s = role_t in let k : R 0 ≡ R t = ap R is in cc) ∙ T.zero_bytes;
-    reserved = T.reserved;
-    directory = T.directory;
-    directory_back = T.directory_back;
-    table = λ q s f is. T.table q s f (sym (tables_kept q s) ∙ is);
-    table_back = λ q s f is. tables_kept q s ∙ T.table_back q s f is;
-    dir_words = λ q d' s is l. subst (λ w. IsKernelDirWord (word_in w s)) (sym (dir_kept q d' is)) (T.dir_words q d' s is l);
-    outside = λ q d' s is l o. ap (λ w. word_in w s) (dir_kept q d' is) ∙ T.outside q d' s is l o;
-    table_words = λ q s f i is l. word_kept f i l good (T.table_words q s f i (sym (tables_kept q s) ∙ is) l);
-    long = λ f r is. elim (cases_eq f t) [
-      | inl same_t ↦ ap (λ g. length (with_word_at m t page w g)) same_t ∙ ap length (with_frame-same m t (with_word_in (m t) (index_number page) w)) ∙ length-with_word_in (m t) (index_number page) w long_t (omega arith)
-      | inr differ ↦ ap length (with_frame-other m t f _ differ) ∙ T.long f r is
-    ];
-  }
+  tables-entry good =
+      grind (
+        arith,
+        with_frame-other,
+        role_t,
+        tables_kept,
+        dir_kept,
+        word_kept,
+        cases_eq,
+        with_frame-same,
+        length-with_word_in,
+        long_t,
+        differ,
+      )
 
   word_own : (g : ℕ) → g ≡ t → word_in (with_word_at m t page w g) (index_number page) ≡ w
-  word_own g same =
-      ap (λ g. word_in (with_word_at m t page w g) (index_number page)) same
-      ∙ ap (λ l. word_in l (index_number page)) (with_frame-same m t (with_word_in (m t) (index_number page) w))
-      ∙ word_in_same (m t) (index_number page) w long_t (omega arith) lt
+  word_own g same = grind (arith, with_frame-same, word_in_same, long_t)
 
   pub use_own : is_present w ≡ true → InUseAt D (with_word_at m t page w) p (slot_number page)
   use_own present g found =
@@ -171,12 +143,9 @@ module _ (D : Directories) (m : Frames) (R : Roles) (T : Tables D m R) (p d page
   entries-remove holds = same_map _ _ (λ q.
       get-entries_in D (with_word_at m t page w) q
       ∙ elim (same_or_not slot_order q (at_page p page)) [
-        | inl h ↦ ap (λ x. cond (list_any (same slot_order q) user_slots) x None) (ap (entry_in D (with_word_at m t page w)) h.0 ∙ entry_own ∙ holds) ∙ nothing_there (list_any (same slot_order q) user_slots)
-            ∙ sym (ap (map.get (map.remove (entries_in D m) (at_page p page))) h.0 ∙ removed (entries_in D m) (at_page p page))
-        | inr h ↦ ap (λ x. cond (list_any (same slot_order q) user_slots) x None) (entry_other q (differ q (at_page p page) h))
-            ∙ sym (get-entries_in D m q) ∙ sym (kept_other (entries_in D m) (at_page p page) q (differ q (at_page p page) h))
+        | inl h ↦ grind (arith, entry_own, nothing_there, removed)
+        | inr h ↦ grind (arith, entry_other, differ, get-entries_in, kept_other)
       ])
     where
       nothing_there : (b : Bool) → ◌≡◌ {A = Option PageEntry} (cond b None None) None
-      nothing_there true = refl
-      nothing_there false = refl
+      nothing_there b = grind arith

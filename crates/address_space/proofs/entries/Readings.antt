@@ -1,12 +1,10 @@
 -- What a slot, its bytes and its needs are read as.
 use Rattle.address_space.proofs.Prelude
-use Prelude.{◌≡◌, ℕ, ◌+◌, ◌*◌, ◌<◌, ◌≤◌, Bool, true, false, cond, List, [], ◌∷◌, length, take, drop, refl, ap, sym, ◌∙◌}
+use Prelude.{◌≡◌, ℕ, ◌+◌, ◌*◌, ◌<◌, ◌≤◌, true, false, cond, List, [], ◌∷◌, length, take, drop, refl, ap, sym, ◌∙◌}
 use Prelude.{arith, Option, Some, None, length-drop, slice_index, slice_get, is_some, option_and_then, option_map}
-use Prelude.{get_or-drop, is_some-map, slot_number, frame_bytes, word_at, Role, Page, Frames, entry_at}
-use Prelude.{IsKernelEntry, PageEntry, nat_tests, Slot, need, value_of, bytes_at, at_page, Entries, group_of, cell_of}
-use Prelude.{spaces_of, holders_of, Directories, directory_of, entry_in, entries_in, spaces_in, table_in, IsSound}
-use Prelude.{InUse, Inside}
-use Rattle.phys_memory.proofs.Frames.{byte-frame, length-frame, word_at-frame}
+use Prelude.{get_or-drop, is_some-map, slot_number, frame_bytes, word_at, Role, Page, entry_at, IsKernelEntry}
+use Prelude.{PageEntry, Slot, need, value_of, bytes_at, at_page, group_of, cell_of, spaces_of, holders_of, directory_of}
+use Prelude.{entries_in, spaces_in, table_in, IsSound, InUse, Inside, byte-frame, length-frame, word_at-frame}
 use Rattle.address_space.proofs.entries.UserSlots.{in_user_slots}
 use Rattle.address_space.proofs.entries.EntrySteps.{get-entries_in}
 use Rattle.address_space.proofs.costs.CostSteps.{need-one, need-two}
@@ -19,22 +17,12 @@ pub get-spaces_in : (directories : List (Option ℕ)) (bytes : List ℕ) (p page
     → map.get (spaces_in directories bytes) (at_page p page)
     ≡ option_map (cell_of (entries_in (directory_of directories) (frame_bytes bytes)) (frame_bytes bytes) (at_page p page)) (option_and_then (λ d. entry_at (frame_bytes bytes) d page) (directory_of directories p))
 unfolding spaces_in
-get-spaces_in directories bytes p page few low high =
-    let D : Directories = directory_of directories in
-    let m : Frames = frame_bytes bytes in
-    let slot : Slot = at_page p page in
-    get-spaces_of (entries_in D m) m slot
-    ∙ ap (option_map (cell_of (entries_in D m) m slot)) (get-entries_in D m slot ∙ ap (λ b. cond b (entry_in D m slot) None) (in_user_slots p page few low high))
+get-spaces_in directories bytes p page few low high = grind (arith, get-spaces_of, get-entries_in, in_user_slots)
 
 -- a slot is mapped where its entry is there
 pub mapped_read : (directories : List (Option ℕ)) (bytes : List ℕ) (p d page : ℕ) → directory_of directories p ≡ Some d → p < 64 → 0x40000 ≤ page → page < 0xf0000
     → is_some (map.get (spaces_in directories bytes) (at_page p page)) ≡ is_some (entry_at (frame_bytes bytes) d page)
-mapped_read directories bytes p d page live few low high =
-    let m : Frames = frame_bytes bytes in
-    let x : Option PageEntry = option_and_then (λ d. entry_at m d page) (directory_of directories p) in
-    ap is_some (get-spaces_in directories bytes p page few low high)
-    ∙ is_some-map (cell_of (entries_in (directory_of directories) m) m (at_page p page)) x
-    ∙ ap (λ x. is_some (option_and_then (λ d. entry_at m d page) x)) live
+mapped_read directories bytes p d page live few low high = grind (arith, get-spaces_in, is_some-map)
 
 -- ---- Numbers in a page
 
@@ -89,11 +77,4 @@ holders_counted directories bytes roles f c sound is = (sound.pages.counts f c i
 -- the size of a slot's group: the count of its page's frame, and 1 where it is lazy
 pub group_counted : (directories : List (Option ℕ)) (bytes : List ℕ) (roles : List Role) (slot : Slot) (e : PageEntry) (n : ℕ) → IsSound directories bytes roles → IsKernelEntry e
     → (e.lazy ≡ true → n ≡ 1) → (e.lazy ≡ false → slice_get roles e.frame ≡ Some (Page n)) → n ≡ set.len (group_of (entries_in (directory_of directories) (frame_bytes bytes)) slot e.frame)
-group_counted directories bytes roles slot e n sound rules lazy real = by e.lazy refl
-  where
-    E : Entries
-    E = entries_in (directory_of directories) (frame_bytes bytes)
-
-    by : (b : Bool) → e.lazy ≡ b → n ≡ set.len (group_of E slot e.frame)
-    by true is = lazy is ∙ sym (ap (λ f. set.len (group_of E slot f)) (rules.zero is))
-    by false is = let up = rules.frame is in holders_counted directories bytes roles e.frame n sound (real is) ∙ sym (ap set.len (group-real E slot e.frame (grind (arith, nat_tests))))
+group_counted directories bytes roles slot e n sound rules lazy real = grind (arith, holders_counted, group-real)

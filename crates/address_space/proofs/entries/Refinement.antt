@@ -1,18 +1,16 @@
 -- The spaces that a map from slots to page entries represents, given bytes for each frame; its steps are the machine's.
 use Rattle.address_space.proofs.Prelude
 use Prelude.{◌≡◌, ℕ, inl, inr, Bool, true, false, cond, not, ◌||◌, ◌==◌, List, refl, sym, ap, ◌∙◌, Option, Some, None}
-use Prelude.{◌&&◌, if◌then◌else◌, is_some, unwrap_or, option_map, Map, same, Set, Slot, slot_order, Cell, Spaces}
+use Prelude.{arith, ◌&&◌, if◌then◌else◌, is_some, unwrap_or, option_map, Map, same, Set, Slot, slot_order, Cell, Spaces}
 use Prelude.{write_at, stored, joined, set_bytes, set_holders, store_in, with_bytes, with_holders, without, fresh}
-use Prelude.{cell_or_fresh, same_or_not, get-insert, get-retain_keys, same_map, get-map_values, contains-insert}
-use Prelude.{contains-retain, same_set, nat_eq_equiv, PageEntry, with_frame, Entries, names, nothing, holders_of}
-use Prelude.{group_of, cell_of, spaces_of, eqb-true, eq-eqb, and-false, and-true}
-use Rattle.address_space.specs.Spaces.{join_in, zeros}
+use Prelude.{cell_or_fresh, join_in, zeros, same_or_not, get-insert, get-retain_keys, same_map, get-map_values}
+use Prelude.{contains-insert, contains-retain, same_set, nat_eq_equiv, PageEntry, with_frame, Entries, names, nothing}
+use Prelude.{holders_of, group_of, cell_of, spaces_of, eqb-true, eq-eqb, and-false, and-true}
 use Rattle.page_words.specs.FiniteMap as map
 use Rattle.page_words.specs.FiniteSet as set
 
 contained : (slot : Slot) (x : Option PageEntry) (f : ℕ) → (is_some (option_map (nothing slot) x) && names f x) ≡ names f x
-contained slot None f = refl
-contained slot (Some e) f = refl
+contained slot x f = grind arith
 
 pub contains-holders_of : (entries : Entries) (f : ℕ) (slot : Slot) → set.contains (holders_of entries f) slot ≡ names f (map.get entries slot)
 contains-holders_of entries f slot =
@@ -33,11 +31,7 @@ group-real entries slot f real = ap (λ b. if b then set.insert set.empty slot e
 
 -- a group stays where the slots of its frame do
 pub group-kept : (d e : Entries) (slot : Slot) (f : ℕ) → ((f == 0) ≡ false → holders_of e f ≡ holders_of d f) → group_of e slot f ≡ group_of d slot f
-group-kept d e slot f is = by (f == 0) refl
-  where
-    by : (b : Bool) → (f == 0) ≡ b → (if b then set.insert set.empty slot else holders_of e f) ≡ (if b then set.insert set.empty slot else holders_of d f)
-    by true zero = refl
-    by false real = is real
+group-kept d e slot f is = grind arith
 
 -- spaces after an entry was put in: its own cell, and what each other slot has
 pub spaces_insert : (entries : Entries) (bytes : ℕ → List ℕ) (slot : Slot) (new : PageEntry) (rest : Spaces) (own : Cell) → cell_of (map.insert entries slot new) bytes slot new ≡ own
@@ -65,12 +59,7 @@ stored_entry e = record e { accessed = true; dirty = true }
 -- an entry that keeps its frame keeps each frame's slots
 pub names-insert_same : (entries : Entries) (slot : Slot) (old new : PageEntry) → map.get entries slot ≡ Some old → new.frame ≡ old.frame
     → (f : ℕ) (q : Slot) → names f (map.get (map.insert entries slot new) q) ≡ names f (map.get entries q)
-names-insert_same entries slot old new found kept f q =
-    rw (get-insert entries slot new q)
-    (elim (same_or_not slot_order q slot) [
-      | inl h ↦ rw h.1 (ap (λ n. n == f) kept ∙ sym (ap (names f) (ap (map.get entries) h.0 ∙ found)))
-      | inr h ↦ rw h refl
-    ])
+names-insert_same entries slot old new found kept f q = grind (arith, get-insert, same_or_not)
 
 -- the cell of an entry
 pub cell_at : (entries : Entries) (bytes : ℕ → List ℕ) (slot : Slot) (e : PageEntry) → map.get entries slot ≡ Some e → cell_or_fresh (spaces_of entries bytes) slot ≡ cell_of entries bytes slot e
@@ -92,8 +81,7 @@ spaces_kept entries bytes slot new own mine kept =
     spaces_insert entries bytes slot new (spaces_of entries bytes) own mine (λ q x is. by q x is ∙ sym (get-spaces_of entries bytes q ∙ ap (option_map (cell_of entries bytes q)) is))
   where
     by : (q : Slot) (x : Option PageEntry) → map.get entries q ≡ x → option_map (cell_of (map.insert entries slot new) bytes q) x ≡ option_map (cell_of entries bytes q) x
-    by q None is = refl
-    by q (Some d) is = ap Some (cell_kept entries (map.insert entries slot new) bytes bytes q d (kept q d is))
+    by q x is = grind (arith, cell_kept)
 
 -- storing into the frame of a slot changes its group as the machine says
 pub store_refines : (entries : Entries) (bytes : ℕ → List ℕ) (slot : Slot) (e : PageEntry) (at : ℕ) (new : List ℕ) → map.get entries slot ≡ Some e → (e.frame == 0) ≡ false
@@ -108,8 +96,7 @@ store_refines entries bytes slot e at new found real =
     let held : (q : Slot) → set.contains cell.holders q ≡ names e.frame (map.get entries q) = λ q. ap (λ g. set.contains g q) (group-real entries slot e.frame real) ∙ contains-holders_of entries e.frame q in
     let others : (q : Slot) (x : Option PageEntry) → map.get entries q ≡ x → option_map (cell_of entries' bytes' q) x ≡ option_map (f q) (option_map (cell_of entries bytes q) x) = λ q x. elim x as (λ x. map.get entries q ≡ x → option_map (cell_of entries' bytes' q) x ≡ option_map (f q) (option_map (cell_of entries bytes q) x)) [
       | None ↦ λ _. refl
-      | Some d ↦ λ is. ap Some (cell_kept entries entries' bytes bytes' q d (kept q d.frame) ∙ chosen (d.frame == e.frame) (cell_of entries bytes q d) after
-          ∙ ap (λ b. if b then with_bytes (cell_of entries bytes q d) after else cell_of entries bytes q d) (sym (held q ∙ ap (names e.frame) is)))
+      | Some d ↦ grind (arith, cell_kept, chosen)
     ] in
     spaces_insert entries bytes' slot (stored_entry e) (set_bytes (spaces_of entries bytes) cell.holders after) (record cell { bytes = after; accessed = true; dirty = true })
     (λ i. record { write = e.write; may = e.may; accessed = true; dirty = true; bytes = if eqb_itself e.frame i then after else bytes e.frame; holders = kept slot e.frame i })
@@ -121,12 +108,10 @@ store_refines entries bytes slot e at new found real =
 -- what names a frame after a new slot has been given an entry: the slot too, where the entry names that frame
 pub names-insert : (entries : Entries) (slot : Slot) (new : PageEntry) (f : ℕ) (q : Slot)
     → names f (map.get (map.insert entries slot new) q) ≡ cond (same slot_order q slot) (new.frame == f) (names f (map.get entries q))
-names-insert entries slot new f q =
-    ap (names f) (get-insert entries slot new q) ∙ elim (same slot_order q slot) as (λ b. names f (cond b (Some new) (map.get entries q)) ≡ cond b (new.frame == f) (names f (map.get entries q))) [ true ↦ refl | false ↦ refl ]
+names-insert entries slot new f q = grind (arith, get-insert)
 
 either : (b x : Bool) → cond b true x ≡ (b || x)
-either true x = refl
-either false x = refl
+either b x = grind arith
 
 -- the frame of the new entry has that slot more
 pub holders-insert : (entries : Entries) (slot : Slot) (new : PageEntry) → holders_of (map.insert entries slot new) new.frame ≡ set.insert (holders_of entries new.frame) slot
@@ -166,8 +151,7 @@ join_refines entries bytes giver slot e right found real none =
     let held : (q : Slot) → set.contains cell.holders q ≡ names e.frame (map.get entries q) = λ q. ap (λ g. set.contains g q) same_group ∙ contains-holders_of entries e.frame q in
     let others : (q : Slot) (x : Option PageEntry) → map.get entries q ≡ x → option_map (cell_of entries' bytes q) x ≡ option_map (f q) (option_map (cell_of entries bytes q) x) = λ q x. elim x as (λ x. map.get entries q ≡ x → option_map (cell_of entries' bytes q) x ≡ option_map (f q) (option_map (cell_of entries bytes q) x)) [
       | None ↦ λ _. refl
-      | Some d ↦ λ is. ap Some (group q d (d.frame == e.frame) refl
-          ∙ ap (λ b. if b then with_holders (cell_of entries bytes q d) holders else cell_of entries bytes q d) (sym (held q ∙ ap (names e.frame) is)))
+      | Some d ↦ grind arith
     ] in
     spaces_insert entries bytes slot new (set_holders (spaces_of entries bytes) cell.holders holders) own
     (λ i. record own { holders = (group-real entries' slot e.frame real ∙ more) i })
@@ -177,13 +161,10 @@ join_refines entries bytes giver slot e right found real none =
 -- ---- Slots that leave
 
 option_filter : {X Y : Type 0} (f : X → Y) (b : Bool) (x : Option X) → option_map f (cond b x None) ≡ cond b (option_map f x) None
-option_filter f true x = refl
-option_filter f false x = refl
+option_filter f b x = grind arith
 
 names-filter : (f : ℕ) (b : Bool) (x : Option PageEntry) → names f (cond b x None) ≡ (names f x && b)
-names-filter f true None = refl
-names-filter f true (Some e) = sym (and-true (e.frame == f))
-names-filter f false x = sym (and-false (names f x))
+names-filter f b x = grind (arith, and-true, and-false)
 
 -- the entries of some slots go: the slots leave their groups as the machine says
 pub leave_refines : (entries : Entries) (bytes : ℕ → List ℕ) (gone : Slot → Bool) → spaces_of (map.retain_keys entries (λ s. not (gone s))) bytes ≡ without (spaces_of entries bytes) gone
@@ -196,10 +177,8 @@ leave_refines entries bytes gone =
     let f : Slot → Cell → Cell = λ q c. with_holders c (set.retain c.holders kept) in
     let alone : (q : Slot) → kept q ≡ true → set.insert set.empty q ≡ set.retain (set.insert set.empty q) kept = λ q stays. same_set (set.insert set.empty q) (set.retain (set.insert set.empty q) kept) (λ s.
     elim (same_or_not slot_order s q) [
-      | inl h ↦ contains-insert {o = slot_order} set.empty q s ∙ ap (λ b. b || false) h.1
-          ∙ sym (contains-retain {o = slot_order} (set.insert set.empty q) kept s ∙ (λ i. (contains-insert {o = slot_order} set.empty q s ∙ ap (λ b. b || false) h.1) i && (ap kept h.0 ∙ stays) i))
-      | inr h ↦ contains-insert {o = slot_order} set.empty q s ∙ ap (λ b. b || false) h
-          ∙ sym (contains-retain {o = slot_order} (set.insert set.empty q) kept s ∙ ap (λ b. b && kept s) (contains-insert {o = slot_order} set.empty q s ∙ ap (λ b. b || false) h))
+      | inl h ↦ grind (arith, contains-insert, contains-retain)
+      | inr h ↦ grind (arith, contains-insert, contains-retain)
     ]) in
     let group : (q : Slot) (d : PageEntry) (b : Bool) → (d.frame == 0) ≡ b → kept q ≡ true → group_of entries' q d.frame ≡ set.retain (group_of entries q d.frame) kept = λ q d b. elim b as (λ b. (d.frame == 0) ≡ b → kept q ≡ true → group_of entries' q d.frame ≡ set.retain (group_of entries q d.frame) kept) [
       | true ↦ λ zero stays. ap (λ b. if b then set.insert set.empty q else holders_of entries' d.frame) zero ∙ alone q stays
@@ -249,16 +228,12 @@ groups-stay entries slot new nowhere d apart q = group-kept entries (map.insert 
 pub lone_refines : (entries : Entries) (bytes : ℕ → List ℕ) (slot : Slot) (new : PageEntry) → ((f : ℕ) → (f == 0) ≡ false → names f (map.get entries slot) ≡ false)
     → group_of (map.insert entries slot new) slot new.frame ≡ set.insert set.empty slot → ((q : Slot) (d : PageEntry) → map.get entries q ≡ Some d → (d.frame == 0) ≡ false → (new.frame == d.frame) ≡ false)
     → spaces_of (map.insert entries slot new) bytes ≡ map.insert (spaces_of entries bytes) slot (record { write = new.write; may = new.may; accessed = new.accessed; dirty = new.dirty; bytes = bytes new.frame; holders = set.insert set.empty slot })
-lone_refines entries bytes slot new nowhere alone apart =
-    spaces_kept entries bytes slot new (record { write = new.write; may = new.may; accessed = new.accessed; dirty = new.dirty; bytes = bytes new.frame; holders = set.insert set.empty slot })
-    (λ i. record { write = new.write; may = new.may; accessed = new.accessed; dirty = new.dirty; bytes = bytes new.frame; holders = alone i }) (λ q d is. groups-stay entries slot new nowhere d (apart q d is) q)
+lone_refines entries bytes slot new nowhere alone apart = grind (arith, spaces_kept, groups-stay)
 
 -- a slot without an entry gets a lazy one: it has a fresh page
 pub lazy_refines : (entries : Entries) (bytes : ℕ → List ℕ) (slot : Slot) (write : Bool) → map.get entries slot ≡ None → bytes 0 ≡ zeros
     → spaces_of (map.insert entries slot (record { frame = 0; write = write; may = true; accessed = false; dirty = false; lazy = true })) bytes ≡ map.insert (spaces_of entries bytes) slot (fresh slot write)
-lazy_refines entries bytes slot write none clean =
-    lone_refines entries bytes slot (record { frame = 0; write = write; may = true; accessed = false; dirty = false; lazy = true }) (λ f _. ap (names f) none) refl (λ q d _ real. nat_eq_equiv.symm 0 d.frame ∙ real)
-    ∙ ap (λ x. map.insert (spaces_of entries bytes) slot (record (fresh slot write) { bytes = x })) clean
+lazy_refines entries bytes slot write none clean = grind (arith, lone_refines)
 
 -- the group of a slot whose entry is on frame 0
 pub alone_lazy : (entries : Entries) (slot : Slot) (f : ℕ) → f ≡ 0 → group_of entries slot f ≡ set.insert set.empty slot

@@ -1,6 +1,7 @@
 -- A map without a key, and the key put back.
-use Rattle.address_space.proofs.Prelude.{◌≡◌, true, cond, ap, sym, ◌∙◌, inl, inr, Some, None, not, Map, same, Slot}
-use Rattle.address_space.proofs.Prelude.{slot_order, same_itself, same_or_not, same_map, get-insert, get-retain_keys}
+use Rattle.address_space.proofs.Prelude
+use Prelude.{arith, ◌≡◌, true, cond, ap, sym, ◌∙◌, inl, inr, Some, None, not, Map, same, Slot, slot_order, same_itself}
+use Prelude.{same_or_not, same_map, get-insert, get-retain_keys}
 use Rattle.page_words.specs.FiniteMap as map_of
 
 get-remove : {X : Type 0} (m : Map slot_order X) (k q : Slot) → map_of.get (map_of.remove m k) q ≡ cond (not (same slot_order k q)) (map_of.get m q) None
@@ -13,10 +14,7 @@ pub kept_other : {X : Type 0} (m : Map slot_order X) (k q : Slot) → (q ≡ k �
 kept_other m k q n = get-remove m k q ∙ ap (λ b. cond b (map_of.get m q) None) apart
   where
     apart : not (same slot_order k q) ≡ true
-    apart = elim (same_or_not slot_order k q) [
-      | inl h ↦ absurd (n (sym h.0))
-      | inr h ↦ ap not h
-    ]
+    apart = grind (arith, same_or_not)
 
 -- a map is what is left without a key, with that key put back
 pub put_back : {X : Type 0} (m : Map slot_order X) (k : Slot) (x : X) → map_of.get m k ≡ Some x → map_of.insert (map_of.remove m k) k x ≡ m

@@ -1,11 +1,10 @@
 -- Entries on the same frame, and in the same table, after a change.
-use Rattle.address_space.proofs.Prelude.{none_goes, Gone, of_page, of_lazy, entry_frame, EntriesStay, PlacesStay, subst}
-use Rattle.address_space.proofs.Prelude.{◌≡◌, ◌≢◌, ℕ, Bool, true, false, cond, refl, ap, sym, ◌∙◌, inl, inr, Option}
-use Rattle.address_space.proofs.Prelude.{Some, None, option_map, option_and_then, get-insert, same_or_not, same_itself}
-use Rattle.address_space.proofs.Prelude.{PageEntry, Slot, slot_order, at_page, is_slot, Entries, slot_number}
-use Rattle.address_space.proofs.Prelude.{index_number, word_in, Frames, word_entry, list_any, same, user_slots}
-use Rattle.address_space.proofs.Prelude.{Directories, table_in, entry_in, entries_in, ◌&&◌, eq-eqb}
-use Rattle.address_space.specs.Stays.{slot_table}
+use Rattle.address_space.proofs.Prelude
+use Prelude.{arith, subst, ◌≡◌, ◌≢◌, ℕ, false, cond, ap, sym, ◌∙◌, inl, inr, Some, None, none_goes, Gone, of_page}
+use Prelude.{of_lazy, entry_frame, EntriesStay, PlacesStay, slot_table, option_map, option_and_then, get-insert}
+use Prelude.{same_or_not, same_itself, PageEntry, Slot, slot_order, at_page, is_slot, Entries, slot_number}
+use Prelude.{index_number, word_in, Frames, word_entry, list_any, same, user_slots, Directories, table_in, entry_in}
+use Prelude.{entries_in, eq-eqb}
 use Rattle.address_space.proofs.entries.EntrySteps.{get-entries_in, entry_by_table}
 use Rattle.address_space.proofs.entries.Removal.{kept_other}
 use Rattle.page_words.specs.FiniteMap as map
@@ -19,29 +18,16 @@ stay_then gone a b c first second slot f stays names = second slot f stays (firs
 -- an entry was put on the frame that it names
 pub stay_put : (gone : Gone) (E : Entries) (slot : Slot) (e e' : PageEntry) → map.get E slot ≡ Some e
     → e'.frame ≡ e.frame → EntriesStay gone E (map.insert E slot e')
-stay_put gone E slot e e' there kept q f stays names =
-    ap (option_map (λ (x : PageEntry). x.frame)) (get-insert E slot e' q)
-    ∙ elim (same_or_not slot_order q slot) [
-      | inl h ↦ ap (λ b. option_map (λ (x : PageEntry). x.frame) (cond b (Some e') (map.get E q))) h.1 ∙ ap Some kept
-          ∙ sym (ap (option_map (λ (x : PageEntry). x.frame)) (ap (map.get E) h.0 ∙ there)) ∙ names
-      | inr h ↦ ap (λ b. option_map (λ (x : PageEntry). x.frame) (cond b (Some e') (map.get E q))) h ∙ names
-    ]
+stay_put gone E slot e e' there kept q f stays names = grind (arith, option_map, get-insert, same_or_not, slot_order)
 
 -- an entry was put where none was
 pub stay_new : (gone : Gone) (E : Entries) (slot : Slot) (e : PageEntry) → map.get E slot ≡ None
     → EntriesStay gone E (map.insert E slot e)
-stay_new gone E slot e none q f stays names =
-    ap (option_map (λ (x : PageEntry). x.frame)) (get-insert E slot e q)
-    ∙ elim (same_or_not slot_order q slot) [
-      | inl h ↦ absurd (let k : None ≡ Some f = sym
-          (ap (option_map (λ (x : PageEntry). x.frame)) (ap (map.get E) h.0 ∙ none)) ∙ names in cc)
-      | inr h ↦ ap (λ b. option_map (λ (x : PageEntry). x.frame) (cond b (Some e) (map.get E q))) h ∙ names
-    ]
+stay_new gone E slot e none q f stays names = grind (arith, option_map, get-insert, same_or_not, slot_order)
 
 -- another slot than this page of this process
 apart : (p page : ℕ) (q : Slot) → is_slot p page q ≡ false → q ≢ at_page p page
-apart p page q h e = let a : is_slot p page q ≡ true = ap (is_slot p page) e
-    ∙ same_itself slot_order (at_page p page) in let k : true ≡ false = sym a ∙ h in cc
+apart p page q h e = grind (arith, is_slot, same_itself, slot_order, at_page)
 
 -- a lazy page's entry was put on another frame
 pub stay_filled : (E : Entries) (p page : ℕ) (e e' : PageEntry) → map.get E (at_page p page) ≡ Some e → e.frame ≡ 0
@@ -49,20 +35,13 @@ pub stay_filled : (E : Entries) (p page : ℕ) (e e' : PageEntry) → map.get E 
 stay_filled E p page e e' there zero q f stays names =
     ap (option_map (λ (x : PageEntry). x.frame)) (get-insert E (at_page p page) e' q)
     ∙ elim (same_or_not slot_order q (at_page p page)) [
-      | inl h ↦ absurd (
-          let own : Some f ≡ Some 0 = sym names ∙ ap (option_map (λ (x : PageEntry). x.frame))
-          (ap (map.get E) h.0 ∙ there) ∙ ap Some zero in
-          let is : f ≡ 0 = cc in
-          let here : is_slot p page q ≡ true = ap (is_slot p page) h.0 ∙ same_itself slot_order (at_page p page) in
-          let k : true ≡ false = sym (λ i. here i && eq-eqb f 0 is i) ∙ stays in
-          cc)
+      | inl h ↦ grind (arith, same_itself, eq-eqb)
       | inr h ↦ ap (λ b. option_map (λ (x : PageEntry). x.frame) (cond b (Some e') (map.get E q))) h ∙ names
     ]
 
 -- a page's entry went
 pub stay_removed : (E : Entries) (p page : ℕ) → EntriesStay (of_page p page) E (map.remove E (at_page p page))
-stay_removed E p page q f stays names = ap (option_map (λ (x : PageEntry). x.frame))
-    (kept_other E (at_page p page) q (apart p page q stays)) ∙ names
+stay_removed E p page q f stays names = grind (arith, option_map, kept_other, at_page, apart)
 
 -- ---- With their tables
 
@@ -70,10 +49,7 @@ stay_removed E p page q f stays names = ap (option_map (λ (x : PageEntry). x.fr
 pub places_by : (gone : Gone) (D : Directories) (m : Frames) (D' : Directories) (m' : Frames)
     → EntriesStay gone (entries_in D m) (entries_in D' m')
     → ((q r t : ℕ) → table_in D m q r ≡ Some t → table_in D' m' q r ≡ Some t) → PlacesStay gone D m D' m'
-places_by gone D m D' m' entries tables = record {
-  entries = entries;
-  tables = λ slot f t stays names is. tables slot.pid (slot_number slot.page) t is;
-}
+places_by gone D m D' m' entries tables = grind (arith, slot_number)
 
 -- where an entry was put where none was, and where one was put on the frame that it names
 pub places_new : (D : Directories) (m : Frames) (D' : Directories) (m' : Frames) (slot : Slot) (e : PageEntry) → map.get (entries_in D m) slot ≡ None
@@ -86,39 +62,36 @@ places_put D m D' m' slot e e' there kept is = places_by none_goes D m D' m' (su
 
 pub places_then : (gone : Gone) (D : Directories) (m : Frames) (D' : Directories) (m' : Frames) (D'' : Directories)
     (m'' : Frames) → PlacesStay gone D m D' m' → PlacesStay gone D' m' D'' m'' → PlacesStay gone D m D'' m''
-places_then gone D m D' m' D'' m'' first second = record {
-  entries = stay_then gone (entries_in D m) (entries_in D' m') (entries_in D'' m'') first.entries second.entries;
-  tables = λ slot f t stays names is.
-      second.tables slot f t stays (first.entries slot f stays names) (first.tables slot f t stays names is);
-}
+places_then gone D m D' m' D'' m'' first second = grind (arith, stay_then, entries_in)
 
 -- after a table was made ready, which changes no entry
 pub places_ready : (gone : Gone) (D : Directories) (m m' m'' : Frames) → entries_in D m' ≡ entries_in D m
     → ((q r t : ℕ) → table_in D m q r ≡ Some t → table_in D m' q r ≡ Some t) → PlacesStay gone D m' D m''
     → PlacesStay gone D m D m''
-places_ready gone D m m' m'' entries tables = places_then gone D m D m' D m''
-    (places_by gone D m D m' (stay_same gone (entries_in D m) (entries_in D m') entries) tables)
+places_ready gone D m m' m'' entries tables = grind (arith, places_then, places_by, stay_same, entries_in)
 
 -- where fewer go
 pub places_more : (gone gone' : Gone) (D : Directories) (m : Frames) (D' : Directories) (m' : Frames)
     → ((slot : Slot) (frame : ℕ) → gone slot frame ≡ false → gone' slot frame ≡ false)
     → PlacesStay gone' D m D' m' → PlacesStay gone D m D' m'
-places_more gone gone' D m D' m' fewer places = record {
-  entries = λ slot f stays names. places.entries slot f (fewer slot f stays) names;
-  tables = λ slot f t stays names is. places.tables slot f t (fewer slot f stays) names is;
-}
+places_more gone gone' D m D' m' fewer places = grind arith
 
 -- a slot without a table has no entry
 pub entry_needs_table : (D : Directories) (m : Frames) (q : Slot) (f : ℕ) → slot_table D m q ≡ None
     → entry_frame (entries_in D m) q ≡ Some f → ⊥
 entry_needs_table D m q f none names =
-    let nothing : entry_in D m q ≡ None = entry_by_table D m q
-    ∙ ap (option_and_then (λ table. word_entry (word_in (m table) (index_number q.page)))) none in
-    let k : None ≡ Some f = sym (ap (option_map (λ (x : PageEntry). x.frame))
-    (get-entries_in D m q ∙ ap (λ x. cond (list_any (same slot_order q) user_slots) x None) nothing
-    ∙ neither (list_any (same slot_order q) user_slots))) ∙ names in
-    cc
-  where
-    neither : (b : Bool) → cond {A = Option PageEntry} b None None ≡ None
-    neither true = refl
-    neither false = refl
+    grind (
+      arith,
+      entry_in,
+      entry_by_table,
+      option_and_then,
+      word_entry,
+      word_in,
+      index_number,
+      option_map,
+      get-entries_in,
+      list_any,
+      same,
+      slot_order,
+      user_slots,
+    )

@@ -1,16 +1,15 @@
 -- Every slot of the user range is one of the user slots.
-use Rattle.address_space.proofs.Prelude.{◌≡◌, ℕ, zero, suc, ◌+◌, ◌<◌, ◌≤◌, Bool, true, false, ◌||◌, List, [], ◌∷◌, ◌++◌}
-use Rattle.address_space.proofs.Prelude.{map, refl, sym, ap, ◌∙◌, arith, inl, inr, ◌&&◌, nat_cmp, list_any}
-use Rattle.address_space.proofs.Prelude.{range_with_len, same, nat_order, same_or_not, same_itself, list_any-map}
-use Rattle.address_space.proofs.Prelude.{slot_order, at_page, user_slots, slots_below, or-true, tied_then}
+use Rattle.address_space.proofs.Prelude
+use Prelude.{◌≡◌, ℕ, zero, suc, ◌+◌, ◌<◌, ◌≤◌, Bool, true, false, ◌||◌, List, [], ◌∷◌, ◌++◌, map, refl, sym, ap, ◌∙◌}
+use Prelude.{arith, inl, inr, ◌&&◌, nat_cmp, list_any, range_with_len, same, nat_order, same_or_not, same_itself}
+use Prelude.{list_any-map, slot_order, at_page, user_slots, slots_below, or-true, tied_then}
 
 any-append : {A : Type 0} (t : A → Bool) (xs ys : List A) → list_any t (xs ++ ys) ≡ (list_any t xs || list_any t ys)
 any-append t [] ys = refl
 any-append t (x ∷ xs) ys = ap (λ b. t x || b) (any-append t xs ys) ∙ or_assoc (t x) (list_any t xs) (list_any t ys)
   where
     or_assoc : (a b c : Bool) → (a || (b || c)) ≡ ((a || b) || c)
-    or_assoc true b c = refl
-    or_assoc false b c = refl
+    or_assoc a b c = grind arith
 
 range_any : (x a n : ℕ) → a ≤ x → x < a + n → list_any (λ y. same nat_order x y) (range_with_len a n) ≡ true
 range_any x a zero low high = absurd (omega arith)
@@ -38,10 +37,7 @@ slots_any p page zero pages low user = absurd (omega arith)
 slots_any p page (suc n) pages low user =
     any-append (same slot_order (at_page p page)) (map (at_page n) pages) (slots_below n pages)
     ∙ elim (same_or_not nat_order p n) [
-      | inl h ↦ ap (λ b. b || list_any (same slot_order (at_page p page)) (slots_below n pages))
-          (list_any-map (at_page n) (same slot_order (at_page p page)) pages
-          ∙ any_ext (λ y. same slot_order (at_page p page) (at_page n y)) (λ y. same nat_order page y) pages (λ y. slot_same_parts p page n y ∙ ap (λ b. b && same nat_order page y) h.1)
-          ∙ user)
+      | inl h ↦ grind (arith, list_any-map, any_ext, slot_same_parts)
       | inr h ↦ ap (λ b. list_any (same slot_order (at_page p page)) (map (at_page n) pages) || b) (slots_any p page n pages (below p n low (apart p n h)) user)
           ∙ or-true (list_any (same slot_order (at_page p page)) (map (at_page n) pages))
     ]

@@ -1,9 +1,9 @@
 -- A page has fewer holders than a count can say.
 use Rattle.address_space.proofs.Prelude
-use Prelude.{◌≡◌, ℕ, zero, suc, ◌+◌, ◌*◌, ◌<◌, ◌≤◌, Bool, true, false, cond, List, [], ◌∷◌, length, refl, ap, arith}
-use Prelude.{Option, Some, None, length-append, range_with_len, Page, PageEntry, Frames, change_each, collect, put_some}
-use Prelude.{where_key, length-map, Slot, slot_order, at_page, user_slots, slots_below, len-insert, Entries}
-use Prelude.{names, holders_of, nothing, Directories, Roles, entry_in, entries_in, Pages}
+use Prelude.{◌≡◌, ℕ, zero, suc, ◌+◌, ◌*◌, ◌<◌, ◌≤◌, Bool, cond, List, [], ◌∷◌, length, refl, ap, arith, Option, Some}
+use Prelude.{None, length-append, range_with_len, Page, PageEntry, Frames, change_each, collect, put_some, where_key}
+use Prelude.{length-map, Slot, slot_order, at_page, user_slots, slots_below, len-insert, Entries, names, holders_of}
+use Prelude.{nothing, Directories, Roles, entry_in, entries_in, Pages}
 use Rattle.std.proofs.Common.{map as map_list}
 use Rattle.std.proofs.Math.Nat.{add-mul}
 use Rattle.page_words.specs.FiniteMap as map
@@ -19,8 +19,7 @@ few_holders E f n h = let a = kept (map.map_values nothing E).entries in let b =
       where
         step : (b : Bool) → length (where_key slot_order.cmp (λ slot. names f (map.get E slot)) es) ≤ length es
             → length (cond b (e ∷ where_key slot_order.cmp (λ slot. names f (map.get E slot)) es) (where_key slot_order.cmp (λ slot. names f (map.get E slot)) es)) ≤ length (e ∷ es)
-        step true h = omega arith
-        step false h = omega arith
+        step b h = grind arith
 
     changed : (es : List (Slot × PageEntry)) → length (change_each nothing es) ≡ length es
     changed [] = refl
@@ -35,8 +34,7 @@ collected g (k ∷ ks) = by (g k) (collected g ks)
     by (Some e) h = let l = len-insert (collect {o = slot_order} g ks) k e in let c = at_most (map.contains_key (collect {o = slot_order} g ks) k) (map.len (collect {o = slot_order} g ks)) in omega (arith, l, c, h)
       where
         at_most : (b : Bool) (n : ℕ) → cond b n (n + 1) ≤ n + 1
-        at_most true n = omega arith
-        at_most false n = omega arith
+        at_most b n = grind arith
 
 suc_times : (n k : ℕ) → suc n * k ≡ k + n * k
 suc_times n k = omega (arith, add-mul n 1 k)

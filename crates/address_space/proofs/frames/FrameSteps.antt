@@ -1,13 +1,11 @@
 -- How tables and entries stay where a page's bytes or its role change, and how a blank table is linked.
 use Rattle.address_space.proofs.Prelude
-use Prelude.{◌≡◌, ◌≢◌, ℕ, ◌^◌, ◌<◌, ◌≤◌, false, List, length, replicate, refl, ap, sym, ◌∙◌, subst, arith, inl, inr}
-use Prelude.{Option, Some, None, ◌⊎◌, if◌then◌else◌, option_and_then, cases_eq, length-replicate, slot_number}
-use Prelude.{index_number, IsKernelDirWord, IsKernelTableWord, NamesTable, is_present, word_in, with_word_in}
-use Prelude.{with_frame, with_frame-same, with_frame-other, word_in_same, word_in_other, length-with_word_in, Role}
-use Prelude.{Reserved, Free, Directory, Table, Frames, word_table, table_of, word_entry, entry_from, with_table}
-use Prelude.{without_table, Slot, Directories, Roles, table_in, entry_in, entries_in, Tables, InUseAt}
-use Rattle.phys_memory.proofs.Frames.{word_in-zeros}
-use Rattle.page_map.specs.Entries.{link_word}
+use Prelude.{◌≡◌, ◌≢◌, ℕ, ◌^◌, ◌<◌, ◌≤◌, false, List, length, replicate, ap, sym, ◌∙◌, subst, arith, inl, inr, Some}
+use Prelude.{None, ◌⊎◌, if◌then◌else◌, option_and_then, cases_eq, length-replicate, slot_number, index_number}
+use Prelude.{IsKernelDirWord, IsKernelTableWord, is_present, word_in, with_word_in, with_frame, with_frame-same}
+use Prelude.{with_frame-other, word_in_same, word_in_other, length-with_word_in, word_in-zeros, Role, Reserved, Free}
+use Prelude.{Directory, Table, Frames, table_of, word_entry, with_table, without_table, link_word, Slot, Directories}
+use Prelude.{Roles, table_in, entry_in, entries_in, Tables, InUseAt}
 use Rattle.page_map.proofs.WordLaws.{link_word-lt, word_table-link_word, link_word-names}
 use Rattle.address_space.proofs.entries.EntrySteps.{Loose, same_entries, entry_by_table, entry_kept}
 
@@ -18,11 +16,7 @@ module _ (D : Directories) (m : Frames) (R : Roles) (T : Tables D m R) (f : ℕ)
   loose-directory q d is = with_frame-other m f d new (λ same. loose.no_directory q (sym (ap R same) ∙ T.directory q d is))
 
   pub loose-tables : (q s : ℕ) → table_in D (with_frame m f new) q s ≡ table_in D m q s
-  loose-tables q s = by (D q) refl
-    where
-      by : (x : Option ℕ) → D q ≡ x → option_and_then (λ d. table_of (with_frame m f new) d s) x ≡ option_and_then (λ d. table_of m d s) x
-      by None is = refl
-      by (Some d) is = ap (λ l. word_table (word_in l s)) (loose-directory q d is)
+  loose-tables q s = grind (arith, loose-directory)
 
   pub loose-table : (q s t : ℕ) → table_in D m q s ≡ Some t → with_frame m f new t ≡ m t
   loose-table q s t is = with_frame-other m f t new (λ same. loose.no_table q s (sym (ap R same) ∙ T.table q s t is))
@@ -34,49 +28,17 @@ module _ (D : Directories) (m : Frames) (R : Roles) (T : Tables D m R) (f : ℕ)
   loose-entries = same_entries D m (with_frame m f new) loose-entry
 
   pub tables-loose : length new ≡ 4096 → Tables D (with_frame m f new) R
-  tables-loose l = record {
-    zero_role = T.zero_role;
-    zero_bytes = with_frame-other m f 0 new (λ is. loose.not_reserved (sym (ap R is) ∙ T.zero_role)) ∙ T.zero_bytes;
-    reserved = T.reserved;
-    directory = T.directory;
-    directory_back = T.directory_back;
-    table = λ q s g is. T.table q s g (sym (loose-tables q s) ∙ is);
-    table_back = λ q s g is. loose-tables q s ∙ T.table_back q s g is;
-    dir_words = λ q d s is h. subst (λ w. IsKernelDirWord (word_in w s)) (sym (loose-directory q d is)) (T.dir_words q d s is h);
-    outside = λ q d s is h o. ap (λ w. word_in w s) (loose-directory q d is) ∙ T.outside q d s is h o;
-    table_words = λ q s g i is h. let old = sym (loose-tables q s) ∙ is in subst (λ w. IsKernelTableWord (word_in w i)) (sym (loose-table q s g old)) (T.table_words q s g i old h);
-    long = λ g r is. elim (cases_eq g f) [
-      | inl same ↦ ap (λ h. length (with_frame m f new h)) same ∙ ap length (with_frame-same m f new) ∙ l
-      | inr differ ↦ ap length (with_frame-other m f g new differ) ∙ T.long g r is
-    ];
-  }
+  tables-loose l =
+      grind (arith, with_frame-other, loose-tables, loose-directory, loose-table, cases_eq, with_frame-same)
 
   pub use_loose : (q r : ℕ) → InUseAt D m q r → InUseAt D (with_frame m f new) q r
-  use_loose q r use_at g found =
-      let old = sym (loose-tables q r) ∙ found in
-      let u = use_at g old in
-      (u.0, u.1, ap (λ l. is_present (word_in l u.0)) (loose-table q r g old) ∙ u.2)
+  use_loose q r use_at g found = grind (arith, loose-tables, loose-table)
 
 -- ---- A role
 
 -- one frame's role changes, and it is loose before and after
 pub tables-role : (D : Directories) (m : Frames) (R R' : Roles) (f : ℕ) (was : Role) → Tables D m R → R f ≡ Some was → Loose R f → Loose R' f → ((g : ℕ) → g ≢ f → R' g ≡ R g) → Tables D m R'
-tables-role D m R R' f was T known before after others = record {
-  zero_role = others 0 (λ is. before.not_reserved (sym (ap R is) ∙ T.zero_role)) ∙ T.zero_role;
-  zero_bytes = T.zero_bytes;
-  reserved = λ g is. T.reserved g (sym (others g (λ same. after.not_reserved (sym (ap R' same) ∙ is))) ∙ is);
-  directory = λ p d is. others d (λ same. before.no_directory p (sym (ap R same) ∙ T.directory p d is)) ∙ T.directory p d is;
-  directory_back = λ p d is. T.directory_back p d (sym (others d (λ same. after.no_directory p (sym (ap R' same) ∙ is))) ∙ is);
-  table = λ p s t is. others t (λ same. before.no_table p s (sym (ap R same) ∙ T.table p s t is)) ∙ T.table p s t is;
-  table_back = λ p s t is. T.table_back p s t (sym (others t (λ same. after.no_table p s (sym (ap R' same) ∙ is))) ∙ is);
-  dir_words = T.dir_words;
-  outside = T.outside;
-  table_words = T.table_words;
-  long = λ g r is. elim (cases_eq g f) [
-    | inl same ↦ T.long g was (ap R same ∙ known)
-    | inr differ ↦ T.long g r (sym (others g differ) ∙ is)
-  ];
-}
+tables-role D m R R' f was h known before after others = grind (arith, cases_eq)
 
 -- ---- A blank table is linked
 
@@ -85,10 +47,7 @@ one_directory : (D : Directories) (p q d d' : ℕ) → D p ≡ Some d → D q �
 one_directory D p q d d' live is side = let here : D q ≡ D p = ap D side in cc
 
 pub here_or_not : (p s q r : ℕ) → ((q ≡ p) × (r ≡ s)) ⊎ (q ≡ p → r ≡ s → ⊥)
-here_or_not p s q r = elim (cases_eq q p) [
-  | inl a ↦ elim (cases_eq r s) [ inl b ↦ inl (a, b) | inr n ↦ inr (λ _ b. n b) ]
-  | inr n ↦ inr (λ a _. n a)
-]
+here_or_not p s q r = grind (arith, cases_eq)
 
 module _ (D : Directories) (m : Frames) (R : Roles) (T : Tables D m R) (p d s t : ℕ) (live : D p ≡ Some d) (none : table_of m d s ≡ None) (free : R t ≡ Some Free) (small : t < 2 ^ 20) (low : 256 ≤ s) (high : s < 960) where
   apart : t ≢ d
@@ -121,24 +80,10 @@ module _ (D : Directories) (m : Frames) (R : Roles) (T : Tables D m R) (p d s t 
       linked-other d' (λ same. n (let k : R d' ≡ R d = ap R same in let a = T.directory p d live in cc)) (not_t d' (Directory q) r (λ e. cc))
 
   pub linked-own : table_in D (with_table m d s t) p s ≡ Some t
-  linked-own =
-      ap (option_and_then (λ x. table_of (with_table m d s t) x s)) live
-      ∙ ap (λ l. word_table (word_in l s)) own_directory
-      ∙ ap word_table (word_in_same (m d) s (link_word t) long_d (omega arith) (link_word-lt t small))
-      ∙ word_table-link_word t small
+  linked-own = grind (arith, own_directory, word_in_same, long_d, link_word-lt, word_table-link_word)
 
   pub linked-others : (q r : ℕ) → (q ≡ p → r ≡ s → ⊥) → table_in D (with_table m d s t) q r ≡ table_in D m q r
-  linked-others q r n = by (D q) refl (cases_eq q p)
-    where
-      by : (x : Option ℕ) → D q ≡ x → (q ≡ p) ⊎ (q ≢ p) → option_and_then (λ x. table_of (with_table m d s t) x r) x ≡ option_and_then (λ x. table_of m x r) x
-      by None is side = refl
-      by (Some d') is (inr side) = ap (λ l. word_table (word_in l r)) (dir_other q d' is side)
-      by (Some d') is (inl side) =
-          let same = one_directory D p q d d' live is side in
-          ap (λ g. word_table (word_in (with_table m d s t g) r)) same
-          ∙ ap (λ l. word_table (word_in l r)) own_directory
-          ∙ ap word_table (word_in_other (m d) s r (link_word t) long_d (omega arith) (λ e. n side e))
-          ∙ ap (λ g. word_table (word_in (m g) r)) (sym same)
+  linked-others q r n = grind (arith, cases_eq, dir_other, one_directory, own_directory, word_in_other, long_d)
 
   pub kept_table : (q r f : ℕ) → table_in D m q r ≡ Some f → with_table m d s t f ≡ m f
   kept_table q r f is =
@@ -161,12 +106,7 @@ module _ (D : Directories) (m : Frames) (R : Roles) (T : Tables D m R) (p d s t 
   linked-entries = same_entries D m (with_table m d s t) linked-entry
 
   dir_word_kept : (q d' r : ℕ) → D q ≡ Some d' → (q ≡ p → r ≡ s → ⊥) → word_in (with_table m d s t d') r ≡ word_in (m d') r
-  dir_word_kept q d' r is n = elim (cases_eq q p) [
-    | inl side ↦
-        let same = one_directory D p q d d' live is side in
-        ap (λ g. word_in (with_table m d s t g) r) same ∙ ap (λ l. word_in l r) own_directory ∙ word_in_other (m d) s r (link_word t) long_d (omega arith) (λ e. n side e) ∙ ap (λ g. word_in (m g) r) (sym same)
-    | inr side ↦ ap (λ l. word_in l r) (dir_other q d' is side)
-  ]
+  dir_word_kept q d' r is n = grind (arith, cases_eq, one_directory, own_directory, word_in_other, long_d, dir_other)
 
   pub tables-linked : (R' : Roles) → R' t ≡ Some (Table p s) → ((g : ℕ) → g ≢ t → R' g ≡ R g) → Tables D (with_table m d s t) R'
   tables-linked R' own others = record {
@@ -175,27 +115,10 @@ module _ (D : Directories) (m : Frames) (R : Roles) (T : Tables D m R) (p d s t 
     reserved = λ g is. T.reserved g (sym (others g (λ same. let k : R' g ≡ R' t = ap R' same in let o = own in cc)) ∙ is);
     directory = λ q d' is. let a = T.directory q d' is in others d' (not_t d' (Directory q) a (λ e. cc)) ∙ a;
     directory_back = λ q d' is. T.directory_back q d' (sym (others d' (λ same. let k : R' d' ≡ R' t = ap R' same in let o = own in cc)) ∙ is);
-    table = λ q r f is. elim (here_or_not p s q r) [
-      | inl h ↦
-          let e : Some f ≡ Some t = sym is ∙ (λ i. table_in D (with_table m d s t) (h.0 i) (h.1 i)) ∙ linked-own in
-          let f_t : f ≡ t = cc in
-          ap R' f_t ∙ own ∙ (λ i. Some (Table (sym h.0 i) (sym h.1 i)))
-      | inr n ↦ let a = T.table q r f (sym (linked-others q r n) ∙ is) in others f (not_t f (Table q r) a (λ e. cc)) ∙ a
-    ];
-    table_back = λ q r f is. elim (cases_eq f t) [
-      | inl same ↦
-          let e : Some (Table p s) ≡ Some (Table q r) = sym own ∙ ap R' (sym same) ∙ is in
-          let a : q ≡ p = cc in
-          let b : r ≡ s = cc in
-          (λ i. table_in D (with_table m d s t) (a i) (b i)) ∙ linked-own ∙ ap Some (sym same)
-      | inr n ↦
-          let old = T.table_back q r f (sym (others f n) ∙ is) in
-          linked-others q r (λ a b. let k : table_in D m q r ≡ None = (λ i. table_in D m (a i) (b i)) ∙ none_in in cc) ∙ old
-    ];
+    table = grind (arith, here_or_not, linked-own, linked-others, not_t);
+    table_back = grind (arith, cases_eq, linked-own, linked-others, none_in);
     dir_words = λ q d' r is h. elim (here_or_not p s q r) [
-      | inl x ↦
-          let same = one_directory D p q d d' live is x.0 in
-          inr (subst NamesTable (sym ((λ i. word_in (with_table m d s t (same i)) (x.1 i)) ∙ ap (λ l. word_in l s) own_directory ∙ word_in_same (m d) s (link_word t) long_d (omega arith) (link_word-lt t small))) (link_word-names t small one_up))
+      | inl x ↦ grind (arith, one_directory, own_directory, word_in_same, long_d, link_word-lt, link_word-names, one_up)
       | inr n ↦ subst IsKernelDirWord (sym (dir_word_kept q d' r is n)) (T.dir_words q d' r is h)
     ];
     outside = λ q d' r is h o. dir_word_kept q d' r is (λ a b. out r o b) ∙ T.outside q d' r is h o;
@@ -206,18 +129,12 @@ module _ (D : Directories) (m : Frames) (R : Roles) (T : Tables D m R) (p d s t 
           inl (ap (λ g. word_in (with_table m d s t g) i) f_t ∙ ap (λ l. word_in l i) own_table ∙ word_in-zeros 4096 i (omega arith))
       | inr n ↦ let old = sym (linked-others q r n) ∙ is in subst (λ w. IsKernelTableWord (word_in w i)) (sym (kept_table q r f old)) (T.table_words q r f i old h)
     ];
-    long = λ g r is. elim (cases_eq g t) [
-      | inl same ↦ ap (λ h. length (with_table m d s t h)) same ∙ ap length own_table ∙ length-replicate {A = ℕ} 4096 0
-      | inr n ↦ elim (cases_eq g d) [
-        | inl same ↦ ap (λ h. length (with_table m d s t h)) same ∙ ap length own_directory ∙ length-with_word_in (m d) s (link_word t) long_d (omega arith)
-        | inr n2 ↦ ap length (linked-other g n2 n) ∙ T.long g r (sym (others g n) ∙ is)
-      ]
-    ];
+    long =
+        grind (arith, cases_eq, own_table, length-replicate, own_directory, length-with_word_in, long_d, linked-other);
   }
     where
       out : (r : ℕ) → (r < 256) ⊎ (960 ≤ r) → r ≡ s → ⊥
-      out r (inl a) b = omega arith
-      out r (inr a) b = omega arith
+      out r h b = grind arith
 
 -- ---- A table is unlinked
 
@@ -235,10 +152,7 @@ module _ (D : Directories) (m : Frames) (R : Roles) (T : Tables D m R) (p d s t 
   there_in = ap (option_and_then (λ x. table_of m x s)) live ∙ there
 
   pub unlinked-own : table_in D (without_table m d s) p s ≡ None
-  unlinked-own =
-      ap (option_and_then (λ x. table_of (without_table m d s) x s)) live
-      ∙ ap (λ l. word_table (word_in l s)) own_dir
-      ∙ ap word_table (word_in_same (m d) s 0 long_dir s_small (omega arith))
+  unlinked-own = grind (arith, own_dir, word_in_same, long_dir)
 
   word_elsewhere : (q d' r : ℕ) → D q ≡ Some d' → (q ≡ p → r ≡ s → ⊥) → word_in (without_table m d s d') r ≡ word_in (m d') r
   word_elsewhere q d' r is n = elim (cases_eq d' d) [
@@ -252,11 +166,7 @@ module _ (D : Directories) (m : Frames) (R : Roles) (T : Tables D m R) (p d s t 
   ]
 
   pub unlinked-others : (q r : ℕ) → (q ≡ p → r ≡ s → ⊥) → table_in D (without_table m d s) q r ≡ table_in D m q r
-  unlinked-others q r n = by (D q) refl
-    where
-      by : (x : Option ℕ) → D q ≡ x → option_and_then (λ x. table_of (without_table m d s) x r) x ≡ option_and_then (λ x. table_of m x r) x
-      by None is = refl
-      by (Some d') is = ap word_table (word_elsewhere q d' r is n)
+  unlinked-others q r n = grind (arith, word_elsewhere)
 
   -- a table, and every frame but the directory, keeps its bytes
   pub unlinked-table : (q r f : ℕ) → table_in D m q r ≡ Some f → without_table m d s f ≡ m f
@@ -269,48 +179,17 @@ module _ (D : Directories) (m : Frames) (R : Roles) (T : Tables D m R) (p d s t 
     reserved = λ g is. T.reserved g (sym (others g (λ same. let k : R' g ≡ R' t = ap R' same in let o = own in cc)) ∙ is);
     directory = λ q d' is. let a = T.directory q d' is in others d' (λ same. let b = T.table p s t there_in in let k : R d' ≡ R t = ap R same in cc) ∙ a;
     directory_back = λ q d' is. T.directory_back q d' (sym (others d' (λ same. let k : R' d' ≡ R' t = ap R' same in let o = own in cc)) ∙ is);
-    table = λ q r f is. elim (here_or_not p s q r) [
-      | inl h ↦ let e : None ≡ Some f = sym unlinked-own ∙ (λ i. table_in D (without_table m d s) (sym h.0 i) (sym h.1 i)) ∙ is in cc
-      | inr n ↦
-          let old = sym (unlinked-others q r n) ∙ is in
-          let a = T.table q r f old in
-          others f (λ same. let b = T.table p s t there_in in let k : R f ≡ R t = ap R same in let q_p : q ≡ p = cc in let r_s : r ≡ s = cc in n q_p r_s) ∙ a
-    ];
-    table_back = λ q r f is.
-        let f_t : f ≢ t = λ same. (let k : R' f ≡ R' t = ap R' same in let o = own in cc) in
-        let old = T.table_back q r f (sym (others f f_t) ∙ is) in
-        unlinked-others q r (λ a b. f_t (let e : Some f ≡ Some t = sym old ∙ (λ i. table_in D m (a i) (b i)) ∙ there_in in cc)) ∙ old;
+    table = grind (arith, here_or_not, unlinked-own, unlinked-others, there_in);
+    table_back = grind (arith, unlinked-others, there_in);
     dir_words = λ q d' r is h. elim (here_or_not p s q r) [
-      | inl x ↦
-          let same = one_directory D p q d d' live is x.0 in
-          inl ((λ i. word_in (without_table m d s (same i)) (x.1 i)) ∙ ap (λ l. word_in l s) own_dir ∙ word_in_same (m d) s 0 long_dir s_small (omega arith))
+      | inl x ↦ grind (arith, one_directory, own_dir, word_in_same, long_dir)
       | inr n ↦ subst IsKernelDirWord (sym (word_elsewhere q d' r is n)) (T.dir_words q d' r is h)
     ];
-    outside = λ q d' r is h o. elim (here_or_not p s q r) [
-      | inl x ↦
-          let same = one_directory D p q d d' live is x.0 in
-          (λ i. word_in (without_table m d s (same i)) (x.1 i)) ∙ ap (λ l. word_in l s) own_dir ∙ word_in_same (m d) s 0 long_dir s_small (omega arith)
-      | inr n ↦ word_elsewhere q d' r is n ∙ T.outside q d' r is h o
-    ];
-    table_words = λ q r f i is h. elim (here_or_not p s q r) [
-      | inl x ↦ let e : None ≡ Some f = sym unlinked-own ∙ (λ i. table_in D (without_table m d s) (sym x.0 i) (sym x.1 i)) ∙ is in cc
-      | inr n ↦ let old = sym (unlinked-others q r n) ∙ is in subst (λ w. IsKernelTableWord (word_in w i)) (sym (unlinked-table q r f old)) (T.table_words q r f i old h)
-    ];
-    long = λ g r is. elim (cases_eq g d) [
-      | inl same ↦ ap (λ h. length (without_table m d s h)) same ∙ ap length own_dir ∙ length-with_word_in (m d) s 0 long_dir s_small
-      | inr n ↦ ap length (gone_dir g n) ∙ elim (cases_eq g t) [
-        | inl same ↦ T.long g (Table p s) (ap R same ∙ T.table p s t there_in)
-        | inr n2 ↦ T.long g r (sym (others g n2) ∙ is)
-      ]
-    ];
+    outside = grind (arith, here_or_not, one_directory, own_dir, word_in_same, long_dir, word_elsewhere);
+    table_words = grind (arith, here_or_not, unlinked-own, unlinked-others, unlinked-table);
+    long = grind (arith, cases_eq, own_dir, length-with_word_in, long_dir, gone_dir, there_in);
   }
 
   pub unlinked-entry : ((i : ℕ) → i < 1024 → is_present (word_in (m t) i) ≡ false) → (q : Slot) → entry_in D (without_table m d s) q ≡ entry_in D m q
-  unlinked-entry blank q = elim (here_or_not p s q.pid (slot_number q.page)) [
-    | inl h ↦
-        entry_by_table D (without_table m d s) q
-        ∙ ap (option_and_then (λ table. word_entry (word_in (without_table m d s table) (index_number q.page)))) ((λ i. table_in D (without_table m d s) (h.0 i) (h.1 i)) ∙ unlinked-own)
-        ∙ sym (ap (option_and_then (λ table. word_entry (word_in (m table) (index_number q.page)))) ((λ i. table_in D m (h.0 i) (h.1 i)) ∙ there_in) ∙ ap (λ b. if b then Some (entry_from (word_in (m t) (index_number q.page))) else None) (blank (index_number q.page) (omega arith)))
-        ∙ sym (entry_by_table D m q)
-    | inr n ↦ entry_kept D D m (without_table m d s) q (unlinked-others q.pid (slot_number q.page) n) (unlinked-table q.pid (slot_number q.page))
-  ]
+  unlinked-entry blank q =
+      grind (arith, here_or_not, entry_by_table, unlinked-own, there_in, entry_kept, unlinked-others, unlinked-table)

@@ -1,41 +1,32 @@
 -- How pages and their counts change with one entry, and what the bytes of pages give.
 use Rattle.address_space.proofs.Prelude
-use Prelude.{Bool, ◌≡◌, ◌≢◌, ℕ, ◌+◌, true, false, cond, List, refl, ap, sym, ◌∙◌, subst, arith, inl, inr, Option, Some}
-use Prelude.{None, ◌⊎◌, option_map, cases_eq, ne_eqb, Reserved, Free, Directory, Table, Page, PageEntry, same}
-use Prelude.{Slot, slot_order, same_or_not, same_itself, get-insert, same_map, same_set, len-insert, Entries, names}
-use Prelude.{holders_of, group_of, lazy_count, cell_of, spaces_of, Roles, Pages, HoldsPage}
+use Prelude.{Bool, ◌≡◌, ◌≢◌, ℕ, ◌+◌, true, false, cond, List, refl, ap, sym, ◌∙◌, arith, inl, inr, Option, Some, None}
+use Prelude.{◌⊎◌, option_map, cases_eq, ne_eqb, Reserved, Free, Directory, Table, Page, PageEntry, same, Slot}
+use Prelude.{slot_order, same_or_not, same_itself, get-insert, same_map, same_set, len-insert, Entries, names}
+use Prelude.{holders_of, lazy_count, cell_of, spaces_of, Roles, Pages, HoldsPage}
 use Rattle.address_space.proofs.entries.Removal.{put_back, removed, kept_other}
-use Rattle.address_space.proofs.entries.Refinement.{contains-holders_of, same_holders, names-insert_same, holders-insert, holders-other, get-spaces_of, Unused}
+use Rattle.address_space.proofs.entries.Refinement.{contains-holders_of, same_holders, names-insert_same}
+use Rattle.address_space.proofs.entries.Refinement.{holders-insert, holders-other, get-spaces_of, Unused}
 use Rattle.page_words.specs.FiniteMap as map
 use Rattle.page_words.specs.FiniteSet as set
 
 -- the entry at a slot after one was put in: the new one, or one from before
 inserted : (E : Entries) (slot : Slot) (e : PageEntry) (q : Slot) (d : PageEntry) → map.get (map.insert E slot e) q ≡ Some d → (d ≡ e) ⊎ (map.get E q ≡ Some d)
-inserted E slot e q d is = elim (same_or_not slot_order q slot) [
-  | inl h ↦ inl (let k : Some e ≡ Some d = sym (get-insert E slot e q ∙ ap (λ b. cond b (Some e) (map.get E q)) h.1) ∙ is in cc)
-  | inr h ↦ inr (sym (get-insert E slot e q ∙ ap (λ b. cond b (Some e) (map.get E q)) h) ∙ is)
-]
+inserted E slot e q d is = grind (arith, same_or_not, get-insert)
 
 -- a frame that an entry may name is no free frame, no table and no directory
 pub no_free : (R : Roles) (f g : ℕ) → HoldsPage (R f) → R g ≡ Some Free → f ≢ g
-no_free R f g (inl r) free same = let k : R f ≡ R g = ap R same in cc
-no_free R f g (inr h) free same = let k : R f ≡ R g = ap R same in let r = h.1 in cc
+no_free R f g h free same = grind arith
 
 pub no_table : (R : Roles) (f g p s : ℕ) → HoldsPage (R f) → R g ≡ Some (Table p s) → f ≢ g
-no_table R f g p s (inl r) table same = let k : R f ≡ R g = ap R same in cc
-no_table R f g p s (inr h) table same = let k : R f ≡ R g = ap R same in let r = h.1 in cc
+no_table R f g p s h table same = grind arith
 
 pub no_directory : (R : Roles) (f g p : ℕ) → HoldsPage (R f) → R g ≡ Some (Directory p) → f ≢ g
-no_directory R f g p (inl r) directory same = let k : R f ≡ R g = ap R same in cc
-no_directory R f g p (inr h) directory same = let k : R f ≡ R g = ap R same in let r = h.1 in cc
+no_directory R f g p h directory same = grind arith
 
 -- no entry names a free frame
 pub unused : (E : Entries) (R : Roles) (f : ℕ) → Pages E R → R f ≡ Some Free → Unused E f
-unused E R f P free q = by (map.get E q) refl
-  where
-    by : (x : Option PageEntry) → map.get E q ≡ x → names f x ≡ false
-    by None is = refl
-    by (Some d) is = ne_eqb d.frame f (no_free R d.frame f (P.pages q d is) free)
+unused E R f h free q = grind (arith, ne_eqb, no_free)
 
 -- and so no slot holds it
 pub unused_count : (E : Entries) (R : Roles) (f : ℕ) → Pages E R → R f ≡ Some Free → 0 ≡ set.len (holders_of E f)
@@ -46,16 +37,12 @@ pub same_bytes : (E : Entries) (m m' : ℕ → List ℕ) → ((q : Slot) (d : Pa
 same_bytes E m m' is = same_map _ _ (λ q. get-spaces_of E m' q ∙ by q (map.get E q) refl ∙ sym (get-spaces_of E m q))
   where
     by : (q : Slot) (x : Option PageEntry) → map.get E q ≡ x → option_map (cell_of E m' q) x ≡ option_map (cell_of E m q) x
-    by q None found = refl
-    by q (Some d) found = λ i. Some (record { write = d.write; may = d.may; accessed = d.accessed; dirty = d.dirty; bytes = is q d found i; holders = group_of E q d.frame })
+    by q x found = grind arith
 
 -- an entry that keeps its frame
 pub pages-same : (E : Entries) (R : Roles) (slot : Slot) (old new : PageEntry) → Pages E R → map.get E slot ≡ Some old → new.frame ≡ old.frame → Pages (map.insert E slot new) R
 pages-same E R slot old new P found kept = record {
-  pages = λ q d is. elim (inserted E slot new q d is) [
-    | inl e ↦ subst (λ f. HoldsPage (R f)) (sym (ap (λ (x : PageEntry). x.frame) e ∙ kept)) (P.pages slot old found)
-    | inr was ↦ P.pages q d was
-  ];
+  pages = grind (arith, inserted);
   counts = λ f c is. let old_counts = P.counts f c is in (old_counts.0, old_counts.1 ∙ sym (ap set.len (same_holders (map.insert E slot new) E f (names-insert_same E slot old new found kept f))));
 }
 
@@ -63,13 +50,7 @@ pages-same E R slot old new P found kept = record {
 pub pages-more : (E : Entries) (R R' : Roles) (slot : Slot) (e : PageEntry) (n : ℕ) → Pages E R → ((f c : ℕ) → R' f ≡ Some (Page c) → names f (map.get E slot) ≡ false) → R' e.frame ≡ Some (Page (n + 1)) → n ≡ set.len (holders_of E e.frame)
     → ((g : ℕ) → g ≢ e.frame → R' g ≡ R g) → Pages (map.insert E slot e) R'
 pages-more E R R' slot e n P none own count others = record {
-  pages = λ q d is. elim (inserted E slot e q d is) [
-    | inl same ↦ subst (λ (x : PageEntry). HoldsPage (R' x.frame)) (sym same) (inr (n + 1, own))
-    | inr was ↦ elim (cases_eq d.frame e.frame) [
-      | inl same ↦ inr (n + 1, ap R' same ∙ own)
-      | inr differ ↦ subst HoldsPage (sym (others d.frame differ)) (P.pages q d was)
-    ]
-  ];
+  pages = grind (arith, inserted, cases_eq);
   counts = λ f c is. elim (cases_eq f e.frame) [
     | inl same ↦
         let k : Some (Page c) ≡ Some (Page (n + 1)) = sym is ∙ ap R' same ∙ own in
@@ -87,8 +68,7 @@ pages-more E R R' slot e n P none own count others = record {
 -- a new entry on a frame that was free
 pub pages-fresh : (E : Entries) (R R' : Roles) (slot : Slot) (e : PageEntry) → Pages E R → map.get E slot ≡ None → R e.frame ≡ Some Free → R' e.frame ≡ Some (Page 1)
     → ((g : ℕ) → g ≢ e.frame → R' g ≡ R g) → Pages (map.insert E slot e) R'
-pages-fresh E R R' slot e P none free own others =
-    pages-more E R R' slot e 0 P (λ f c _. ap (names f) none) own (unused_count E R e.frame P free) others
+pages-fresh E R R' slot e h none free own others = grind (arith, pages-more, unused_count)
 
 -- a new entry on a page
 pub pages-join : (E : Entries) (R R' : Roles) (slot : Slot) (e : PageEntry) (c : ℕ) → Pages E R → map.get E slot ≡ None → R e.frame ≡ Some (Page c) → R' e.frame ≡ Some (Page (c + 1))
@@ -104,22 +84,12 @@ kept_holder E R slot e q x P none found = P.pages q x (get-insert E slot e q ∙
 
 -- the role of a frame that was no page and is none
 pub pages-role : (E : Entries) (R R' : Roles) (f : ℕ) → Pages E R → R f ≢ Some Reserved → ((c : ℕ) → R f ≢ Some (Page c)) → ((c : ℕ) → R' f ≢ Some (Page c)) → ((g : ℕ) → g ≢ f → R' g ≡ R g) → Pages E R'
-pages-role E R R' f P zero before after others = record {
-  pages = λ q d is. subst HoldsPage (sym (others d.frame (apart d.frame (P.pages q d is)))) (P.pages q d is);
-  counts = λ g c is. P.counts g c (sym (others g (λ same. after c (sym (ap R' same) ∙ is))) ∙ is);
-}
-  where
-    apart : (g : ℕ) → HoldsPage (R g) → g ≢ f
-    apart g (inl r) same = zero (sym (ap R same) ∙ r)
-    apart g (inr h) same = before h.0 (sym (ap R same) ∙ h.1)
+pages-role E R R' f h k before after others = grind arith
 
 -- a new lazy entry
 pub pages-lazy : (E : Entries) (R : Roles) (slot : Slot) (e : PageEntry) → Pages E R → map.get E slot ≡ None → e.frame ≡ 0 → R 0 ≡ Some Reserved → Pages (map.insert E slot e) R
 pages-lazy E R slot e P none lazy zero = record {
-  pages = λ q d is. elim (inserted E slot e q d is) [
-    | inl same ↦ inl (ap R (ap (λ (x : PageEntry). x.frame) same ∙ lazy) ∙ zero)
-    | inr was ↦ P.pages q d was
-  ];
+  pages = grind (arith, inserted);
   counts = λ f c is. let old = P.counts f c is in (old.0, old.1 ∙ sym (ap set.len (holders-other E slot e f (ap (names f) none) (ne_eqb e.frame f (λ same. let k : R 0 ≡ R f = ap R (sym lazy ∙ same) in cc)))));
 }
 
@@ -144,8 +114,7 @@ lazy-fewer E slot new real q was =
     contains-holders_of (map.insert E slot new) 0 q ∙ ap (names 0) (get-insert E slot new q) ∙ by (same slot_order q slot)
   where
     by : (b : Bool) → names 0 (cond b (Some new) (map.get E q)) ≡ false
-    by true = ne_eqb new.frame 0 real
-    by false = sym (contains-holders_of E 0 q) ∙ was
+    by b = grind (arith, ne_eqb, contains-holders_of)
 
 -- an entry that goes: its frame has one slot less, and every other as many
 pub holders-less : (E : Entries) (slot : Slot) (e : PageEntry) → map.get E slot ≡ Some e

@@ -1,19 +1,16 @@
 -- The frames of a sound image with today's words agree, as a machine's own do.
 use Rattle.address_space.proofs.Prelude
 use Prelude.{◌≡◌, ℕ, zero, suc, ◌+◌, ◌*◌, ◌<◌, ◌≤◌, Bool, true, false, cond, List, [], ◌∷◌, length, refl, ap, sym, ◌∙◌}
-use Prelude.{subst, arith, inl, inr, Option, Some, None, ◌⊎◌, ◌↔◌, ◌&&◌, is_some, slice_get, slice_index, nat_lt}
-use Prelude.{nat_le, IsTrue, if◌then◌else◌, unwrap_or, option_and_then, option_map, cases_lt, nat_tests}
-use Prelude.{slice_get_within, slot_number, index_number, frame_number, is_present, is_lazy, NamesPage, same_set}
-use Prelude.{frame_bytes, word_in, length-frame, byte-frame, Role, Reserved, Free, Directory, Table, Page, PageEntry}
-use Prelude.{Frames, dir_word, word_table, table_of, word_entry, entry_from, count_range-same, Slot, slot_order, Cell}
-use Prelude.{at_page, Entries, holders_of, spaces_of, Image, IsSoundImage, StandsFor, image_from, directory_at, word_of}
-use Prelude.{is_user_slot, named_by, table_at, page_word, page_frame, own_frame, Directories, directory_of, table_in}
-use Prelude.{entry_in, entries_in, spaces_in, IsCounted, pages_by, Tables, HoldsPage, IsSound, InUse, IsSpaces}
+use Prelude.{subst, arith, inl, inr, Option, Some, None, ◌⊎◌, ◌↔◌, is_some, slice_get, slice_index, IsTrue}
+use Prelude.{if◌then◌else◌, option_and_then, option_map, cases_lt, slice_get_within, slot_number, index_number}
+use Prelude.{frame_number, is_present, is_lazy, NamesPage, same_set, frame_bytes, word_in, length-frame, byte-frame}
+use Prelude.{Role, Reserved, Directory, Table, Page, PageEntry, Frames, dir_word, word_entry, entry_from}
+use Prelude.{count_range-same, Slot, slot_order, Cell, at_page, Entries, holders_of, spaces_of, Image, IsSoundImage}
+use Prelude.{StandsFor, image_from, directory_at, word_of, is_user_slot, named_by, table_at, page_word, page_frame}
+use Prelude.{CellStands, IsCount, own_frame, Directories, directory_of, table_in, entry_in, entries_in, spaces_in}
+use Prelude.{IsCounted, pages_by, Tables, HoldsPage, IsSound, InUse, IsSpaces, All, range_with_len, get_or_default}
+use Prelude.{HasRoom, words_by, words_where, counted_at}
 use Rattle.std.proofs.Common.{map as list_map}
-use Rattle.address_space.specs.Image.{CellStands, IsCount}
-use Rattle.std.specs.List.{All, range_with_len}
-use Rattle.std.proofs.lemmas.List.{get_or_default}
-use Rattle.address_space.specs.Restored.{HasRoom, words_by, words_where, counted_at}
 use Rattle.address_space.proofs.costs.CostSteps.{keys}
 use Rattle.address_space.proofs.costs.Weighed.{weighs}
 use Rattle.address_space.proofs.entries.EntrySteps.{get-entries_in, entry_by_table}
@@ -27,30 +24,17 @@ use Rattle.address_space.proofs.standing.TablesStand as tables
 
 -- a slot past either end of the user range
 beside : (s : ℕ) → (s < 256) ⊎ (960 ≤ s) → is_user_slot s ≡ false
-beside s (inl below) = let f : nat_le 256 s ≡ false = grind (arith, nat_tests) in λ i. f i && nat_lt s 960
-beside s (inr over) = let t : nat_le 256 s ≡ true = grind (arith, nat_tests) in let f : nat_lt s 960 ≡ false = grind (arith, nat_tests) in λ i. t i && f i
+beside s h = grind arith
 
 -- a slot that names a table is one of the user range
 pub user_named : (s word t : ℕ) → named_by s word ≡ Some t → (256 ≤ s) × (s < 960)
-user_named s word t h = by (is_user_slot s) refl h
-  where
-    by : (b : Bool) → is_user_slot s ≡ b → (if b && is_present word then Some (frame_number word) else None) ≡ Some t → (256 ≤ s) × (s < 960)
-    by true is k = elim (cases_lt s 256) [
-      | inl below ↦ absurd (let f = beside s (inl below) in cc)
-      | inr above ↦ elim (cases_lt s 960) [
-        | inl inside ↦ (above, inside)
-        | inr over ↦ absurd (let f = beside s (inr over) in cc)
-      ]
-    ]
-    by false is k = cc
+user_named s word t h = grind (arith, cases_lt, beside)
 
 pub from_map : {A B : Type 0} (f : A → B) (x : Option A) (b : B) → option_map f x ≡ Some b → (a : A) × (x ≡ Some a) × (f a ≡ b)
-from_map f None b h = cc
-from_map f (Some a) b h = (a, refl, ap (λ o. unwrap_or o (f a)) h)
+from_map f x b h = grind arith
 
 pub from_then : {A B : Type 0} (f : A → Option B) (x : Option A) (b : B) → option_and_then f x ≡ Some b → (a : A) × (x ≡ Some a) × (f a ≡ Some b)
-from_then f None b h = cc
-from_then f (Some a) b h = (a, refl, h)
+from_then f x b h = grind arith
 
 module _ (directories : List (Option ℕ)) (bytes : List ℕ) (roles : List Role) (pids : length directories ≡ 64) (least : 16 ≤ length roles) (few : length roles ≤ 1048576)
     (I : IsSoundImage (image_from directories bytes roles)) where
@@ -107,8 +91,7 @@ module _ (directories : List (Option ℕ)) (bytes : List ℕ) (roles : List Role
   group_is = tables.group_is directories bytes roles tables_agree pids
 
   page_up : (f c : ℕ) → slice_get roles f ≡ Some (Page c) → 1 ≤ f
-  page_up zero c is = absurd (let z = (I.reserved 0 (omega (arith, least))).1 refl in cc)
-  page_up (suc f) c is = omega arith
+  page_up f c is = grind arith
 
   holds : (slot : Slot) (e : PageEntry) → map.get E slot ≡ Some e → HoldsPage (slice_get roles e.frame)
   holds slot e found =
@@ -183,15 +166,10 @@ module _ (directories : List (Option ℕ)) (bytes : List ℕ) (roles : List Role
       ap (λ i. is_present (word_in (m t) i)) first ∙ sym (keys E m q ∙ ap is_some (found ∙ entry) ∙ present (is_present (word_in (m t) i)) (entry_from (word_in (m t) i)))
     where
       present : (b : Bool) (e : PageEntry) → is_some (if b then Some e else None) ≡ b
-      present true e = refl
-      present false e = refl
+      present b e = grind arith
 
   pages-words : (f : ℕ) (r : Role) → slice_get roles f ≡ Some r → words_by bytes f r ≡ pages_by (spaces_of E m) r
-  pages-words f Reserved is = refl
-  pages-words f Free is = refl
-  pages-words f (Directory p) is = refl
-  pages-words f (Table p s) is = count_range-same (λ i. is_present (word_in (m f) i)) (λ page. map.contains_key (spaces_of E m) (at_page p page)) 0 (1024 * s) 1024 (λ i low. word-mapped p s f i is low)
-  pages-words f (Page c) is = refl
+  pages-words f r is = grind (arith, count_range-same, word-mapped)
 
   all-words : (rs : List Role) (a : ℕ) → ((i : ℕ) (r : Role) → slice_get rs i ≡ Some r → counted_at bytes roles (a + i) ≡ pages_by (spaces_of E m) r)
       → (f : ℕ) → slice_get (list_map (counted_at bytes roles) (range_with_len a (length rs))) f ≡ option_map (pages_by (spaces_of E m)) (slice_get rs f)

@@ -5,10 +5,8 @@ use Prelude.{None, not, ◌↔◌, ◌&&◌, is_some, slice_get, IsTrue, option_
 use Prelude.{NamesPage, same, same_map, same_set, frame_bytes, word_in, Role, Page, PageEntry, Frames, entry_from}
 use Prelude.{entry_at, is_lazy_entry, Slot, Cell, cell_or_fresh, at_page, Entries, spaces_of, holders_of, Image}
 use Prelude.{table_at, is_lazy_at, takes_stores, page_word, page_frame, IsSoundImage, SlotStands, StandsFor, image_from}
-use Prelude.{own_frame, Directories, directory_of, table_in, entry_in, entries_in, spaces_in, IsSound, IsSpaces}
-use Prelude.{takes_stores_through}
-use Rattle.address_space.specs.Image.{StandsForOne}
-use Rattle.std.specs.Cmp.{both_ways}
+use Prelude.{StandsForOne, own_frame, Directories, directory_of, table_in, entry_in, entries_in, spaces_in, IsSound}
+use Prelude.{IsSpaces, takes_stores_through, both_ways}
 use Rattle.address_space.proofs.entries.Readings.{mapped_read}
 use Rattle.address_space.proofs.steps.Steps.{live_small}
 use Rattle.address_space.proofs.steps.Stores.{cell_read}
@@ -153,15 +151,10 @@ stores_read directories bytes roles p page sound low high = by_directory (direct
         sym (λ i. there i && (write i && not (lazy i)))
 
     by_directory : (x : Option ℕ) → directory_of directories p ≡ x → takes_stores_through (entry_in (directory_of directories) m slot) ≡ takes_stores (spaces_in directories bytes) (image_from directories bytes roles) slot
-    by_directory None none =
-        ap (λ x. takes_stores_through (option_and_then (λ d. entry_at m d page) x)) none ∙ sym (ap (λ b. b && others) (ap is_some (no_cell directories bytes p page none)))
-    by_directory (Some d) live = ap (λ x. takes_stores_through (option_and_then (λ d. entry_at m d page) x)) live ∙ by_entry d live (entry_at m d page) refl
+    by_directory x none = grind (arith, m, others, no_cell, by_entry)
 
 same_truth : (x y : Bool) → (IsTrue x → IsTrue y) → (IsTrue y → IsTrue x) → x ≡ y
-same_truth true true f g = refl
-same_truth true false f g = sym (f refl)
-same_truth false true f g = g refl
-same_truth false false f g = refl
+same_truth x y f g = grind arith
 
 -- where the same slots name frame 0, the same pages are lazy
 pub lazy_kept : (directories : List (Option ℕ)) (bytes bytes' : List ℕ) (roles : List Role) → IsSound directories bytes roles → IsSound directories bytes' roles
@@ -187,6 +180,4 @@ real_kept directories bytes bytes' roles roles' sound sound' fewer slot real =
     none : (b : Bool) → set.contains (holders_of (entries_in (directory_of directories) (frame_bytes bytes)) 0) slot ≡ b → (x : Bool)
         → (IsTrue (set.contains (holders_of (entries_in (directory_of directories) (frame_bytes bytes)) 0) slot) → IsTrue false)
         → (IsTrue x → IsTrue (set.contains (holders_of (entries_in (directory_of directories) (frame_bytes bytes')) 0) slot)) → x ≡ false
-    none b is false f g = refl
-    none true is true f g = sym (f is)
-    none false is true f g = let t = g refl in let k : true ≡ false = sym t ∙ fewer slot is in k
+    none b is x f g = grind arith

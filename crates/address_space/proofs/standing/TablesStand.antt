@@ -1,16 +1,14 @@
 -- Tables and pages as an image names them, where directories and tables agree with the roles.
 use Rattle.address_space.proofs.Prelude
 use Prelude.{◌≡◌, ℕ, ◌+◌, ◌*◌, ◌<◌, ◌≤◌, Bool, true, false, cond, List, [], ◌∷◌, length, drop, refl, ap, sym, ◌∙◌}
-use Prelude.{subst, arith, inl, inr, Option, Some, None, length-drop, ◌==◌, ◌||◌, ◌⊎◌, ◌↔◌, ◌&&◌, slice_get}
-use Prelude.{slice_index, nat_lt, nat_le, IsTrue, MatchBool, if◌then◌else◌, unwrap_or, option_and_then, option_map}
-use Prelude.{list_any, cases_lt, nat_tests, slice_get_within, slot_number, index_number, frame_number, is_present}
-use Prelude.{is_lazy, IsKernelTableWord, NamesPage, same, same_or_not, same_itself, contains-insert, frame_bytes}
-use Prelude.{word_at, word_in, Role, Directory, Table, PageEntry, Frames, dir_word, word_table, table_of, word_entry}
-use Prelude.{entry_from, is_lazy_entry, Slot, slot_order, user_slots, Entries, names, group_of, cell_of, spaces_of}
-use Prelude.{holders_of, Image, word_of, is_user_slot, named_by, table_at, is_lazy_at, page_word, page_frame}
-use Prelude.{SlotStands, image_from, own_frame, Directories, directory_of, table_in, entry_in, entries_in, Tables}
-use Prelude.{eqb-true, eq-eqb}
-use Rattle.address_space.specs.Image.{IsOneGroup, present_word}
+use Prelude.{subst, arith, inl, inr, Option, Some, None, length-drop, ◌⊎◌, ◌↔◌, ◌&&◌, slice_get, slice_index, nat_lt}
+use Prelude.{nat_le, IsTrue, MatchBool, if◌then◌else◌, option_and_then, option_map, list_any, cases_lt, nat_tests}
+use Prelude.{slice_get_within, slot_number, index_number, frame_number, is_present, is_lazy, IsKernelTableWord}
+use Prelude.{NamesPage, same, same_or_not, same_itself, contains-insert, frame_bytes, word_at, word_in, Role, Directory}
+use Prelude.{Table, PageEntry, Frames, dir_word, entry_from, is_lazy_entry, Slot, slot_order, user_slots, Entries}
+use Prelude.{names, group_of, spaces_of, holders_of, Image, word_of, is_user_slot, named_by, table_at, is_lazy_at}
+use Prelude.{page_word, page_frame, SlotStands, image_from, IsOneGroup, present_word, own_frame, Directories}
+use Prelude.{directory_of, table_in, entry_in, entries_in, Tables, eqb-true, eq-eqb}
 use Rattle.address_space.proofs.entries.UserSlots.{in_user_slots}
 use Rattle.address_space.proofs.entries.EntrySteps.{get-entries_in, entry_by_table}
 use Rattle.address_space.proofs.entries.Refinement.{get-spaces_of, contains-holders_of, group-real}
@@ -31,67 +29,38 @@ pub user_slot_is : (s : ℕ) → 256 ≤ s → s < 960 → is_user_slot s ≡ tr
 user_slot_is s low high = let a : nat_le 256 s ≡ true = grind (arith, nat_tests) in let b : nat_lt s 960 ≡ true = grind (arith, nat_tests) in λ i. a i && b i
 
 pub not_user_slot : (s : ℕ) → is_user_slot s ≡ false → (s < 256) ⊎ (960 ≤ s)
-not_user_slot s h = elim (cases_lt s 256) [
-  | inl below ↦ inl below
-  | inr above ↦ elim (cases_lt s 960) [
-    | inl inside ↦ absurd (let t = user_slot_is s above inside in cc)
-    | inr over ↦ inr over
-  ]
-]
+not_user_slot s h = grind (arith, cases_lt, user_slot_is)
 
 -- what a table word says, where it is present
 entry_present : (word : ℕ) (b : Bool) → (if b then Some (entry_from word) else None) ≡ option_map entry_from (if b then Some word else None)
-entry_present word true = refl
-entry_present word false = refl
+entry_present word b = grind arith
 
 -- a present table word of a kernel is of a page
 present_names : (word : ℕ) → is_present word ≡ true → IsKernelTableWord word → NamesPage word
-present_names word present (inl z) = absurd (let e : is_present 0 ≡ true = sym (ap is_present z) ∙ present in cc)
-present_names word present (inr n) = n
+present_names word present h = grind arith
 
 taken : (b p : Bool) (w word : ℕ) → (if b && p then Some w else None) ≡ Some word → (w ≡ word) × (p ≡ true)
-taken true true w word h = (cc, refl)
-taken true false w word h = cc
-taken false p w word h = cc
+taken b p w word h = grind arith
 
 -- a word's frame, where it has one of its own
 pub owned : (word f : ℕ) → own_frame 2 word ≡ Some f → (is_lazy word ≡ false) × (frame_number word ≡ f)
-owned word f h = by (is_lazy word) refl h
-  where
-    by : (b : Bool) → is_lazy word ≡ b → (if b then None else Some (frame_number word)) ≡ Some f → (is_lazy word ≡ false) × (frame_number word ≡ f)
-    by true is k = cc
-    by false is k = (is, cc)
+owned word f h = grind arith
 
 pub own_is : (word : ℕ) → is_lazy word ≡ false → own_frame 2 word ≡ Some (frame_number word)
 own_is word real = ap (λ b. if b then None else Some (frame_number word)) real
 
 -- an entry names a frame other than frame 0 where its word does
 named : (f : ℕ) (x : Option ℕ) → 1 ≤ f → ((word : ℕ) → x ≡ Some word → NamesPage word) → IsTrue (names f (option_map entry_from x)) ↔ (option_and_then (own_frame 2) x ≡ Some f)
-named f None up kernel = (λ h. cc, λ h. cc)
-named f (Some word) up kernel = (there (is_lazy word) refl, λ h. eq-eqb (frame_number word) f (owned word f h).1)
-  where
-    there : (b : Bool) → is_lazy word ≡ b → IsTrue (frame_number word == f) → own_frame 2 word ≡ Some f
-    there true is h = let z = (kernel word refl).zero is in let e = eqb-true (frame_number word) f h in absurd (omega (arith, z, e, up))
-    there false is h = own_is word is ∙ ap Some (eqb-true (frame_number word) f h)
+named f x up kernel = grind (arith, eq-eqb, owned, eqb-true, own_is)
 
 user_word_of : (b : Bool) (word t : ℕ) → (if b && is_present word then Some (frame_number word) else None) ≡ Some t → b ≡ true
-user_word_of true word t h = refl
-user_word_of false word t h = cc
+user_word_of b word t h = grind arith
 
 -- the tables that an image names, where no directory has a word outside the user range
 pub same_table_by : (directories : List (Option ℕ)) (bytes : List ℕ) (roles : List Role)
     → ((p d s : ℕ) → directory_of directories p ≡ Some d → is_user_slot s ≡ false → dir_word (frame_bytes bytes) d s ≡ 0)
     → (p s : ℕ) → table_at (image_from directories bytes roles) p s ≡ table_in (directory_of directories) (frame_bytes bytes) p s
-same_table_by directories bytes roles outside p s = by (directory_of directories p) refl
-  where
-    at : (d : ℕ) → directory_of directories p ≡ Some d → (b : Bool) → is_user_slot s ≡ b
-        → (if b && is_present (dir_word (frame_bytes bytes) d s) then Some (frame_number (dir_word (frame_bytes bytes) d s)) else None) ≡ word_table (dir_word (frame_bytes bytes) d s)
-    at d live true is = refl
-    at d live false is = sym (ap word_table (outside p d s live is))
-
-    by : (x : Option ℕ) → directory_of directories p ≡ x → option_and_then (λ d. named_by s (word_of (image_from directories bytes roles) d s)) x ≡ option_and_then (λ d. table_of (frame_bytes bytes) d s) x
-    by None is = refl
-    by (Some d) is = at d is (is_user_slot s) refl
+same_table_by directories bytes roles outside p s = grind arith
 
 module _ (directories : List (Option ℕ)) (bytes : List ℕ) (roles : List Role) (T : Tables (directory_of directories) (frame_bytes bytes) (slice_get roles)) (pids : length directories ≡ 64) where
   abbrev pub D : Directories
@@ -120,16 +89,7 @@ module _ (directories : List (Option ℕ)) (bytes : List ℕ) (roles : List Role
   table_small p s t is = let w = slice_get_within roles t (Table p s) (T.table p s t is) in grind (arith, nat_tests)
 
   pub same_entry : (slot : Slot) → entry_in D m slot ≡ option_map entry_from (page_word image slot)
-  same_entry slot =
-      entry_by_table D m slot ∙ by (table_in D m slot.pid (slot_number slot.page)) refl
-      ∙ sym (ap (λ x. option_map entry_from (option_and_then (λ t. present_word image t (word_of image t (index_number slot.page))) x)) (same_table slot.pid (slot_number slot.page)))
-    where
-      by : (x : Option ℕ) → table_in D m slot.pid (slot_number slot.page) ≡ x
-          → option_and_then (λ table. word_entry (word_in (m table) (index_number slot.page))) x ≡ option_map entry_from (option_and_then (λ t. present_word image t (word_of image t (index_number slot.page))) x)
-      by None is = refl
-      by (Some t) is =
-          entry_present (word_in (m t) (index_number slot.page)) (is_present (word_in (m t) (index_number slot.page)))
-          ∙ sym (ap (λ b. option_map entry_from (if b && is_present (word_in (m t) (index_number slot.page)) then Some (word_in (m t) (index_number slot.page)) else None)) (table_small slot.pid (slot_number slot.page) t is))
+  same_entry slot = grind (arith, entry_by_table, same_table, entry_present, table_small)
 
   -- a slot whose word is present is one of the user range
   user_page : (slot : Slot) (word : ℕ) → page_word image slot ≡ Some word → list_any (same slot_order slot) user_slots ≡ true
@@ -142,18 +102,11 @@ module _ (directories : List (Option ℕ)) (bytes : List ℕ) (roles : List Role
           in_user_slots slot.pid slot.page (live_small directories slot.pid d pids live) (omega (arith, range.0, range.1)) (omega (arith, range.0, range.1))
         where
           user_range : (s : ℕ) → is_user_slot s ≡ true → (256 ≤ s) × (s < 960)
-          user_range s u = elim (cases_lt s 256) [
-            | inl below ↦ absurd (let f : nat_le 256 s ≡ false = grind (arith, nat_tests) in let g : is_user_slot s ≡ false = (λ i. f i && nat_lt s 960) in cc)
-            | inr above ↦ elim (cases_lt s 960) [
-              | inl inside ↦ (above, inside)
-              | inr over ↦ absurd (let f : nat_lt s 960 ≡ false = grind (arith, nat_tests) in let a : nat_le 256 s ≡ true = grind (arith, nat_tests) in let g : is_user_slot s ≡ false = (λ i. a i && f i) in cc)
-            ]
-          ]
+          user_range s u = grind (arith, cases_lt)
 
       by_named : (d : ℕ) → D slot.pid ≡ Some d → (x : Option ℕ) → named_by (slot_number slot.page) (word_of image d (slot_number slot.page)) ≡ x
           → option_and_then (λ t. present_word image t (word_of image t (index_number slot.page))) x ≡ Some word → list_any (same slot_order slot) user_slots ≡ true
-      by_named d live None is k = cc
-      by_named d live (Some t) is k = by_table d t live is
+      by_named d live x is k = grind (arith, by_table)
 
       by_directory : (x : Option ℕ) → D slot.pid ≡ x
           → option_and_then (λ t. present_word image t (word_of image t (index_number slot.page))) (option_and_then (λ d. named_by (slot_number slot.page) (word_of image d (slot_number slot.page))) x) ≡ Some word → list_any (same slot_order slot) user_slots ≡ true
@@ -164,55 +117,32 @@ module _ (directories : List (Option ℕ)) (bytes : List ℕ) (roles : List Role
   read_entry slot = get-entries_in D m slot ∙ ap (λ x. cond (list_any (same slot_order slot) user_slots) x None) (same_entry slot) ∙ by (page_word image slot) refl
     where
       either : (b : Bool) → ◌≡◌ {A = Option PageEntry} (cond b None None) None
-      either true = refl
-      either false = refl
+      either b = grind arith
 
       by : (x : Option ℕ) → page_word image slot ≡ x → cond (list_any (same slot_order slot) user_slots) (option_map entry_from x) None ≡ option_map entry_from x
-      by None is = either (list_any (same slot_order slot) user_slots)
-      by (Some word) is = ap (λ b. cond b (Some (entry_from word)) None) (user_page slot word is)
+      by x is = grind (arith, either, user_page)
 
   -- a slot's present word is one that the kernel writes
   pub word_names : (slot : Slot) (word : ℕ) → page_word image slot ≡ Some word → NamesPage word
   word_names slot word h = by (table_at image slot.pid (slot_number slot.page)) refl h
     where
       by : (x : Option ℕ) → table_at image slot.pid (slot_number slot.page) ≡ x → option_and_then (λ t. present_word image t (word_of image t (index_number slot.page))) x ≡ Some word → NamesPage word
-      by None is k = cc
-      by (Some t) is k =
-          let two = taken (nat_lt t (length roles)) (is_present (word_of image t (index_number slot.page))) (word_of image t (index_number slot.page)) word k in
-          subst NamesPage two.0 (present_names (word_of image t (index_number slot.page)) two.1 (T.table_words slot.pid (slot_number slot.page) t (index_number slot.page) (sym (same_table slot.pid (slot_number slot.page)) ∙ is) (omega arith)))
+      by x is k = grind (arith, taken, present_names, same_table)
 
   -- whether a slot's page is lazy, by its word and by its entry
   pub same_lazy : (slot : Slot) → is_lazy_at image slot ≡ is_lazy_entry (entry_in D m slot)
-  same_lazy slot = by (page_word image slot) ∙ sym (ap is_lazy_entry (same_entry slot))
-    where
-      by : (x : Option ℕ) → unwrap_or (option_map is_lazy x) false ≡ is_lazy_entry (option_map entry_from x)
-      by None = refl
-      by (Some word) = refl
+  same_lazy slot = grind (arith, same_entry)
 
   pub group_is : (f : ℕ) (slot : Slot) → 1 ≤ f → IsTrue (set.contains (holders_of E f) slot) ↔ (page_frame image slot ≡ Some f)
   group_is f slot up = subst (λ b. IsTrue b ↔ (page_frame image slot ≡ Some f)) (sym (contains-holders_of E f slot ∙ ap (names f) (read_entry slot))) (named f (page_word image slot) up (word_names slot))
 
   -- the slots that name frame 0 are the lazy ones
   pub lazy_slots : (slot : Slot) → IsTrue (set.contains (holders_of E 0) slot) ↔ IsTrue (is_lazy_at image slot)
-  lazy_slots slot = subst (λ b. IsTrue b ↔ IsTrue (is_lazy_at image slot)) (sym (contains-holders_of E 0 slot ∙ ap (names 0) (read_entry slot))) (by (page_word image slot) (word_names slot))
-    where
-      forth : (word : ℕ) → NamesPage word → (b : Bool) → is_lazy word ≡ b → IsTrue (frame_number word == 0) → IsTrue b
-      forth word k true is h = refl
-      forth word k false is h = let up = k.frame is in let e = eqb-true (frame_number word) 0 h in absurd (omega (arith, up, e))
-
-      by : (x : Option ℕ) → ((word : ℕ) → x ≡ Some word → NamesPage word) → IsTrue (names 0 (option_map entry_from x)) ↔ IsTrue (unwrap_or (option_map is_lazy x) false)
-      by None k = (λ h. h, λ h. h)
-      by (Some word) k = (forth word (k word refl) (is_lazy word) refl, λ h. eq-eqb (frame_number word) 0 ((k word refl).zero h))
+  lazy_slots slot = grind (arith, contains-holders_of, read_entry, word_names, eqb-true, eq-eqb)
 
   -- a slot alone
   alone : (slot other : Slot) → IsTrue (set.contains {o = slot_order} (set.insert set.empty slot) other) ↔ (other ≡ slot)
-  alone slot other = elim (same_or_not slot_order other slot) [
-    | inl h ↦ (λ _. h.0, λ _. contains-insert {o = slot_order} set.empty slot other ∙ ap (λ b. b || false) h.1)
-    | inr h ↦ (
-      λ t. absurd (let e : false ≡ true = sym (contains-insert {o = slot_order} set.empty slot other ∙ ap (λ b. b || false) h) ∙ t in cc),
-      λ e. absurd (let b = same_itself slot_order slot in let c : same slot_order other slot ≡ true = ap (λ x. same slot_order x slot) e ∙ b in cc),
-    )
-  ]
+  alone slot other = grind (arith, same_or_not, contains-insert, same_itself)
 
   whole_group : (slot : Slot) (word : ℕ) → NamesPage word → (other : Slot) → IsTrue (set.contains (group_of E slot (frame_number word)) other) ↔ IsOneGroup image slot word other
   whole_group slot word kernel other = by (is_lazy word) refl
@@ -224,8 +154,4 @@ module _ (directories : List (Option ℕ)) (bytes : List ℕ) (roles : List Role
           subst (λ g. IsTrue (set.contains g other) ↔ (page_frame image other ≡ Some (frame_number word))) (sym (group-real E slot (frame_number word) (grind (arith, nat_tests)))) (group_is (frame_number word) other up)
 
   pub cell_stands : (slot : Slot) → SlotStands image slot (page_word image slot) (map.get (spaces_of E m) slot)
-  cell_stands slot = subst (SlotStands image slot (page_word image slot)) (sym (get-spaces_of E m slot ∙ ap (option_map (cell_of E m slot)) (read_entry slot))) (each (page_word image slot) (word_names slot))
-    where
-      each : (x : Option ℕ) → ((word : ℕ) → x ≡ Some word → NamesPage word) → SlotStands image slot x (option_map (cell_of E m slot) (option_map entry_from x))
-      each None kernel = tt
-      each (Some word) kernel = record { write = refl; may = refl; accessed = refl; dirty = refl; bytes = refl; group = whole_group slot word (kernel word refl) }
+  cell_stands slot = grind (arith, get-spaces_of, read_entry, word_names, whole_group)

@@ -1,17 +1,16 @@
 -- Each walk that finds a frame goes the way of its slot.
 use Rattle.address_space.proofs.Prelude
 use Prelude.{◌≡◌, ◌≤◌, ◌==◌, ℕ, Bool, true, false, List, refl, ap, sym, ◌∙◌, arith, Option, Some, None, not, subst, Ok}
-use Prelude.{Result, ◌&&◌, if◌then◌else◌, MatchBool, Err, option_map, unwrap_or, option_and_then, is_ok, ne_eqb}
-use Prelude.{frame_number, is_lazy, page_number, frame_bytes, Role, PageEntry, WalkEnd, Slot, slot_at, page_word}
-use Prelude.{is_lazy_at, image_from, directory_of, entries_in, spaces_in, IsSound, IsSpaces, WaysAgree, eq-eqb}
-use Prelude.{nat_tests, Access, Outside, walk_of, is_write, is_outside, not_allowed, entry_at, lets_writes}
-use Prelude.{is_lazy_entry, end_at_entry, walks_read_entries, cell_of}
+use Prelude.{Result, ◌&&◌, if◌then◌else◌, MatchBool, Err, option_map, option_and_then, is_ok, ne_eqb, frame_number}
+use Prelude.{is_lazy, page_number, frame_bytes, Role, PageEntry, WalkEnd, Slot, slot_at, page_word, is_lazy_at}
+use Prelude.{image_from, directory_of, entries_in, spaces_in, IsSound, IsSpaces, WaysAgree, eq-eqb, nat_tests, Access}
+use Prelude.{Outside, walk_of, is_write, is_outside, not_allowed, entry_at, lets_writes, is_lazy_entry, end_at_entry}
+use Prelude.{walks_read_entries, cell_of, FindsBytes, WalkEndsBy, WalksAgree}
 use Rattle.address_space.proofs.standing.Standing.{word_names, same_entry, read_entry, same_lazy}
 use Rattle.address_space.proofs.standing.FramesStand.{frame_read, way_parts, way_whole}
 use Rattle.address_space.proofs.steps.Steps.{live_small, page_map_of, holds_inside}
 use Rattle.address_space.proofs.steps.Stores.{get_user}
 use Rattle.address_space.proofs.steps.WalkSteps.{found_entry}
-use Rattle.address_space.specs.Walks.{FindsBytes, WalkEndsBy, WalksAgree}
 use Rattle.address_space.proofs.entries.Refinement.{get-spaces_of}
 use Rattle.page_words.specs.FiniteMap as map
 
@@ -48,8 +47,7 @@ module _ (directories : List (Option ℕ)) (bytes : List ℕ) (roles : List Role
 
       by : (b : Bool) → walk_of bytes d address access ≡ (if b then not_allowed address access else if is_outside bytes e.frame then Err Outside else Ok e.frame)
           → MatchBool b (walk_of bytes d address access ≡ not_allowed address access) (FindsBytes bytes d address access (cell_of (entries_in (directory_of directories) (frame_bytes bytes)) (frame_bytes bytes) (slot_at p address) e))
-      by true h = h
-      by false h = record { frame = e.frame; found = h ∙ ap (λ b. if b then Err Outside else Ok e.frame) within; same = refl }
+      by b h = grind (arith, within)
 
 pub walks_agree : (directories : List (Option ℕ)) (bytes : List ℕ) (roles : List Role) → IsSpaces directories bytes roles → WalksAgree (image_from directories bytes roles) (spaces_in directories bytes)
 walks_agree directories bytes roles s p d address access live small =
@@ -76,22 +74,15 @@ ways_agree directories bytes roles sound = record {
             ∙ ap (option_map (λ (x : PageEntry). x.frame)) there
             ∙ ap Some (one_frame e.entry.frame f (sym e.walk ∙ walk));
       });
-  lazy = λ slot d f way. by slot f (page_word (image_from directories bytes roles) slot) refl
-      (way_parts (image_from directories bytes roles) slot d f way).names;
+  lazy = grind (arith, by, way_parts);
   clean = λ slot word is. (word_names directories bytes roles sound slot word is).clean;
 }
   where
     at_zero : (word f : ℕ) (b : Bool) → is_lazy word ≡ b → frame_number word ≡ f
         → (is_lazy word ≡ false → 1 ≤ frame_number word) → (is_lazy word ≡ true → frame_number word ≡ 0)
         → is_lazy word ≡ (f == 0)
-    at_zero word f true is same up zero = is ∙ sym (eq-eqb f 0 (sym same ∙ zero is))
-    at_zero word f false is same up zero = is ∙ sym (ne_eqb f 0 (λ z. let u = up is in omega (arith, u, same, z)))
+    at_zero word f b is same up h = grind (arith, eq-eqb, ne_eqb)
 
     by : (slot : Slot) (f : ℕ) (x : Option ℕ) → page_word (image_from directories bytes roles) slot ≡ x
         → option_map frame_number x ≡ Some f → is_lazy_at (image_from directories bytes roles) slot ≡ (f == 0)
-    by slot f None is names = cc
-    by slot f (Some word) is names =
-        let names_page = word_names directories bytes roles sound slot word is in
-        let same : frame_number word ≡ f = cc in
-        ap (λ (x : Option ℕ). unwrap_or (option_map is_lazy x) false) is
-        ∙ at_zero word f (is_lazy word) refl same names_page.frame names_page.zero
+    by slot f x is names = grind (arith, word_names, at_zero)

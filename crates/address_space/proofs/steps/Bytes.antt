@@ -1,16 +1,14 @@
 -- Accesses byte by byte, and as one where their bytes lie in one page.
 use Rattle.address_space.proofs.Prelude
 use Prelude.{◌≡◌, ℕ, zero, suc, ◌+◌, ◌*◌, ◌/◌, ◌%◌, ◌<◌, ◌≤◌, Bool, true, false, cond, List, [], ◌∷◌, ◌++◌, length}
-use Prelude.{take, drop, refl, ap, sym, ◌∙◌, subst, arith, inl, inr, Option, Some, None, length-drop, ◌-◌, unwrap_or}
-use Prelude.{option_map, slice_index, if◌then◌else◌, ◌⊎◌, IfSome, range_with_len, slice_range, page_number}
+use Prelude.{take, drop, refl, ap, sym, ◌∙◌, arith, inl, inr, Option, Some, None, length-drop, ◌-◌, drop-drop}
+use Prelude.{unwrap_or, option_map, slice_index, if◌then◌else◌, ◌⊎◌, range_with_len, slice_range, page_number}
 use Prelude.{offset_number, byte_count, covered, second_page, EachTouched, Size, same, cases_lt, same_or_not}
 use Prelude.{same_itself, same_map, get-insert, get-map_values, Slot, slot_order, at_page, slot_at, Cell, Spaces, fresh}
 use Prelude.{cell_or_fresh, set_bytes, with_bytes, stored, store_in, write_at, bytes_at, bytes_of, value_of, byte_at}
-use Prelude.{number_of, all_stored}
-use Rattle.std.proofs.Common.{map as each, drop-drop}
-use Rattle.std.proofs.lemmas.List.{get_or-drop, append-nil, drop-take, length-take-le, take-append-drop}
-use Rattle.page_words.specs.declared.addresses.Size.TheVariants.{One, Two, Four}
-use Rattle.page_words.proofs.Accesses.{stays, crosses, some_bytes, page_stays, page_next}
+use Prelude.{number_of, all_stored, get_or-drop, append-nil, drop-take, length-take-le, take-append-drop, stays}
+use Prelude.{crosses, some_bytes, page_stays, page_next}
+use Rattle.std.proofs.Common.{map as each}
 use Rattle.page_words.specs.FiniteMap as map
 use Rattle.page_words.specs.FiniteSet as set
 
@@ -18,20 +16,7 @@ use Rattle.page_words.specs.FiniteSet as set
 
 -- what each page that an access touches has, the page of each of its bytes has
 pub each_byte : (address : ℕ) (size : Size) (P : ℕ → Type 0) → EachTouched address size P → (i : ℕ) → i < byte_count size → P (page_number (address + i))
-each_byte address size P h i l = by (second_page address size) refl h.1
-  where
-    few : byte_count size ≤ 4
-    few = let n = some_bytes size in let a = n.1 in let b = n.2 in omega (arith, a, b)
-
-    beyond : (page : ℕ) → second_page address size ≡ Some page → P page → (d : ℕ) → d ≡ offset_number address + i → P (page_number (address + i))
-    beyond page is own d sum = elim (cases_lt d 4096) [
-      | inl within ↦ subst P (sym (page_stays address i (omega (arith, within, sum)))) h.0
-      | inr past ↦ let next = (crosses address size page is).next in subst P (next ∙ sym (page_next address i (omega (arith, past, sum)) (omega (arith, l, few)))) own
-    ]
-
-    by : (x : Option ℕ) → second_page address size ≡ x → IfSome x P → P (page_number (address + i))
-    by None is none = let fits = stays address size is in subst P (sym (page_stays address i (omega (arith, fits, l)))) h.0
-    by (Some page) is own = beyond page is own (offset_number address + i) refl
+each_byte address size P h i l = grind (arith, some_bytes, cases_lt, page_stays, crosses, page_next, stays)
 
 -- ---- A number in one page
 
@@ -55,12 +40,8 @@ value_by_places xs at (suc n) =
         omega (arith, z, v)
       where
         none : (n : ℕ) → value_of (take n []) ≡ 0
-        none zero = refl
-        none (suc n) = refl
-    by (y ∷ ys) is e =
-        let z : slice_index xs at ≡ y = e ∙ ap (λ ys. slice_index ys 0) is in
-        let v : value_of (take n (drop (at + 1) xs)) ≡ value_of (take n ys) = ap (λ ys. value_of (take n ys)) (rest ∙ ap (drop 1) is) in
-        omega (arith, z, v)
+        none n = grind arith
+    by (y ∷ ys) is e = grind (arith, rest)
 
 -- the bytes at some places in a row are those of a part
 pub bytes_by_places : (xs : List ℕ) (at n : ℕ) → at + n ≤ length xs → each (slice_index xs) (range_with_len at n) ≡ take n (drop at xs)
@@ -75,11 +56,7 @@ bytes_by_places xs at (suc n) fits = by (drop at xs) refl (length-drop at xs) (f
 
     by : (ys : List ℕ) → drop at xs ≡ ys → length (drop at xs) ≡ length xs - at → slice_index xs at ≡ slice_index (drop at xs) 0
         → each (slice_index xs) (range_with_len (at + 1) n) ≡ take n (drop (at + 1) xs) → slice_index xs at ∷ each (slice_index xs) (range_with_len (at + 1) n) ≡ take (suc n) ys
-    by [] is long e others = let none : length (drop at xs) ≡ 0 = ap length is in absurd (omega (arith, none, long, fits))
-    by (y ∷ ys) is long e others =
-        let z : slice_index xs at ≡ y = e ∙ ap (λ ys. slice_index ys 0) is in
-        let v : each (slice_index xs) (range_with_len (at + 1) n) ≡ take n ys = others ∙ ap (take n) (rest ∙ ap (drop 1) is) in
-        λ i. z i ∷ v i
+    by ys is long e others = grind (arith, rest)
 
 bytes_in : (S : Spaces) (p page a o n : ℕ) → ((i : ℕ) → i < n → page_number (a + i) ≡ page) → ((i : ℕ) → i < n → offset_number (a + i) ≡ o + i)
     → each (byte_at S p) (range_with_len a n) ≡ each (slice_index (cell_or_fresh S (at_page p page)).bytes) (range_with_len o n)
@@ -96,10 +73,7 @@ bytes_in S p page a o (suc n) pages places =
 -- the bytes from an address on, which lie in one page
 pub part_in_page : (S : Spaces) (p address n : ℕ) → offset_number address + n ≤ 4096
     → each (byte_at S p) (range_with_len address n) ≡ each (slice_index (cell_or_fresh S (slot_at p address)).bytes) (range_with_len (offset_number address) n)
-part_in_page S p address n fits =
-    bytes_in S p (page_number address) address (offset_number address) n
-    (λ i l. page_stays address i (omega (arith, fits, l)))
-    (λ i l. let s : offset_number address + i < 4096 = omega (arith, fits, l) in omega (arith, s))
+part_in_page S p address n fits = grind (arith, bytes_in, page_stays)
 
 -- the number of bytes that lie in one page
 pub number_in_page : (S : Spaces) (p address : ℕ) (size : Size) → second_page address size ≡ None
@@ -120,8 +94,7 @@ write_at-zero : (xs new : List ℕ) → write_at xs 0 new ≡ new ++ drop (lengt
 write_at-zero xs new = let e : 0 + length new ≡ length new = omega arith in ap (λ k. new ++ drop k xs) e
 
 no_more : (k : ℕ) → drop {A = ℕ} k [] ≡ []
-no_more zero = refl
-no_more (suc k) = refl
+no_more k = grind arith
 
 write_at-none : (at : ℕ) (new : List ℕ) → write_at [] at new ≡ new
 write_at-none zero new = ap (λ xs. new ++ xs) (no_more (0 + length new)) ∙ append-nil new
@@ -133,14 +106,8 @@ write_at-nothing xs at = let z : at + 0 ≡ at = omega arith in (λ i. append-ni
 
 -- bytes written behind others are written with them
 pub write_at-write_at : (xs : List ℕ) (at b : ℕ) (ys : List ℕ) → write_at (write_at xs at (b ∷ [])) (at + 1) ys ≡ write_at xs at (b ∷ ys)
-write_at-write_at [] at b ys =
-    let e : at + 1 ≡ suc at = omega arith in
-    ap (λ zs. write_at zs (at + 1) ys) (write_at-none at (b ∷ [])) ∙ ap (λ k. write_at (b ∷ []) k ys) e ∙ write_at-cons b [] at ys
-    ∙ ap (λ zs. b ∷ zs) (write_at-none at ys) ∙ sym (write_at-none at (b ∷ ys))
-write_at-write_at (x ∷ xs) zero b ys =
-    let e : 0 + 1 ≡ suc 0 = omega arith in
-    ap (λ zs. write_at zs (0 + 1) ys) (write_at-zero (x ∷ xs) (b ∷ [])) ∙ ap (λ k. write_at (b ∷ xs) k ys) e ∙ write_at-cons b xs 0 ys
-    ∙ ap (λ zs. b ∷ zs) (write_at-zero xs ys) ∙ sym (write_at-zero (x ∷ xs) (b ∷ ys))
+write_at-write_at [] at b ys = grind (arith, write_at-none, write_at-cons)
+write_at-write_at (x ∷ xs) zero b ys = grind (arith, write_at-zero, write_at-cons)
 write_at-write_at (x ∷ xs) (suc at) b ys =
     let e : suc at + 1 ≡ suc (at + 1) = omega arith in
     ap (λ zs. write_at zs (suc at + 1) ys) (write_at-cons x xs at (b ∷ [])) ∙ ap (λ k. write_at (x ∷ write_at xs at (b ∷ [])) k ys) e
@@ -174,10 +141,7 @@ module _ (S : Spaces) (slot : Slot) where
       f bytes s c = if set.contains cell.holders s then with_bytes c bytes else c
 
       over : (b : Bool) (x : Option Cell) → option_map (λ c. if b then with_bytes c v else c) (option_map (λ c. if b then with_bytes c w else c) x) ≡ option_map (λ c. if b then with_bytes c v else c) x
-      over true None = refl
-      over true (Some c) = refl
-      over false None = refl
-      over false (Some c) = refl
+      over b x = grind arith
 
       by : (q : Slot) → ((q ≡ slot) × (same slot_order q slot ≡ true)) ⊎ (same slot_order q slot ≡ false)
           → cond (same slot_order q slot) (Some last) (map.get (set_bytes (first w) cell.holders v) q) ≡ cond (same slot_order q slot) (Some last) (map.get (set_bytes S cell.holders v) q)
@@ -267,10 +231,7 @@ stored_in_page S p address size value within =
 -- some bytes of one page, stored as one part
 part_stored : (S : Spaces) (p a : ℕ) (bs : List ℕ) → 1 ≤ length bs → offset_number a + length bs ≤ 4096 → all_stored S p a bs ≡ stored S (slot_at p a) (offset_number a) bs
 part_stored S p a [] some fits = absurd (let k : suc zero ≤ zero = some in omega (arith, k))
-part_stored S p a (b ∷ bs) some fits =
-    stored_in S p (page_number a) a (offset_number a) b bs
-    (λ i l. page_stays a i (omega (arith, fits, l)))
-    (λ i l. let s : offset_number a + i < 4096 = omega (arith, fits, l) in omega (arith, s))
+part_stored S p a (b ∷ bs) some fits = grind (arith, stored_in, page_stays)
 
 -- one part after the other
 all_append : (S : Spaces) (p a : ℕ) (xs ys : List ℕ) → all_stored S p a (xs ++ ys) ≡ all_stored (all_stored S p a xs) p (a + length xs) ys
@@ -297,8 +258,7 @@ two_parts B cut end a b =
     ap (λ xs. xs ++ take k (drop cut B)) (sym (take-take B cut k)) ∙ ap (λ xs. take cut (take (cut + k) B) ++ xs) (sym (drop-take cut k B)) ∙ take-append-drop cut (take (cut + k) B) ∙ ap (λ m. take m B) (sym n)
   where
     take-none : (n : ℕ) → take {A = ℕ} n [] ≡ []
-    take-none zero = refl
-    take-none (suc n) = refl
+    take-none n = grind arith
 
     take-take : (xs : List ℕ) (i m : ℕ) → take i (take (i + m) xs) ≡ take i xs
     take-take xs zero m = refl
@@ -309,6 +269,4 @@ pub length-part : (B : List ℕ) (from to : ℕ) → from ≤ to → to ≤ leng
 length-part B from to a b = let left = length-drop from B in length-take-le (to - from) (drop from B) (omega (arith, a, b, left))
 
 pub first_bytes : (size : Size) (v : ℕ) → take (byte_count size) (bytes_of 4 v) ≡ bytes_of (byte_count size) v
-first_bytes One v = refl
-first_bytes Two v = refl
-first_bytes Four v = refl
+first_bytes size v = grind arith

@@ -1,17 +1,15 @@
 -- What a copy of a page leaves, and then a copy of all pages of a process.
 use Rattle.address_space.proofs.Prelude
-use Prelude.{names, Entries, group_of, spaces_of, ◌≡◌, ◌≢◌, ℕ, ◌+◌, ◌<◌, ◌≤◌, true}
-use Prelude.{false, cond, List, length, refl, ap, sym, ◌∙◌, subst, arith, inl, inr, Option, Some, None, length-set}
-use Prelude.{◌==◌, unwrap_or, option_and_then, option_map, ◌⊎◌, is_some, slice_get, if◌then◌else◌, slot_number}
-use Prelude.{IsUserPage, frame_number, Map, get-insert, same_itself, same_map, same_apart, some_value, frame_bytes}
-use Prelude.{with_frame, with_frame_bytes, with_frame-same, with_frame-other, length-frame, frames-with_frame_bytes}
-use Prelude.{Role, Free, Page, IsTaken, weight-taken, PageEntry, Frames, dir_word, table_of}
-use Prelude.{entry_at, with_entry, is_lazy_entry}
-use Prelude.{Slot, slot_order, Cell, Spaces, cell_or_fresh, copy_of, copied}
-use Prelude.{copied_at, cost, cost_of, fresh, pages_of, regions_of, at_page, Directories, Roles, directory_of, table_in}
-use Prelude.{entry_in, entries_in, spaces_in, live_cost, total_cost, Tables, IsSound, IsSpaces, InUseAt}
-use Prelude.{TableGiven, IsEmptySpace, SlotCopied, PageCopied, CopiedBelow, PagesCopied, cases_eq, cases_lt, ne_eqb}
-use Prelude.{eq-eqb, nat_eq_equiv, none_goes}
+use Prelude.{names, Entries, group_of, spaces_of, ◌≡◌, ◌≢◌, ℕ, ◌+◌, ◌<◌, ◌≤◌, true, false, cond, List, length, refl, ap}
+use Prelude.{sym, ◌∙◌, subst, arith, inl, inr, Option, Some, None, length-set, ◌==◌, unwrap_or, option_and_then}
+use Prelude.{option_map, ◌⊎◌, is_some, slice_get, if◌then◌else◌, slot_number, IsUserPage, frame_number, Map, get-insert}
+use Prelude.{same_itself, same_map, same_apart, some_value, frame_bytes, with_frame, with_frame_bytes, with_frame-same}
+use Prelude.{with_frame-other, length-frame, frames-with_frame_bytes, Role, Free, Page, IsTaken, weight-taken}
+use Prelude.{PageEntry, Frames, dir_word, table_of, entry_at, with_entry, is_lazy_entry, Slot, slot_order, Cell, Spaces}
+use Prelude.{cell_or_fresh, copy_of, copied, copied_at, cost, cost_of, fresh, pages_of, regions_of, at_page}
+use Prelude.{Directories, Roles, directory_of, table_in, entries_in, spaces_in, live_cost, total_cost, Tables, IsSound}
+use Prelude.{IsSpaces, InUseAt, TableGiven, IsEmptySpace, SlotCopied, PageCopied, CopiedBelow, PagesCopied, cases_eq}
+use Prelude.{cases_lt, ne_eqb, eq-eqb, nat_eq_equiv, none_goes}
 use Rattle.address_space.proofs.costs.Copied.{get-copied}
 use Rattle.address_space.proofs.costs.Costed.{Room, mapped}
 use Rattle.address_space.proofs.costs.Costs.{same_pages}
@@ -22,8 +20,10 @@ use Rattle.address_space.proofs.entries.Refinement.{get-spaces_of, lone_refines,
 use Rattle.address_space.proofs.entries.Readings.{mapped_read}
 use Rattle.address_space.proofs.entries.UserSlots.{in_user_slots}
 use Rattle.address_space.proofs.frames.FrameSteps.{loose-tables, loose-entries, tables-loose, tables-role, use_loose}
-use Rattle.address_space.proofs.frames.PageSteps.{same_bytes, pages-fresh, pages-lazy, lazy-more, lazy-real, no_free, unused}
-use Rattle.address_space.proofs.steps.Steps.{IsReady, entry_added, inside, live_small, none_before, role_own, role_other, free_loose, page_loose, holds_inside, MapStays, map_kept}
+use Rattle.address_space.proofs.frames.PageSteps.{same_bytes, pages-fresh, pages-lazy, lazy-more, lazy-real, no_free}
+use Rattle.address_space.proofs.frames.PageSteps.{unused}
+use Rattle.address_space.proofs.steps.Steps.{IsReady, entry_added, inside, live_small, none_before, role_own}
+use Rattle.address_space.proofs.steps.Steps.{role_other, free_loose, page_loose, holds_inside, MapStays, map_kept}
 use Rattle.address_space.proofs.steps.Stores.{get_user, entry_rules}
 use Rattle.address_space.proofs.steps.Departures.{no_cell_outside, no_cell_unmapped}
 use Rattle.address_space.proofs.steps.Openings.{empty_cost}
@@ -190,18 +190,12 @@ frame_copied directories bytes one roles from source p d page f e sound home liv
 -- the entry of a page, as the map of all entries has it
 seen : (directories : List (Option ℕ)) (bytes : List ℕ) (p d page : ℕ) → length directories ≡ 64 → directory_of directories p ≡ Some d → 0x40000 ≤ page → page < 0xf0000
     → map.get (entries_in (directory_of directories) (frame_bytes bytes)) (at_page p page) ≡ entry_at (frame_bytes bytes) d page
-seen directories bytes p d page long live low high =
-    let D : Directories = directory_of directories in
-    let m : Frames = frame_bytes bytes in
-    get-entries_in D m (at_page p page)
-    ∙ ap (λ b. cond b (entry_in D m (at_page p page)) None) (in_user_slots p page (live_small directories p d long live) low high)
-    ∙ ap (option_and_then (λ x. entry_at m x page)) live
+seen directories bytes p d page long live low high = grind (arith, get-entries_in, in_user_slots, live_small)
 
 -- an entry stays where all entries do
 pub entry_stays : (directories : List (Option ℕ)) (bytes bytes1 : List ℕ) (p d page : ℕ) → length directories ≡ 64 → directory_of directories p ≡ Some d → 0x40000 ≤ page → page < 0xf0000
     → entries_in (directory_of directories) (frame_bytes bytes1) ≡ entries_in (directory_of directories) (frame_bytes bytes) → entry_at (frame_bytes bytes1) d page ≡ entry_at (frame_bytes bytes) d page
-entry_stays directories bytes bytes1 p d page long live low high same_entries =
-    sym (seen directories bytes1 p d page long live low high) ∙ ap (λ E. map.get E (at_page p page)) same_entries ∙ seen directories bytes p d page long live low high
+entry_stays directories bytes bytes1 p d page long live low high same_entries = grind (arith, seen)
 
 -- a page was copied, for which a table was given first
 pub page_copied : (directories : List (Option ℕ)) (bytes bytes1 bytes2 : List ℕ) (roles roles1 roles2 : List Role) (from source to page : ℕ) → IsSpaces directories bytes roles → directory_of directories from ≡ Some source
@@ -214,11 +208,7 @@ page_copied directories bytes bytes1 bytes2 roles roles1 roles2 from source to p
     record {
       after = mapped directories bytes bytes1 bytes2 roles roles1 roles2 to page s room given made.slot;
       spaces = made.spaces ∙ ap (λ x. map.insert x slot (copy_of slot (cell_or_fresh x (at_page from page)))) given.spaces;
-      entries = (
-        made.entries.0,
-        made.entries.1 ∙ ap (λ x. map.insert x slot made.entries.0) given.entries,
-        made.entries.2 ∙ ap is_lazy_entry (ap (option_and_then (λ x. entry_at (frame_bytes bytes1) x page)) home ∙ stays ∙ sym (ap (option_and_then (λ x. entry_at (frame_bytes bytes) x page)) home)),
-      );
+      entries = grind arith;
       stay = places_then none_goes D (frame_bytes bytes) D (frame_bytes bytes1) D (frame_bytes bytes2)
           (places_by none_goes D (frame_bytes bytes) D (frame_bytes bytes1)
           (stay_same none_goes (entries_in D (frame_bytes bytes)) (entries_in D (frame_bytes bytes1)) given.entries)
@@ -250,9 +240,7 @@ copied_at_first directories bytes roles from to s empty = record {
   below = λ page l. empty page ∙ sym (ap (option_map (copy_of (at_page to page))) (no_cell_outside directories bytes roles from page s.sound (inl l)));
   rest = λ page l. empty page;
   other_entries = λ q n. refl;
-  stay = places_by none_goes (directory_of directories) (frame_bytes bytes) (directory_of directories)
-      (frame_bytes bytes) (stay_same none_goes (entries_in (directory_of directories) (frame_bytes bytes))
-      (entries_in (directory_of directories) (frame_bytes bytes)) refl) (λ q r t found. found);
+  stay = grind (arith, places_by, stay_same);
   lazy = λ page l. ap is_lazy_entry (no_entry directories bytes (at_page to page) (empty page)) ∙ sym (ap is_lazy_entry (no_entry directories bytes (at_page from page) (no_cell_outside directories bytes roles from page s.sound (inl l))));
   length = refl;
   low = omega arith;
@@ -260,29 +248,30 @@ copied_at_first directories bytes roles from to s empty = record {
 }
 
 -- pages that aren't mapped are passed over
-pub copied_past : (directories : List (Option ℕ)) (bytes one : List ℕ) (roles roles1 : List Role) (from source to next beyond : ℕ) → IsEmptySpace (spaces_in directories bytes) to → CopiedBelow directories from to next bytes roles one roles1
-    → directory_of directories from ≡ Some source → next ≤ beyond → beyond ≤ 0xf0000 → ((page : ℕ) → next ≤ page → page < beyond → entry_at (frame_bytes one) source page ≡ None)
+pub copied_over : (directories : List (Option ℕ)) (bytes one : List ℕ) (roles roles1 : List Role) (from to next beyond : ℕ) → CopiedBelow directories from to next bytes roles one roles1
+    → next ≤ beyond → beyond ≤ 0xf0000 → ((page : ℕ) → next ≤ page → page < beyond → map.get (spaces_in directories bytes) (at_page from page) ≡ None)
     → CopiedBelow directories from to beyond bytes roles one roles1
-copied_past directories bytes one roles roles1 from source to next beyond empty so_far home up high none =
+copied_over directories bytes one roles roles1 from to next beyond so_far up high unmapped =
     let low = so_far.low in
     record {
       after = so_far.after;
       others = so_far.others;
-      below = λ page l. elim (cases_lt page next) [
-        | inl less ↦ so_far.below page less
-        | inr above ↦ so_far.rest page above ∙ sym (ap (option_map (copy_of (at_page to page))) (unmapped page above l))
-      ];
+      below = grind (arith, cases_lt, unmapped);
       rest = λ page l. so_far.rest page (omega (arith, up, l));
       other_entries = so_far.other_entries;
       stay = so_far.stay;
-      lazy = λ page l. elim (cases_lt page next) [
-        | inl less ↦ so_far.lazy page less
-        | inr above ↦ ap is_lazy_entry (no_entry directories one (at_page to page) (so_far.rest page above)) ∙ sym (ap is_lazy_entry (no_entry directories bytes (at_page from page) (unmapped page above l)))
-      ];
+      lazy = grind (arith, cases_lt, no_entry, unmapped);
       length = so_far.length;
       low = omega (arith, low, up);
       high = high;
     }
+
+-- so it is with pages without an entry
+pub copied_past : (directories : List (Option ℕ)) (bytes one : List ℕ) (roles roles1 : List Role) (from source to next beyond : ℕ) → IsEmptySpace (spaces_in directories bytes) to → CopiedBelow directories from to next bytes roles one roles1
+    → directory_of directories from ≡ Some source → next ≤ beyond → beyond ≤ 0xf0000 → ((page : ℕ) → next ≤ page → page < beyond → entry_at (frame_bytes one) source page ≡ None)
+    → CopiedBelow directories from to beyond bytes roles one roles1
+copied_past directories bytes one roles roles1 from source to next beyond empty so_far home up high none =
+    copied_over directories bytes one roles roles1 from to next beyond so_far up high unmapped
   where
     unmapped : (page : ℕ) → next ≤ page → page < beyond → map.get (spaces_in directories bytes) (at_page from page) ≡ None
     unmapped page above less = elim (cases_eq from to) [
@@ -302,8 +291,7 @@ module _ (directories : List (Option ℕ)) (bytes one : List ℕ) (roles roles1 
   slot = at_page to page
 
   mapped_there : is_some (map.get S1 (at_page from page)) ≡ true
-  mapped_there =
-      mapped_read directories one from source page home (live_small directories from source so_far.after.sound.pids home) user.0 user.1 ∙ here
+  mapped_there = grind (arith, mapped_read, live_small)
 
   -- a process with a page to copy is another one than that without any
   apart : from ≢ to
@@ -328,17 +316,11 @@ module _ (directories : List (Option ℕ)) (bytes one : List ℕ) (roles roles1 
   copied_from : (c : Cell) (other : ℕ) → map.contains_key (more c) (at_page to other) ≡ true → map.contains_key S (at_page from other) ≡ true
   copied_from c other h = elim (cases_eq other page) [
     | inl same ↦ ap (λ n. map.contains_key S (at_page from n)) same ∙ ap is_some was
-    | inr differ ↦
-        let old : is_some (map.get S1 (at_page to other)) ≡ true = sym (ap is_some (put_other S1 slot c (at_page to other) (other_page other differ))) ∙ h in
-        elim (cases_lt other page) [
-          | inl less ↦ both (map.get S (at_page from other)) (sym (ap is_some (so_far.below other less)) ∙ old)
-          | inr least ↦ absurd (let a : false ≡ true = sym (ap is_some (so_far.rest other least)) ∙ old in cc)
-        ]
+    | inr differ ↦ grind (arith, put_other, other_page, cases_lt, both)
   ]
     where
       both : (x : Option Cell) → is_some (option_map (copy_of (at_page to other)) x) ≡ true → is_some x ≡ true
-      both None h = cc
-      both (Some c) h = refl
+      both x h = grind arith
 
   -- what all processes cost with one page more of that one
   total_grown : IsEmptySpace S to → to < 64 → (c : Cell) → total_cost directories (more c) + 1 ≡ total_cost directories S + cost (more c) to
@@ -379,10 +361,7 @@ module _ (directories : List (Option ℕ)) (bytes one : List ℕ) (roles roles1 
         stay = places_then none_goes (directory_of directories) (frame_bytes bytes) (directory_of directories)
             (frame_bytes one) (directory_of directories) (frame_bytes two) so_far.stay made.stay;
         lazy = λ other l. ap (λ x. is_lazy_entry (map.get x (at_page to other))) made.entries.1 ∙ elim (cases_eq other page) [
-          | inl same ↦
-              ap (λ n. is_lazy_entry (map.get (map.insert E1 slot made.entries.0) (at_page to n))) same ∙ ap is_lazy_entry (put_here E1 slot made.entries.0) ∙ made.entries.2
-              ∙ ap is_lazy_entry (ap (option_and_then (λ x. entry_at (frame_bytes one) x page)) home ∙ sym (seen directories one from source page so_far.after.sound.pids home user.0 user.1) ∙ so_far.other_entries (at_page from page) apart)
-              ∙ sym (ap (λ n. is_lazy_entry (map.get E (at_page from n))) same)
+          | inl same ↦ grind (arith, E1, put_here, seen, apart, E)
           | inr differ ↦ ap is_lazy_entry (put_other E1 slot made.entries.0 (at_page to other) (other_page other differ)) ∙ so_far.lazy other (omega (arith, l, differ))
         ];
         length = made.length ∙ so_far.length;
@@ -432,20 +411,10 @@ copied_at_last directories bytes one roles roles1 from to s so_far = record {
     unmapped page past = no_cell_outside directories bytes roles from page s.sound (inr past)
 
     own : (page : ℕ) → map.get S1 (at_page to page) ≡ option_map (copy_of (at_page to page)) (map.get S (at_page from page))
-    own page = elim (cases_lt page 0xf0000) [
-      | inl less ↦ so_far.below page less
-      | inr past ↦ so_far.rest page past ∙ sym (ap (option_map (copy_of (at_page to page))) (unmapped page past))
-    ]
+    own page = grind (arith, cases_lt, unmapped)
 
     lazy_at : (page : ℕ) → is_lazy_entry (map.get E1 (at_page to page)) ≡ is_lazy_entry (map.get E (at_page from page))
-    lazy_at page = elim (cases_lt page 0xf0000) [
-      | inl less ↦ so_far.lazy page less
-      | inr past ↦ ap is_lazy_entry (no_entry directories one (at_page to page) (so_far.rest page past)) ∙ sym (ap is_lazy_entry (no_entry directories bytes (at_page from page) (unmapped page past)))
-    ]
+    lazy_at page = grind (arith, cases_lt, no_entry, unmapped)
 
     at : (q : Slot) → (q.pid ≡ to) ⊎ (q.pid ≢ to) → map.get S1 q ≡ copied_at S from to q
-    at q (inl same) =
-        let here : q ≡ at_page to q.page = (λ i. record { pid = same i; page = q.page }) in
-        ap (map.get S1) here ∙ own q.page ∙ ap (λ x. option_map (copy_of x) (map.get S (at_page from q.page))) (sym here)
-        ∙ sym (ap (λ b. if b then option_map (copy_of q) (map.get S (at_page from q.page)) else map.get S q) (eq-eqb q.pid to same))
-    at q (inr differ) = so_far.others q differ ∙ sym (ap (λ b. if b then option_map (copy_of q) (map.get S (at_page from q.page)) else map.get S q) (ne_eqb q.pid to differ))
+    at q h = grind (arith, S1, own, S, eq-eqb, ne_eqb)

@@ -1,16 +1,13 @@
 -- How the counts of the tables' pages change.
 use Rattle.address_space.proofs.Prelude
-use Prelude.{◌≡◌, ◌≢◌, ℕ, zero, suc, ◌+◌, ◌-◌, ◌*◌, ◌<◌, ◌≤◌, Bool, true, false, cond, List, length, replicate, refl}
-use Prelude.{ap, sym, ◌∙◌, subst, arith, inl, inr, Option, Some, None, is_some, slice_get, slice_set, nat_lt}
-use Prelude.{if◌then◌else◌, option_map, option_and_then, cases_eq, slice_get_within, slot_number, IsUserPage}
-use Prelude.{is_some-map, frame_bytes, Role, Reserved, Free, Directory, Table, Page, get-set_same, get-set_other}
-use Prelude.{table_of, entry_at, IsCleared, counted, count_range, PageEntry, same, same_or_not, same_itself, Slot}
-use Prelude.{slot_order, Cell, Spaces, without, is_slot, at_page, TableFreed, EntryLeft, cell_of, directory_of}
-use Prelude.{table_in, entries_in, spaces_in, IsSound, region_pages, pages_by, pages_under, IsCounted, AlwaysMapsAlike}
-use Prelude.{KeepsCounts, MapsOneMore}
-use Rattle.address_space.specs.Counts.{MapsAlike}
-use Rattle.alloc_table.specs.Roles.{IsTaken, IsHeld, IsReleased, released, opening_roles}
-use Rattle.page_map.proofs.PageLemmas.{count_range-same, count_range-le, count-no_table}
+use Prelude.{◌≡◌, ◌≢◌, ℕ, zero, suc, ◌+◌, ◌-◌, ◌*◌, ◌<◌, ◌≤◌, Bool, true, false, List, length, replicate, refl, ap, sym}
+use Prelude.{◌∙◌, subst, arith, inl, inr, Option, Some, None, is_some, slice_get, slice_set, option_map}
+use Prelude.{option_and_then, cases_eq, slice_get_within, slot_number, IsUserPage, is_some-map, frame_bytes, Role, Free}
+use Prelude.{Table, Page, get-set_same, get-set_other, table_of, entry_at, IsCleared, counted, count_range, PageEntry}
+use Prelude.{same, same_or_not, same_itself, Slot, Cell, Spaces, without, is_slot, at_page, TableFreed, EntryLeft}
+use Prelude.{cell_of, directory_of, table_in, entries_in, spaces_in, IsSound, region_pages, pages_by, pages_under}
+use Prelude.{IsCounted, AlwaysMapsAlike, KeepsCounts, MapsOneMore, MapsAlike, IsTaken, IsHeld, IsReleased, released}
+use Prelude.{opening_roles, count_range-same, count_range-le, count-no_table}
 use Rattle.page_map.proofs.Counting.{count_some, table_mapped}
 use Rattle.page_map.proofs.MapChanges.{table_there}
 use Rattle.address_space.proofs.costs.AccessCosts.{key-insert}
@@ -27,15 +24,10 @@ same_region : (S T : Spaces) → ((q : Slot) → map.contains_key T q ≡ map.co
 same_region S T is p s = count_range-same (λ page. map.contains_key T (at_page p page)) (λ page. map.contains_key S (at_page p page)) (1024 * s) (1024 * s) 1024 (λ i l. is (at_page p (1024 * s + i)))
 
 same_pages_by : (S T : Spaces) → ((q : Slot) → map.contains_key T q ≡ map.contains_key S q) → (r : Role) → pages_by T r ≡ pages_by S r
-same_pages_by S T is Reserved = refl
-same_pages_by S T is Free = refl
-same_pages_by S T is (Directory p) = refl
-same_pages_by S T is (Table p s) = same_region S T is p s
-same_pages_by S T is (Page count) = refl
+same_pages_by S T is r = grind (arith, same_region)
 
 map_alike : (S T : Spaces) (x : Option Role) → ((r : Role) → x ≡ Some r → pages_by T r ≡ pages_by S r) → option_map (pages_by T) x ≡ option_map (pages_by S) x
-map_alike S T None is = refl
-map_alike S T (Some r) is = ap Some (is r refl)
+map_alike S T x is = grind arith
 
 -- the same slots are mapped
 pub counted_keys : (S T : Spaces) (roles : List Role) (counts : List ℕ) → ((q : Slot) → map.contains_key T q ≡ map.contains_key S q) → IsCounted S roles counts → IsCounted T roles counts
@@ -61,15 +53,7 @@ pub alike_held : (roles roles' : List Role) (f : ℕ) → IsHeld roles f roles' 
 alike_held roles roles' f held S = alike_set S roles roles' f (Page held.count) (Page (held.count + 1)) held.page held.now refl
 
 released_none : (S : Spaces) (r : Role) → pages_by S (released r) ≡ 0
-released_none S Reserved = refl
-released_none S Free = refl
-released_none S (Directory p) = refl
-released_none S (Table p s) = refl
-released_none S (Page count) = by (nat_lt 1 count)
-  where
-    by : (b : Bool) → pages_by S (if b then Page (count - 1) else Free) ≡ 0
-    by true = refl
-    by false = refl
+released_none S r = grind arith
 
 pub alike_released : (S : Spaces) (roles roles' : List Role) (f : ℕ) (role : Role) → IsReleased roles f roles' → slice_get roles f ≡ Some role → pages_by S role ≡ 0 → MapsAlike S roles roles'
 alike_released S roles roles' f role rel is none =
@@ -84,11 +68,7 @@ one_more : (P Q : ℕ → Bool) (first count k : ℕ) → first ≤ k → k < fi
 unfolding count_range
 one_more P Q first zero k low high passes fails others = absurd (omega arith)
 one_more P Q first (suc count) k low high passes fails others = elim (cases_eq k first) [
-  | inl here ↦
-      let a : counted (Q first) ≡ 1 = ap counted (ap Q (sym here) ∙ passes) in
-      let b : counted (P first) ≡ 0 = ap counted (ap P (sym here) ∙ fails) in
-      let rest = count_range-same Q P (first + 1) (first + 1) count (λ i l. others (first + 1 + i) (λ e. omega (arith, e, here))) in
-      omega (arith, a, b, rest)
+  | inl here ↦ grind (arith, count_range-same)
   | inr differ ↦
       let a : counted (Q first) ≡ counted (P first) = ap counted (others first (λ e. differ (sym e))) in
       let rest = one_more P Q (first + 1) count k (omega arith) (omega arith) passes fails others in
@@ -104,12 +84,7 @@ region_more less more p page one =
     (λ i n. one.others (at_page p i) (apart_page p page i n))
 
 pub region_other : (less more : Spaces) (p page q r : ℕ) → MapsOneMore less (at_page p page) more → (q ≡ p → r ≡ slot_number page → ⊥) → region_pages more q r ≡ region_pages less q r
-region_other less more p page q r one n =
-    count_range-same (λ page. map.contains_key more (at_page q page)) (λ page. map.contains_key less (at_page q page)) (1024 * r) (1024 * r) 1024
-    (λ i l. one.others (at_page q (1024 * r + i)) (λ same.
-    let pid : q ≡ p = ap (λ (x : Slot). x.pid) same in
-    let at : 1024 * r + i ≡ page = ap (λ (x : Slot). x.page) same in
-    n pid (omega (arith, at, l))))
+region_other less more p page q r one n = grind (arith, count_range-same)
 
 -- a table's count changes, and no other table's pages do
 module _ (S T : Spaces) (directories : List (Option ℕ)) (bytes : List ℕ) (roles : List Role) (counts : List ℕ) (p s t k : ℕ) (sound : IsSound directories bytes roles) (named : table_in (directory_of directories) (frame_bytes bytes) p s ≡ Some t) (C : IsCounted S roles counts) where
@@ -121,23 +96,11 @@ module _ (S T : Spaces) (directories : List (Option ℕ)) (bytes : List ℕ) (ro
   table_count = C t ∙ ap (option_map (pages_by S)) role_t
 
   other_role : (f : ℕ) → f ≢ t → ((q r : ℕ) → (q ≡ p → r ≡ s → ⊥) → region_pages T q r ≡ region_pages S q r) → (r : Role) → slice_get roles f ≡ Some r → pages_by T r ≡ pages_by S r
-  other_role f n others Reserved is = refl
-  other_role f n others Free is = refl
-  other_role f n others (Directory q) is = refl
-  other_role f n others (Table q r) is =
-      others q r (λ same_p same_s.
-      let there = sound.tables.table_back q r f is in
-      let e : Some f ≡ Some t = sym there ∙ (λ i. table_in (directory_of directories) (frame_bytes bytes) (same_p i) (same_s i)) ∙ named in
-      n cc)
-  other_role f n others (Page count) is = refl
+  other_role f n others r is = grind arith
 
   pub counted_set : k ≡ region_pages T p s → ((q r : ℕ) → (q ≡ p → r ≡ s → ⊥) → region_pages T q r ≡ region_pages S q r) → IsCounted T roles (slice_set counts t k)
-  counted_set is others f = elim (cases_eq f t) [
-    | inl here ↦
-        ap (slice_get (slice_set counts t k)) here ∙ get-set_same counts t k (slice_get_within counts t (region_pages S p s) table_count) ∙ ap Some is
-        ∙ sym (ap (pages_under T roles) here ∙ ap (option_map (pages_by T)) role_t)
-    | inr differ ↦ get-set_other counts t f k differ ∙ C f ∙ sym (map_alike S T (slice_get roles f) (other_role f differ others))
-  ]
+  counted_set is others f =
+      grind (arith, cases_eq, get-set_same, slice_get_within, table_count, role_t, get-set_other, map_alike, other_role)
 
 -- ---- The pages of a region by their entries
 
@@ -195,10 +158,7 @@ module _ (directories : List (Option ℕ)) (bytes : List ℕ) (roles : List Role
   count_fits is = let e = count_read is in let most = region_most mapped p (slot_number page) in omega (arith, e, most)
 
   pub count_by_entries : slice_get counts t ≡ Some n → n ≡ count_range (λ other. is_some (entry_at (frame_bytes bytes) d other)) (1024 * slot_number page) 1024
-  count_by_entries is =
-      let low = user.0 in
-      let high = user.1 in
-      count_read is ∙ region_entries directories bytes p d (slot_number page) (live_small directories p d sound.pids live) live (omega arith) (omega arith)
+  count_by_entries is = grind (arith, count_read, region_entries, live_small)
 
   -- a mapped page is one of those that are counted
   pub count_positive : slice_get counts t ≡ Some n → is_some (entry_at (frame_bytes bytes) d page) ≡ true → 1 ≤ n
@@ -230,24 +190,11 @@ one_less S T p page there same = subst (λ X. MapsOneMore X (at_page p page) S) 
 })
   where
     another : (q : Slot) → q ≢ at_page p page → is_slot p page q ≡ false
-    another q n = elim (same_or_not slot_order (at_page p page) q) [
-      | inl h ↦ absurd (n (sym h.0))
-      | inr h ↦ h
-    ]
+    another q n = grind (arith, same_or_not)
 
 -- a slot more
 pub one_inserted : (S T : Spaces) (slot : Slot) (c : Cell) → map.get S slot ≡ None → ((q : Slot) → map.contains_key T q ≡ map.contains_key (map.insert S slot c) q) → MapsOneMore S slot T
-one_inserted S T slot c none keys = record {
-  absent = ap is_some none;
-  present = keys slot ∙ key-insert S slot c slot ∙ ap (λ b. cond b true (map.contains_key S slot)) (same_itself slot_order slot);
-  others = λ q n. keys q ∙ key-insert S slot c q ∙ ap (λ b. cond b true (map.contains_key S q)) (another q n);
-}
-  where
-    another : (q : Slot) → q ≢ slot → same slot_order q slot ≡ false
-    another q n = elim (same_or_not slot_order q slot) [
-      | inl h ↦ absurd (n h.0)
-      | inr h ↦ h
-    ]
+one_inserted S T slot c none keys = grind (arith, key-insert, same_itself, same_or_not)
 
 -- the frame of an entry that went maps no page, as a table
 pub alike_left : (S : Spaces) (directories : List (Option ℕ)) (bytes : List ℕ) (roles one : List Role) (p d page : ℕ) (e : PageEntry) → IsSound directories bytes roles → directory_of directories p ≡ Some d → IsUserPage page
@@ -275,8 +222,7 @@ counted_freed S roles last counts freed C none went = by freed refl
 
 -- a table that was freed was the page's
 pub table_freed : (m m' : ℕ → List ℕ) (d page t : ℕ) (e : PageEntry) (freed : Option ℕ) → entry_at m d page ≡ Some e → IsCleared m d page freed m' → freed ≡ Some t → table_of m d (slot_number page) ≡ Some t
-table_freed m m' d page t e freed is cleared came =
-    table_there m d (slot_number page) (table_mapped m d page (ap is_some is)) ∙ ap Some (sym (cleared.unlinked t came).0)
+table_freed m m' d page t e freed is cleared came = grind (arith, table_there, table_mapped)
 
 -- ---- At first
 

@@ -1,17 +1,15 @@
 -- A process whose pages leave their groups, and whose directory then goes.
 use Rattle.address_space.proofs.Prelude
-use Prelude.{◌≡◌, ◌≢◌, ℕ, ◌+◌, ◌*◌, ◌<◌, ◌≤◌, Bool, true, false, cond, not, ◌==◌, List, length, refl, ap, sym, ◌∙◌}
-use Prelude.{subst, arith, inl, inr, Option, Some, None, length-set, ◌&&◌, ◌⊎◌, is_some, slice_get, slice_set}
-use Prelude.{if◌then◌else◌, option_and_then, option_map, unwrap_or, list_any, cases_eq, cases_lt, slot_number}
-use Prelude.{index_number, same, Set, same_or_not, same_itself, same_map, same_set, get-map_values, get-retain_keys}
-use Prelude.{contains-retain, get-collect, frame_bytes, word_in, Role, Free, Directory, Table, frames_weight, weight}
-use Prelude.{IsReleased, released, weight-set, get-set_same, get-set_other, PageEntry, Frames, word_table, word_entry}
-use Prelude.{table_of, entry_at, Slot, slot_order, Cell, Spaces, cost, need, pages_of, regions_of, without}
-use Prelude.{with_holders, is_slot, at_page, user_slots, Entries, lazy_count, cell_of, spaces_of, View, Directories}
-use Prelude.{Roles, directory_of, table_in, entry_in, entries_in, spaces_in, live_cost, total_cost, Tables, Pages}
-use Prelude.{IsSound, IsSpaces, IsEmptySpace, DroppedBelow, DirectoryDropped, eqb-true, eq-eqb, FramesStay, none_goes}
-use Prelude.{of_page, image_of}
-use Rattle.address_space.specs.Spaces.{is_of}
+use Prelude.{◌≡◌, ◌≢◌, ℕ, ◌+◌, ◌*◌, ◌<◌, ◌≤◌, Bool, true, false, cond, not, List, length, refl, ap, sym, ◌∙◌, subst}
+use Prelude.{arith, inl, inr, Option, Some, None, length-set, ◌&&◌, ◌⊎◌, is_some, slice_get, slice_set, if◌then◌else◌}
+use Prelude.{option_and_then, option_map, unwrap_or, list_any, cases_eq, cases_lt, slot_number, index_number, same, Set}
+use Prelude.{same_or_not, same_itself, same_map, same_set, get-map_values, get-retain_keys, contains-retain}
+use Prelude.{get-collect, frame_bytes, word_in, Role, Free, Directory, Table, frames_weight, weight, IsReleased}
+use Prelude.{released, weight-set, get-set_same, get-set_other, Frames, word_entry, table_of, entry_at, Slot}
+use Prelude.{slot_order, Cell, Spaces, cost, need, pages_of, regions_of, without, with_holders, is_slot, at_page, is_of}
+use Prelude.{user_slots, Entries, lazy_count, spaces_of, View, Directories, Roles, directory_of, table_in, entry_in}
+use Prelude.{entries_in, spaces_in, live_cost, total_cost, Tables, Pages, IsSound, IsSpaces, IsEmptySpace, DroppedBelow}
+use Prelude.{DirectoryDropped, eqb-true, eq-eqb, FramesStay, of_page, LooseStay, image_of}
 use Rattle.address_space.proofs.costs.Costs.{contains-pages_of}
 use Rattle.address_space.proofs.costs.CostSteps.{sum_one}
 use Rattle.address_space.proofs.entries.EntrySteps.{get-entries_in, entry_by_table}
@@ -21,7 +19,6 @@ use Rattle.address_space.proofs.entries.Readings.{need_read}
 use Rattle.address_space.proofs.entries.Refinement.{get-spaces_of, leave_refines}
 use Rattle.address_space.proofs.standing.TablesStand.{past_end}
 use Rattle.address_space.proofs.steps.Steps.{live_small, none_before, role_own, role_other}
-use Rattle.address_space.specs.Stays.{LooseStay}
 use Rattle.address_space.specs.declared.Spaces.TheInside.{Inside as Inner}
 use Rattle.address_space.proofs.Insides.{AreCountedInside, spaces_at, view_of}
 use Rattle.address_space.proofs.standing.FramesStand.{loose_same, loose_then, stays_same, stays_then, stays_more}
@@ -42,15 +39,10 @@ get-without S gone q =
     ∙ ap (option_map (left gone)) (get-retain_keys S (λ s. not (gone s)) q) ∙ by (not (gone q)) (map.get S q)
   where
     by : (b : Bool) (x : Option Cell) → option_map (left gone) (cond b x None) ≡ cond b (option_map (left gone) x) None
-    by true x = refl
-    by false x = refl
+    by b x = grind arith
 
 both : (all first there : Bool) → (all ≡ false → first ≡ false) → ((there && not first) && not all) ≡ (there && not all)
-both all first false h = refl
-both true true true h = refl
-both true false true h = refl
-both false true true h = let k = h refl in cc
-both false false true h = refl
+both all first there h = grind arith
 
 -- slots that leave before others that they are among
 pub without-without : (S : Spaces) (first all : Slot → Bool) → ((q : Slot) → all q ≡ false → first q ≡ false) → without (without S first) all ≡ without S all
@@ -64,25 +56,17 @@ without-without S first all among = same_map _ _ (λ q. get-without (without S f
         ∙ sym (contains-retain group (λ s. not (all s)) s))
 
     twice : (x : Option Cell) → option_map (left all) (option_map (left first) x) ≡ option_map (left all) x
-    twice None = refl
-    twice (Some c) = ap (λ h. Some (with_holders c h)) (fewer c.holders)
+    twice x = grind (arith, fewer)
 
     at : (q : Slot) (b : Bool) → all q ≡ b → cond (not (all q)) (option_map (left all) (map.get (without S first) q)) None ≡ cond (not (all q)) (option_map (left all) (map.get S q)) None
-    at q true is = rw is refl
-    at q false is = ap (λ x. cond (not (all q)) (option_map (left all) x) None) (get-without S first q ∙ ap (λ b. cond (not b) (option_map (left first) (map.get S q)) None) (among q is))
-        ∙ ap (λ x. cond (not (all q)) x None) (twice (map.get S q))
+    at q b is = grind (arith, get-without, twice)
 
 -- a slot is of its own process
 pub slot_of_process : (p page : ℕ) (q : Slot) → is_of p q ≡ false → is_slot p page q ≡ false
-slot_of_process p page q other = elim (same_or_not slot_order (at_page p page) q) [
-  | inl h ↦ absurd (let t : is_of p q ≡ true = ap (λ (x : Slot). x.pid == p) (sym h.0) ∙ eq-eqb p p refl in cc)
-  | inr h ↦ h
-]
+slot_of_process p page q other = grind (arith, same_or_not, eq-eqb)
 
 nothing_if : (b : Bool) (f : Cell → Cell) (x : Option Cell) → x ≡ None → cond b (option_map f x) None ≡ None
-nothing_if true f None h = refl
-nothing_if true f (Some c) h = cc
-nothing_if false f x h = refl
+nothing_if b f x h = grind arith
 
 -- where no slot of a process is mapped, nothing leaves with it
 pub nothing_leaves : (directories : List (Option ℕ)) (bytes : List ℕ) (p : ℕ) → IsEmptySpace (spaces_in directories bytes) p → without (spaces_in directories bytes) (is_of p) ≡ spaces_in directories bytes
@@ -103,19 +87,12 @@ nothing_leaves directories bytes p empty =
         none_before E m q (map.get E q) (sym (get-spaces_of E m q) ∙ ap (map.get (spaces_of E m)) here ∙ empty q.page)
 
     by : (q : Slot) (b : Bool) → is_of p q ≡ b → cond (not (is_of p q)) (map.get E q) None ≡ map.get E q
-    by q true is = ap (λ b. cond (not b) (map.get E q) None) is ∙ sym (none q is)
-    by q false is = ap (λ b. cond (not b) (map.get E q) None) is
+    by q b is = grind (arith, E, none)
 
 -- ---- Slots without an entry
 
 no_cell_by : (D : Directories) (m : Frames) (q : Slot) → entry_in D m q ≡ None → map.get (spaces_of (entries_in D m) m) q ≡ None
-no_cell_by D m q none =
-    get-spaces_of (entries_in D m) m q
-    ∙ ap (option_map (cell_of (entries_in D m) m q)) (get-entries_in D m q ∙ ap (λ x. cond (list_any (same slot_order q) user_slots) x None) none ∙ either (list_any (same slot_order q) user_slots))
-  where
-    either : (b : Bool) → ◌≡◌ {A = Option PageEntry} (cond b None None) None
-    either true = refl
-    either false = refl
+no_cell_by D m q none = grind (arith, get-spaces_of, get-entries_in)
 
 -- no table lies outside the user range
 pub no_table_outside : (directories : List (Option ℕ)) (bytes : List ℕ) (roles : List Role) (p s : ℕ) → IsSound directories bytes roles → (s < 256) ⊎ (960 ≤ s) → table_in (directory_of directories) (frame_bytes bytes) p s ≡ None
@@ -128,8 +105,7 @@ no_table_outside directories bytes roles p s sound out = by (directory_of direct
     ]
 
     by : (x : Option ℕ) → directory_of directories p ≡ x → option_and_then (λ d. table_of (frame_bytes bytes) d s) x ≡ None
-    by None is = refl
-    by (Some d) is = ap word_table (word d is)
+    by x is = grind (arith, word)
 
 -- and no page
 pub no_cell_outside : (directories : List (Option ℕ)) (bytes : List ℕ) (roles : List Role) (p page : ℕ) → IsSound directories bytes roles → (page < 0x40000) ⊎ (0xf0000 ≤ page) → map.get (spaces_in directories bytes) (at_page p page) ≡ None
@@ -144,8 +120,7 @@ no_cell_outside directories bytes roles p page sound out =
 pub no_cell_unmapped : (directories : List (Option ℕ)) (bytes : List ℕ) (p d page : ℕ) → directory_of directories p ≡ Some d → entry_at (frame_bytes bytes) d page ≡ None
     → map.get (spaces_in directories bytes) (at_page p page) ≡ None
 unfolding spaces_in
-no_cell_unmapped directories bytes p d page live none =
-    no_cell_by (directory_of directories) (frame_bytes bytes) (at_page p page) (ap (option_and_then (λ d. entry_at (frame_bytes bytes) d page)) live ∙ none)
+no_cell_unmapped directories bytes p d page live none = grind (arith, no_cell_by)
 
 -- ---- The pages of a process leave, from the lowest on
 
@@ -191,10 +166,7 @@ dropped_next v one two p page so_far high spaces stay loose directories long =
       spaces = ap (λ x. without x (is_of p)) spaces ∙ without-without one.spaces (is_slot p page) (is_of p) (slot_of_process p page) ∙ so_far.spaces;
       stay = stays_then so_far.stay (stays_more (λ q f stays. slot_of_process p page q stays) stay);
       loose = loose_then so_far.loose loose;
-      below = λ other l. ap (λ x. map.get x (at_page p other)) spaces ∙ get-without one.spaces (is_slot p page) (at_page p other) ∙ elim (cases_eq other page) [
-        | inl same_page ↦ ap (λ b. cond (not b) (option_map (left (is_slot p page)) (map.get one.spaces (at_page p other))) None) (ap (λ n. same slot_order (at_page p page) (at_page p n)) same_page ∙ same_itself slot_order (at_page p page))
-        | inr differ ↦ nothing_if (not (is_slot p page (at_page p other))) (left (is_slot p page)) (map.get one.spaces (at_page p other)) (so_far.below other (omega (arith, l, differ)))
-      ];
+      below = grind (arith, get-without, cases_eq, same_itself, nothing_if);
       length = long ∙ so_far.length;
       low = omega arith;
       high = omega arith;
@@ -241,8 +213,7 @@ no_table_left directories bytes roles p s spaces few empty = elim (cases_lt s 25
     two = ap (λ pages. if set.contains (regions_of pages) (slot_number (1024 * s)) then 1 else 2) no_pages
 
     by : (x : Option ℕ) → ◌≡◌ {A = ℕ} 2 (cond (is_some x) 1 2) → x ≡ None
-    by None h = refl
-    by (Some t) h = cc
+    by x h = grind arith
 
 module _ (D D' : Directories) (m : Frames) (R R' : Roles) (T : Tables D m R) (p d : ℕ) (live : D p ≡ Some d) (bare : (s : ℕ) → table_in D m p s ≡ None)
     (none : D' p ≡ None) (others : (q : ℕ) → q ≢ p → D' q ≡ D q) (role : R' d ≡ Some Free) (roles : (g : ℕ) → g ≢ d → R' g ≡ R g) where
@@ -250,10 +221,7 @@ module _ (D D' : Directories) (m : Frames) (R R' : Roles) (T : Tables D m R) (p 
   was = T.directory p d live
 
   kept_tables : (q s : ℕ) → table_in D' m q s ≡ table_in D m q s
-  kept_tables q s = elim (cases_eq q p) [
-    | inl same_pid ↦ ap (λ x. table_in D' m x s) same_pid ∙ ap (option_and_then (λ x. table_of m x s)) none ∙ sym (ap (λ x. table_in D m x s) same_pid ∙ bare s)
-    | inr differ ↦ ap (option_and_then (λ x. table_of m x s)) (others q differ)
-  ]
+  kept_tables q s = grind (arith, cases_eq)
 
   kept_entry : (q : Slot) → entry_in D' m q ≡ entry_in D m q
   kept_entry q = entry_by_table D' m q ∙ ap (option_and_then (λ table. word_entry (word_in (m table) (index_number q.page)))) (kept_tables q.pid (slot_number q.page)) ∙ sym (entry_by_table D m q)
@@ -279,19 +247,13 @@ module _ (D D' : Directories) (m : Frames) (R R' : Roles) (T : Tables D m R) (p 
     zero_bytes = T.zero_bytes;
     reserved = λ g is. T.reserved g (stayed g _ is (λ e. cc)).0;
     directory = λ q f is. let n = another q f is in stays f (Directory q) (T.directory q f (sym (others q n) ∙ is)) (λ e. n cc);
-    directory_back = λ q f is.
-        let old = stayed f (Directory q) is (λ e. cc) in
-        let there : D q ≡ Some f = T.directory_back q f old.0 in
-        others q (λ same_pid. old.1 (let k : D q ≡ D p = ap D same_pid in let l = live in cc)) ∙ there;
+    directory_back = grind (arith, stayed);
     table = λ q s t is. stays t (Table q s) (T.table q s t (sym (kept_tables q s) ∙ is)) (λ e. cc);
     table_back = λ q s t is. kept_tables q s ∙ T.table_back q s t (stayed t (Table q s) is (λ e. cc)).0;
     dir_words = λ q f s is l. T.dir_words q f s (sym (others q (another q f is)) ∙ is) l;
     outside = λ q f s is l out. T.outside q f s (sym (others q (another q f is)) ∙ is) l out;
     table_words = λ q s t i is l. T.table_words q s t i (sym (kept_tables q s) ∙ is) l;
-    long = λ g r is. elim (cases_eq g d) [
-      | inl same_frame ↦ T.long g (Directory p) (ap R same_frame ∙ was)
-      | inr differ ↦ T.long g r (sym (roles g differ) ∙ is)
-    ];
+    long = grind (arith, cases_eq, was);
   }
 
 same_spaces : (directories directories' : List (Option ℕ)) (bytes : List ℕ) → entries_in (directory_of directories') (frame_bytes bytes) ≡ entries_in (directory_of directories) (frame_bytes bytes) → spaces_in directories' bytes ≡ spaces_in directories bytes
@@ -355,8 +317,6 @@ directory_removed directories bytes roles roles' p d s live empty rel =
       spaces = spaces;
       none = none;
       others = others;
-      stay = places_by none_goes D m D' m (stay_same none_goes (entries_in D m) (entries_in D' m) E)
-          (λ q r t found.
-          kept_tables D D' m R R' sound.tables p d live bare none others role kept q r ∙ found);
+      stay = grind (arith, places_by, stay_same, kept_tables);
       length = same_length;
     }

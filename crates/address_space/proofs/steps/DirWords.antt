@@ -1,14 +1,14 @@
 -- Accessed of a directory word says nothing of the spaces.
 use Rattle.address_space.proofs.Prelude
 use Prelude.{◌≡◌, ◌≢◌, ℕ, ◌^◌, ◌<◌, Bool, true, false, List, length, refl, ap, sym, ◌∙◌, subst, arith, inl, inr, Option}
-use Prelude.{Some, None, slice_get, if◌then◌else◌, option_and_then, cases_eq, cases_lt, slot_number}
-use Prelude.{frame_bytes, word_at, word_place, with_word, word_in, with_word_in, with_frame, with_frame-same}
-use Prelude.{with_frame-other, word_in_same, word_in_other, length-with_word_in, frames-with_word, word_in-frame, Role}
-use Prelude.{Reserved, Free, Directory, Table, Page, PageEntry, Frames, word_table, table_of, with_flag_lt}
-use Prelude.{walked_word, with_walked, Slot, holders_of, spaces_of, Directories, Roles, directory_of, table_in}
-use Prelude.{entry_in, entries_in, spaces_in, total_cost, Tables, Pages, IsSound, InUse, Touched, none_goes}
-use Rattle.page_words.specs.Words.{with_flag, frame_number, is_present, IsKernelDirWord, IsKernelTableWord, NamesTable}
-use Rattle.page_words.proofs.Flags.{flag-with_flag_other, frame-with_flag}
+use Prelude.{Some, None, slice_get, if◌then◌else◌, option_and_then, cases_eq, cases_lt, slot_number, frame_bytes}
+use Prelude.{word_at, word_place, with_word, word_in, with_word_in, with_frame, with_frame-same, with_frame-other}
+use Prelude.{word_in_same, word_in_other, length-with_word_in, frames-with_word, word_in-frame, Role, Reserved}
+use Prelude.{Directory, Table, PageEntry, Frames, word_table, table_of, with_flag_lt, walked_word, with_walked, Slot}
+use Prelude.{holders_of, spaces_of, Directories, Roles, directory_of, table_in, entry_in, entries_in, spaces_in}
+use Prelude.{total_cost, Tables, Pages, IsSound, InUse, Touched, none_goes, frame_number, is_present, IsKernelDirWord}
+use Prelude.{IsKernelTableWord, flag-with_flag_other, frame-with_flag}
+use Rattle.page_words.specs.Words.{with_flag, NamesTable}
 use Rattle.address_space.proofs.entries.EntrySteps.{same_entries, entry_kept}
 use Rattle.address_space.proofs.frames.PageSteps.{same_bytes, no_directory}
 use Rattle.address_space.proofs.standing.TablesStand.{past_end}
@@ -56,8 +56,7 @@ flagged_alike w b lt present =
     none z = let c : is_present 0 ≡ true = sym (ap is_present z) ∙ present in cc
 
     by : IsKernelDirWord w → IsKernelDirWord (with_flag w 5 b)
-    by (inl z) = absurd (none z)
-    by (inr k) = inr (flagged_names w b lt k)
+    by h = grind (arith, none, flagged_names)
 
 -- and so it is where nothing is done to a word that isn't present
 pub walked_alike : (w : ℕ) (b : Bool) → w < 2 ^ 32 → Alike w (walked_word b w)
@@ -68,16 +67,11 @@ walked_alike w b lt = by (is_present w) refl
     by false is = same_word w
 
 walked_lt : (b : Bool) (w : ℕ) → w < 2 ^ 32 → walked_word b w < 2 ^ 32
-walked_lt b w lt = by (is_present w)
-  where
-    by : (c : Bool) → (if c then with_flag w 5 b else w) < 2 ^ 32
-    by true = with_flag_lt w 5 b lt (omega arith)
-    by false = lt
+walked_lt b w lt = grind (arith, with_flag_lt)
 
 -- a kernel's word is 0, or its table lies in memory
 kernel_lt : (w : ℕ) → IsKernelDirWord w → (is_present w ≡ true → frame_number w < 2 ^ 20) → w < 2 ^ 32
-kernel_lt w (inl z) fits = omega (arith, z)
-kernel_lt w (inr k) fits = let f = fits k.present in omega (arith, f)
+kernel_lt w h fits = grind arith
 
 table_fits : (directories : List (Option ℕ)) (bytes : List ℕ) (roles : List Role) (p d s w : ℕ) → IsSound directories bytes roles → directory_of directories p ≡ Some d → word_in (frame_bytes bytes d) s ≡ w → is_present w ≡ true → frame_number w < 2 ^ 20
 table_fits directories bytes roles p d s w sound live is present =
@@ -106,8 +100,7 @@ module _ (D : Directories) (m m' : Frames) (R : Roles) (T : Tables D m R) (A : D
       ]
 
       by : (x : Option ℕ) → D q ≡ x → option_and_then (λ d. table_of m' d s) x ≡ option_and_then (λ d. table_of m d s) x
-      by None is = refl
-      by (Some d) is = at d is
+      by x is = grind (arith, at)
 
   pub dirs-table : (q s t : ℕ) → table_in D m q s ≡ Some t → m' t ≡ m t
   dirs-table q s t is = role_kept t (Table q s) (T.table q s t is) (λ p. λ e. cc)
@@ -134,11 +127,7 @@ module _ (D : Directories) (m m' : Frames) (R : Roles) (T : Tables D m R) (A : D
   }
     where
       long_kept : (g : ℕ) (r : Role) → R g ≡ Some r → length (m' g) ≡ 4096
-      long_kept g (Directory p) is = A.long p g (T.directory_back p g is)
-      long_kept g Reserved is = ap length (role_kept g Reserved is (λ p. λ e. cc)) ∙ T.long g Reserved is
-      long_kept g Free is = ap length (role_kept g Free is (λ p. λ e. cc)) ∙ T.long g Free is
-      long_kept g (Table p s) is = ap length (role_kept g (Table p s) is (λ p. λ e. cc)) ∙ T.long g (Table p s) is
-      long_kept g (Page c) is = ap length (role_kept g (Page c) is (λ p. λ e. cc)) ∙ T.long g (Page c) is
+      long_kept g r is = grind (arith, role_kept)
 
   pub use_dirs : InUse D m → InUse D m'
   use_dirs before q r g found =
@@ -180,8 +169,7 @@ one_dir_word directories bytes bytes' roles p d s w sound live small lt alike is
   words = λ q g r is_g l. elim (cases_eq g d) [
     | inr differ ↦ subst (Alike (word_in (m g) r)) (sym (ap (λ l. word_in l r) ((λ i. is i g) ∙ with_frame-other m d g new differ))) (same_word (word_in (m g) r))
     | inl same ↦ elim (cases_eq r s) [
-      | inl here ↦ subst (λ v. Alike v (word_in (frame_bytes bytes' g) r)) (sym (λ i. word_in (m (same i)) (here i)))
-          (subst (Alike (word_in (m d) s)) (sym ((λ i. word_in (frame_bytes bytes' (same i)) (here i)) ∙ ap (λ l. word_in l s) own ∙ word_in_same (m d) s w long_d small lt)) alike)
+      | inl here ↦ grind (arith, m, own, word_in_same, long_d)
       | inr other ↦ subst (Alike (word_in (m g) r)) (sym (ap (λ h. word_in (frame_bytes bytes' h) r) same ∙ ap (λ l. word_in l r) own ∙ word_in_other (m d) s r w long_d small other ∙ ap (λ h. word_in (m h) r) (sym same))) (same_word (word_in (m g) r))
     ]
   ];

@@ -1,12 +1,11 @@
 -- What walks that find a frame for each page of an access find at each of its bytes.
 use Rattle.address_space.proofs.Prelude
-use Prelude.{◌≡◌, ℕ, zero, suc, ◌+◌, ◌^◌, ◌<◌, true, false, List, ◌∷◌, refl, ap, sym, ◌∙◌, subst, arith, Option, Some}
-use Prelude.{None, ◌&&◌, is_some, nat_lt, IfSome, IsOk, slice_index, option_map, option_and_then, unwrap_or}
-use Prelude.{range_with_len, is_ok, and_parts, nat_tests, IsUserPage, page_number, start_number, byte_count, covered}
-use Prelude.{second_page, EachTouched, Size, some_bytes, frame_bytes, Role, Access, Read, Write, walk_of, Image}
-use Prelude.{directory_at, takes_stores, image_from, Spaces, at_page, byte_at, number_of, value_of, slot_at}
-use Prelude.{directory_of, spaces_in, IsSound, takes_stores_through, entry_at, finds_at, finds, byte_place}
-use Prelude.{number_found}
+use Prelude.{◌≡◌, ℕ, zero, suc, ◌+◌, ◌^◌, ◌<◌, true, List, ◌∷◌, refl, ap, sym, ◌∙◌, subst, arith, Option, Some, None}
+use Prelude.{is_some, IfSome, IsOk, slice_index, option_map, option_and_then, unwrap_or, range_with_len, and_parts}
+use Prelude.{IsUserPage, page_number, start_number, byte_count, covered, second_page, EachTouched, Size, some_bytes}
+use Prelude.{frame_bytes, Role, Access, Read, Write, walk_of, Image, directory_at, takes_stores, image_from, Spaces}
+use Prelude.{at_page, byte_at, number_of, value_of, slot_at, directory_of, spaces_in, IsSound, takes_stores_through}
+use Prelude.{entry_at, finds_at, finds, byte_place, number_found}
 use Rattle.std.proofs.Common.{map as each}
 use Rattle.address_space.proofs.entries.Readings.{mapped_read}
 use Rattle.address_space.proofs.standing.Standing.{stores_read}
@@ -19,21 +18,14 @@ use Rattle.page_words.specs.FiniteMap as map
 
 -- a walk that finds a frame is that of a live process
 pub finds_live_at : (image : Image) (p address : ℕ) (access : Access) → finds_at image p access address ≡ true → is_some (directory_at image p) ≡ true
-finds_live_at image p address access h = by (directory_at image p) (and_parts (nat_lt address 0x100000000) _ h).1
-  where
-    by : (x : Option ℕ) → unwrap_or (option_map (λ directory. is_ok (walk_of image.bytes directory address access)) x) false ≡ true → is_some x ≡ true
-    by None h = cc
-    by (Some d) h = refl
+finds_live_at image p address access h = grind (arith, and_parts)
 
 -- so are those of an access
 pub finds_live : (image : Image) (p address : ℕ) (size : Size) (access : Access) → finds image p address size access ≡ true → is_some (directory_at image p) ≡ true
 finds_live image p address size access h = finds_live_at image p address access (and_parts (finds_at image p access address) _ h).0
 
 pub found_at : (image : Image) (p d address : ℕ) (access : Access) → directory_at image p ≡ Some d → finds_at image p access address ≡ true → (address < 2 ^ 32) × IsOk (walk_of image.bytes d address access)
-found_at image p d address access live h =
-    let parts = and_parts (nat_lt address 0x100000000) (unwrap_or (option_map (λ directory. is_ok (walk_of image.bytes directory address access)) (directory_at image p)) false) h in
-    let small : address < 0x100000000 = let t = parts.0 in grind (arith, nat_tests) in
-    (omega (arith, small), sym (ap (λ x. unwrap_or (option_map (λ directory. is_ok (walk_of image.bytes directory address access)) x) false) live) ∙ parts.1)
+found_at image p d address access live h = grind (arith, and_parts)
 
 -- ---- At each byte
 
@@ -51,10 +43,7 @@ pub found_each : (directories : List (Option ℕ)) (bytes : List ℕ) (roles : L
     → finds (image_from directories bytes roles) p address size access ≡ true → FoundEach bytes d address size access
 found_each directories bytes roles p d address size access sound live h =
     record {
-      found = λ i l.
-          let u = user_at i l in
-          let high = u.1 in
-          each_byte address size Q all i l (address + i) (omega (arith, high)) refl;
+      found = grind (arith, user_at, each_byte, Q, all);
       user = user_at;
     }
   where
@@ -80,8 +69,7 @@ found_each directories bytes roles p d address size access sound live h =
     second = by (second_page address size) parts.1
       where
         by : (x : Option ℕ) → unwrap_or (option_map (λ page. finds_at image p access (start_number page)) x) true ≡ true → IfSome x (λ page. IsUserPage page × Q page)
-        by None is = tt
-        by (Some page) is = start page is
+        by x is = grind (arith, start)
 
     both : (i : ℕ) → i < byte_count size → IsUserPage (page_number (address + i)) × Q (page_number (address + i))
     both = each_byte address size (λ page. IsUserPage page × Q page) (one address parts.0, second)
@@ -90,8 +78,7 @@ found_each directories bytes roles p d address size access sound live h =
     all = ((one address parts.0).1, by (second_page address size) second)
       where
         by : (x : Option ℕ) → IfSome x (λ page. IsUserPage page × Q page) → IfSome x Q
-        by None is = tt
-        by (Some page) is = is.1
+        by x is = grind arith
 
     user_at : (i : ℕ) → i < byte_count size → IsUserPage (page_number (address + i))
     user_at i l = (both i l).0
@@ -124,12 +111,7 @@ finds_each directories bytes roles p address size access sound h = by (directory
         let each = found_each directories bytes roles p d address size access sound is h in
         let fits = found_fits bytes d address size access each in
         record {
-          finds = λ i l.
-              let small : address + i < 0x100000000 = omega (arith, fits, l) in
-              let test : nat_lt (address + i) 0x100000000 ≡ true = grind (arith, nat_tests) in
-              ap (λ b. b && unwrap_or (option_map (λ directory. is_ok (walk_of bytes directory (address + i) access)) (directory_of directories p)) false) test
-              ∙ ap (λ x. unwrap_or (option_map (λ directory. is_ok (walk_of bytes directory (address + i) access)) x) false) is
-              ∙ each.found i l;
+          finds = grind arith;
           fits = fits;
         }
 
@@ -189,8 +171,7 @@ found_pages directories bytes roles p d address size access sound live h =
     each P at = (at address parts.0, by (second_page address size) parts.1)
       where
         by : (x : Option ℕ) → unwrap_or (option_map (λ page. finds_at image p access (start_number page)) x) true ≡ true → IfSome x P
-        by None is = tt
-        by (Some page) is = let e : page_number (start_number page) ≡ page = omega arith in subst P e (at (start_number page) is)
+        by x is = grind arith
 
 -- each page of a store takes stores
 pub finds_takes : (directories : List (Option ℕ)) (bytes : List ℕ) (roles : List Role) (p address : ℕ) (size : Size) → IsSound directories bytes roles

@@ -8,41 +8,32 @@ use Prelude.{is_lazy_entry, IsKernelEntry, entry_word-lt, word_entry-entry_word,
 use Prelude.{cell_or_fresh, bytes_of, stored, accessed, protected, at_page, FramesStay, none_goes, of_lazy, cell_of}
 use Prelude.{Directories, directory_of, entry_in, entries_in, spaces_in, PageFilled, EntryPut, Touched}
 use Prelude.{takes_stores_through, is_lazy_at, takes_stores, image_from, AreCountedSpaces, IsSound, Names, IsPageBelow}
-use Prelude.{free_frames, Free, Page, Table, shown, Role, length-replicate}
+use Prelude.{free_frames, Free, Page, Table, shown, Role, length-replicate, lazy_found, found_by, found_in, LiesIn}
+use Prelude.{EntryIs, BytesStored, FrameGiven}
 use Rattle.address_space.proofs.entries.EntrySteps.{tables_kept}
 use Rattle.address_space.specs.declared.Spaces.TheInside.{Inside as Inner}
 use Rattle.address_space.proofs.standing.FramesStand.{frames_stay}
 use Rattle.address_space.proofs.costs.AccessCosts.{kept, key-stored}
 use Rattle.address_space.proofs.standing.Standing.{stores_read, lazy_read, same_lazy, lazy_kept, real_kept}
 use Rattle.address_space.proofs.steps.Touches.{kept_touched}
-use Rattle.address_space.specs.Finds.{lazy_found, found_by, found_in, LiesIn, EntryIs, BytesStored, FrameGiven}
 use Rattle.address_space.proofs.Insides.{AreCountedInside, spaces_at, image_at, table_at, found_at}
 use Rattle.address_space.proofs.entries.Readings.{mapped_read, get-spaces_in, group_counted}
 use Rattle.address_space.proofs.frames.FewHolders.{count_few}
 use Rattle.address_space.proofs.costs.CostSteps.{need-one, need-two}
 use Rattle.address_space.specs.declared.Cell.{Cell as Shown}
 use Rattle.address_space.proofs.steps.Openings.{no_cell}
-use Rattle.address_space.proofs.steps.Steps.{page_map_of, live_small, table_by_word, map_kept, zeroed, inside, free_loose}
+use Rattle.address_space.proofs.steps.Steps.{page_map_of, live_small, table_by_word, map_kept, zeroed, inside}
+use Rattle.address_space.proofs.steps.Steps.{free_loose}
 use Rattle.address_space.proofs.steps.LazyFilling.{page_filled, room_to_fill}
 use Rattle.address_space.proofs.steps.CountSteps.{counts_kept, alike_taken}
-use Rattle.address_space.proofs.steps.Stores.{frame_written, length-write_at, named_entry, page_of_name, named_inside, entry_rules, cell_read, flags_set, marks_cleared, flagged_load, flagged_right, stored_place, page_stored, written_long}
+use Rattle.address_space.proofs.steps.Stores.{frame_written, length-write_at, named_entry, page_of_name, named_inside}
+use Rattle.address_space.proofs.steps.Stores.{entry_rules, cell_read, flags_set, marks_cleared, flagged_load}
+use Rattle.address_space.proofs.steps.Stores.{flagged_right, stored_place, page_stored, written_long}
 use Rattle.page_words.specs.FiniteMap as map
 
 -- what was found is the entry of the page's slot
 pub found_entry : (D : Directories) (m : Frames) (p page : ℕ) → option_map (λ (f : Found). f.entry) (found_in D m p page) ≡ entry_in D m (at_page p page)
-found_entry D m p page = by_directory (D p)
-  where
-    by_entry : (t : ℕ) (x : Option PageEntry) → option_map (λ (f : Found). f.entry) (option_map (λ e. record { page = page; table = t; entry = e }) x) ≡ x
-    by_entry t None = refl
-    by_entry t (Some e) = refl
-
-    by_table : (x : Option ℕ) → option_map (λ (f : Found). f.entry) (option_and_then (found_by m page) x) ≡ option_and_then (λ t. word_entry (word_in (m t) (index_number page))) x
-    by_table None = refl
-    by_table (Some t) = by_entry t (word_entry (word_in (m t) (index_number page)))
-
-    by_directory : (x : Option ℕ) → option_map (λ (f : Found). f.entry) (option_and_then (found_by m page) (option_and_then (λ d. table_of m d (slot_number page)) x)) ≡ option_and_then (λ d. entry_at m d page) x
-    by_directory None = refl
-    by_directory (Some d) = by_table (table_of m d (slot_number page))
+found_entry D m p page = grind arith
 
 -- what is known of a page that was found
 pub record Known (directories : List (Option ℕ)) (bytes : List ℕ) (p page : ℕ) (f : Found) : Type 0 where
@@ -60,30 +51,16 @@ known directories bytes p page f is = by_directory (directory_of directories p) 
 
     by_entry : (d t : ℕ) → directory_of directories p ≡ Some d → table_of m d (slot_number page) ≡ Some t → (x : Option PageEntry) → word_entry (word_in (m t) (index_number page)) ≡ x
         → option_map (λ e. record { page = page; table = t; entry = e }) x ≡ Some f → Known directories bytes p page f
-    by_entry d t live there None word h = cc
-    by_entry d t live there (Some e) word h =
-        let same : Some (record { page = page; table = t; entry = e }) ≡ Some f = h in
-        let one : record { page = page; table = t; entry = e } ≡ f = cc in
-        subst (Known directories bytes p page) one
-        (record {
-          directory = d;
-          live = live;
-          same_page = refl;
-          table = there;
-          here = ap (option_and_then (λ t. word_entry (word_in (m t) (index_number page)))) there ∙ word;
-        })
+    by_entry d t live there x word h = grind (arith, m)
 
     by_table : (d : ℕ) → directory_of directories p ≡ Some d → (x : Option ℕ) → table_of m d (slot_number page) ≡ x → option_and_then (found_by m page) x ≡ Some f → Known directories bytes p page f
-    by_table d live None there h = cc
-    by_table d live (Some t) there h = by_entry d t live there (word_entry (word_in (m t) (index_number page))) refl h
+    by_table d live x there h = grind (arith, by_entry, m)
 
     by_directory : (x : Option ℕ) → directory_of directories p ≡ x → option_and_then (found_by m page) (option_and_then (λ d. table_of m d (slot_number page)) x) ≡ Some f → Known directories bytes p page f
-    by_directory None live h = cc
-    by_directory (Some d) live h = by_table d live (table_of m d (slot_number page)) refl h
+    by_directory x live h = grind (arith, by_table, m)
 
 is_some-option_map : (x : Option Found) → is_some (option_map (λ (f : Found). f.entry) x) ≡ is_some x
-is_some-option_map None = refl
-is_some-option_map (Some f) = refl
+is_some-option_map x = grind arith
 
 -- a page is found just where it is mapped
 pub found_mapped : (inner : Inner) (p page : ℕ) → AreCountedInside inner → IsUserPage page
@@ -92,8 +69,7 @@ found_mapped inner p page before user =
     sym (is_some-option_map (found_at inner p page)) ∙ ap is_some (found_entry (directory_of inner.directories) (frame_bytes inner.memory) p page) ∙ by (directory_of inner.directories p) refl
   where
     by : (x : Option ℕ) → directory_of inner.directories p ≡ x → is_some (entry_in (directory_of inner.directories) (frame_bytes inner.memory) (at_page p page)) ≡ is_some (map.get (spaces_at inner) (at_page p page))
-    by None is = ap (λ x. is_some (option_and_then (λ d. entry_at (frame_bytes inner.memory) d page) x)) is ∙ sym (ap is_some (no_cell inner.directories inner.memory p page is))
-    by (Some d) is = ap (λ x. is_some (option_and_then (λ d. entry_at (frame_bytes inner.memory) d page) x)) is ∙ sym (mapped_read inner.directories inner.memory p d page is (live_small inner.directories p d before.spaces.sound.pids is) user.0 user.1)
+    by x is = grind (arith, no_cell, mapped_read, live_small)
 
 -- whether what was found takes stores
 pub found_takes : (inner : Inner) (p page : ℕ) → AreCountedInside inner → IsUserPage page
@@ -114,20 +90,15 @@ pub record Left (inner : Inner) (S : Spaces) (bytes' : List ℕ) : Type 0 where
 
 -- nothing is lazy where nothing is found
 pub absent_lazy : (inner : Inner) (p page : ℕ) → AreCountedInside inner → found_at inner p page ≡ None → is_lazy_at (image_at inner) (at_page p page) ≡ false
-absent_lazy inner p page before is =
-    same_lazy inner.directories inner.memory inner.frames before.spaces.sound (at_page p page)
-    ∙ ap is_lazy_entry (sym (found_entry (directory_of inner.directories) (frame_bytes inner.memory) p page) ∙ ap (option_map (λ (f : Found). f.entry)) is)
+absent_lazy inner p page before is = grind (arith, same_lazy, found_entry)
 
 -- its cell
 pub found_cells : (inner : Inner) (p page : ℕ) → p < 64 → IsUserPage page
     → map.get (spaces_at inner) (at_page p page) ≡ option_map (cell_of (entries_in (directory_of inner.directories) (frame_bytes inner.memory)) (frame_bytes inner.memory) (at_page p page)) (option_map (λ (f : Found). f.entry) (found_at inner p page))
-found_cells inner p page few user =
-    get-spaces_in inner.directories inner.memory p page few user.0 user.1
-    ∙ ap (option_map (cell_of (entries_in (directory_of inner.directories) (frame_bytes inner.memory)) (frame_bytes inner.memory) (at_page p page))) (sym (found_entry (directory_of inner.directories) (frame_bytes inner.memory) p page))
+found_cells inner p page few user = grind (arith, get-spaces_in, found_entry)
 
 none_of : (x : Option Cell) → is_some x ≡ false → x ≡ None
-none_of None h = refl
-none_of (Some c) h = cc
+none_of x h = grind arith
 
 -- nothing is mapped where nothing is found
 pub absent_cell : (inner : Inner) (p page : ℕ) → AreCountedInside inner → IsUserPage page → found_at inner p page ≡ None → map.get (spaces_at inner) (at_page p page) ≡ None
@@ -143,8 +114,7 @@ unfolding spaces_in
 need_with inner p page t before user is = need-one (directory_of inner.directories) (frame_bytes inner.memory) p page t (by (directory_of inner.directories p) refl is) user.0 user.1 is (before.spaces.in_use p (slot_number page))
   where
     by : (x : Option ℕ) → directory_of inner.directories p ≡ x → option_and_then (λ d. table_of (frame_bytes inner.memory) d (slot_number page)) x ≡ Some t → p < 64
-    by None live h = cc
-    by (Some d) live h = live_small inner.directories p d before.spaces.sound.pids live
+    by x live h = grind (arith, live_small)
 
 -- a page is found at the entry that was written for it
 pub found_written : (directories : List (Option ℕ)) (bytes two : List ℕ) (roles : List Role) (p d page t : ℕ) (e : PageEntry) → IsSound directories bytes roles → directory_of directories p ≡ Some d
@@ -234,8 +204,7 @@ module _ (inner : Inner) (p page : ℕ) (f : Found) (before : AreCountedInside i
     spaces = touched.spaces;
     kept = kept_touched inner.directories inner.memory two inner.frames inner.counts.items S before touched keys;
     lazy = lazy_kept inner.directories inner.memory two inner.frames before.spaces.sound touched.sound touched.lazy;
-    stay = frames_stay none_goes inner.directories inner.memory two inner.frames inner.frames before.spaces.sound
-        touched.sound touched.stay;
+    stay = grind (arith, frames_stay);
   }
 
   -- a load
@@ -323,8 +292,7 @@ module _ (inner : Inner) (p page : ℕ) (f : Found) (before : AreCountedInside i
       → PageFilled inner.directories p page inner.memory inner.frames two roles'
       → FramesStay (of_lazy p page) (image_at inner)
       (image_from inner.directories two roles')
-  filled_stay two roles' filled = frames_stay (of_lazy p page) inner.directories inner.memory two inner.frames roles'
-      before.spaces.sound filled.after.sound filled.stay
+  filled_stay two roles' filled = grind (arith, frames_stay)
 
   -- and it is found there
   pub filled_found : (e' : PageEntry) (two : List ℕ) (roles' : List Role) → FrameGiven inner.memory inner.frames f e' two roles'

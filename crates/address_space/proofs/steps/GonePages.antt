@@ -1,12 +1,13 @@
 -- A page whose entry goes: its frame, the count of its table, and the table, which goes with its last page.
-use Rattle.address_space.proofs.Prelude.{◌≡◌, ℕ, ◌-◌, ◌*◌, ◌<◌, ◌≤◌, true, false, List, length, refl, ap, sym, ◌∙◌}
-use Rattle.address_space.proofs.Prelude.{subst, Option, Some, is_some, slice_get, slice_set, slot_number, IsUserPage}
-use Rattle.address_space.proofs.Prelude.{frame_bytes, Role, Page, IsInUse, get-set_same, table_of, entry_at, IsCleared}
-use Rattle.address_space.proofs.Prelude.{count_range, Found, directory_of, spaces_in, IsCounted, AreCountedSpaces}
-use Rattle.address_space.proofs.Prelude.{EntryLeft, TableFreed, SlotRemoved}
+use Rattle.address_space.proofs.Prelude
+use Prelude.{◌≡◌, ℕ, ◌-◌, ◌*◌, ◌<◌, ◌≤◌, true, false, List, length, refl, ap, sym, ◌∙◌, subst, Option, Some, is_some}
+use Prelude.{slice_get, slice_set, slot_number, IsUserPage, frame_bytes, Role, Page, IsInUse, get-set_same, table_of}
+use Prelude.{entry_at, IsCleared, count_range, Found, directory_of, spaces_in, IsCounted, AreCountedSpaces, EntryLeft}
+use Prelude.{TableFreed, SlotRemoved}
 use Rattle.address_space.specs.declared.Spaces.TheInside.{Inside as Inner}
 use Rattle.address_space.proofs.Insides.{AreCountedInside, found_at}
-use Rattle.address_space.proofs.steps.CountSteps.{one_less, counted_roles, alike_left, counted_freed, table_freed, count_there, count_positive, count_by_entries, page_uncounted}
+use Rattle.address_space.proofs.steps.CountSteps.{one_less, counted_roles, alike_left, counted_freed, table_freed}
+use Rattle.address_space.proofs.steps.CountSteps.{count_there, count_positive, count_by_entries, page_uncounted}
 use Rattle.address_space.proofs.steps.FoundPages.{found_known, found_there, found_below}
 use Rattle.address_space.proofs.steps.Leaves.{slot_removed, freed_table}
 

@@ -1,18 +1,21 @@
 -- What a lazy page that got a frame of its own leaves.
 use Rattle.address_space.proofs.Prelude
-use Prelude.{EntriesStay, of_lazy, ◌≡◌, ◌≢◌, ℕ, ◌+◌, ◌^◌, ◌<◌, ◌≤◌, true, false, List, length, replicate, refl, ap}
-use Prelude.{sym, ◌∙◌, subst, arith, inr, Option, Some, None, length-set, slice_get, option_and_then, length-replicate}
+use Prelude.{EntriesStay, of_lazy, ◌≡◌, ◌≢◌, ℕ, ◌+◌, ◌^◌, ◌<◌, ◌≤◌, true, false, List, length, replicate, refl, ap, sym}
+use Prelude.{◌∙◌, subst, arith, inr, Option, Some, length-set, slice_get, option_and_then, length-replicate}
 use Prelude.{slot_number, frame_number, frame_bytes, with_frame, with_frame-same, with_frame-other, Role, Reserved}
 use Prelude.{Free, Table, Page, free_frames, frames_weight, IsTaken, weight-taken, PageEntry, Frames, dir_word}
 use Prelude.{table_of, entry_at, with_entry, entry_word, IsKernelEntry, entry_word-names, entry_word-lt}
 use Prelude.{entry_word-present, word_entry-entry_word, Slot, at_page, Entries, names, lazy_count, spaces_of}
 use Prelude.{holders_of, Directories, Roles, directory_of, table_in, entry_in, entries_in, spaces_in, total_cost}
 use Prelude.{Tables, Pages, IsSpaces, InUseAt, PageFilled, ne_eqb}
-use Rattle.address_space.proofs.steps.Steps.{sound_by, inside, live_small, table_by_word, role_own, role_other, free_loose, page_loose}
+use Rattle.address_space.proofs.steps.Steps.{sound_by, inside, live_small, table_by_word, role_own, role_other}
+use Rattle.address_space.proofs.steps.Steps.{free_loose, page_loose}
 use Rattle.address_space.proofs.costs.Costed.{free_where_light}
-use Rattle.address_space.proofs.entries.EntrySteps.{entries-insert, entry_own, entry_other, tables-entry, tables_kept, use_kept}
+use Rattle.address_space.proofs.entries.EntrySteps.{entries-insert, entry_own, entry_other, tables-entry, tables_kept}
+use Rattle.address_space.proofs.entries.EntrySteps.{use_kept}
 use Rattle.address_space.proofs.frames.FrameSteps.{tables-role}
-use Rattle.address_space.proofs.frames.PageSteps.{same_bytes, pages-more, unused, unused_count, no_free, no_table, lazy-filled, lazy-fewer, holders-less}
+use Rattle.address_space.proofs.frames.PageSteps.{same_bytes, pages-more, unused, unused_count, no_free, no_table}
+use Rattle.address_space.proofs.frames.PageSteps.{lazy-filled, lazy-fewer, holders-less}
 use Rattle.address_space.proofs.entries.Refinement.{fill_refines}
 use Rattle.address_space.proofs.steps.Stores.{found, get_user, entry_rules, frame_written}
 use Rattle.address_space.proofs.entries.Staying.{stay_filled, places_by}
@@ -106,8 +109,7 @@ page_filled directories bytes one two roles roles' p d page f e s live low high 
   where
     kept : (p page : ℕ) → ((d page : ℕ) → directory_of directories p ≡ Some d → entry_at (frame_bytes one) d page ≡ entry_at (frame_bytes bytes) d page) → (x : Option ℕ) → directory_of directories p ≡ x
         → entry_in (directory_of directories) (frame_bytes one) (at_page p page) ≡ entry_in (directory_of directories) (frame_bytes bytes) (at_page p page)
-    kept p page same None is = ap (option_and_then (λ d. entry_at (frame_bytes one) d page)) is ∙ sym (ap (option_and_then (λ d. entry_at (frame_bytes bytes) d page)) is)
-    kept p page same (Some d) is = ap (option_and_then (λ d. entry_at (frame_bytes one) d page)) is ∙ same d page is ∙ sym (ap (option_and_then (λ d. entry_at (frame_bytes bytes) d page)) is)
+    kept p page same x is = grind arith
 
     above : Tables (directory_of directories) (frame_bytes bytes) (slice_get roles) → slice_get roles f ≡ Some Free → 1 ≤ f
     above T free = let n : f ≢ 0 = (λ is. let a = T.zero_role in let k : slice_get roles 0 ≡ slice_get roles f = ap (slice_get roles) (sym is) in cc) in omega arith

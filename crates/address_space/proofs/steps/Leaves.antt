@@ -1,17 +1,20 @@
 -- What a slot that leaves its group leaves.
 use Rattle.address_space.proofs.Prelude
-use Prelude.{InUse, Tables, Pages, HoldsPage, IsSound, InUseAt, IsSpaces, ◌≡◌, ◌≢◌, ℕ, ◌+◌, ◌<◌, ◌≤◌, Bool, true}
-use Prelude.{false, List, length, refl, ap, sym, ◌∙◌, subst, arith, inl, inr, Option, Some, None, length-set, ◌-◌, ◌⊎◌}
-use Prelude.{slice_get, slice_set, if◌then◌else◌, nat_lt, option_and_then, cases_eq, nat_tests, slot_number, is_present}
+use Prelude.{InUse, Tables, Pages, IsSound, InUseAt, IsSpaces, ◌≡◌, ◌≢◌, ℕ, ◌+◌, ◌<◌, ◌≤◌, Bool, true, false, List}
+use Prelude.{length, refl, ap, sym, ◌∙◌, subst, arith, inl, inr, Option, Some, None, length-set, ◌-◌, ◌⊎◌, slice_get}
+use Prelude.{slice_set, if◌then◌else◌, nat_lt, option_and_then, cases_eq, nat_tests, slot_number, is_present}
 use Prelude.{frame_number, frame_bytes, word_in, with_frame-other, Role, Reserved, Free, Table, Page, frames_weight}
-use Prelude.{weight, released, IsInUse, weight-set, PageEntry, Frames, dir_word, table_of, entry_at}
-use Prelude.{IsCleared, without_table, same, Slot, need, is_slot}
-use Prelude.{at_page, Entries, lazy_count, cell_of, spaces_of, holders_of, Directories, Roles, directory_of, table_in}
-use Prelude.{entries_in, spaces_in, total_cost, TableFreed, EntryLeft, SlotRemoved, of_page, PlacesStay}
-use Rattle.address_space.proofs.steps.Steps.{sound_by, live_small, page_loose, free_loose, table_by_word, role_own, role_other}
+use Prelude.{weight, released, IsInUse, weight-set, PageEntry, Frames, dir_word, table_of, entry_at, IsCleared}
+use Prelude.{without_table, same, Slot, need, is_slot, at_page, Entries, lazy_count, cell_of, spaces_of, holders_of}
+use Prelude.{Directories, Roles, directory_of, table_in, entries_in, spaces_in, total_cost, TableFreed, EntryLeft}
+use Prelude.{SlotRemoved, of_page, PlacesStay}
+use Rattle.address_space.proofs.steps.Steps.{sound_by, live_small, page_loose, free_loose, table_by_word, role_own}
+use Rattle.address_space.proofs.steps.Steps.{role_other}
 use Rattle.address_space.proofs.costs.CostSteps.{total-entry, need-one, need-most}
-use Rattle.address_space.proofs.entries.EntrySteps.{Loose, with_word_at, entries-remove, tables-entry, tables_kept, same_entries}
-use Rattle.address_space.proofs.frames.FrameSteps.{here_or_not, tables-role, unlinked-own, unlinked-others, unlinked-table, unlinked-entry, tables-unlinked}
+use Rattle.address_space.proofs.entries.EntrySteps.{Loose, with_word_at, entries-remove, tables-entry, tables_kept}
+use Rattle.address_space.proofs.entries.EntrySteps.{same_entries}
+use Rattle.address_space.proofs.frames.FrameSteps.{here_or_not, tables-role, unlinked-own, unlinked-others}
+use Rattle.address_space.proofs.frames.FrameSteps.{unlinked-table, unlinked-entry, tables-unlinked}
 use Rattle.address_space.proofs.frames.PageSteps.{same_bytes, pages-role, holders-less, no_table, no_directory}
 use Rattle.address_space.proofs.entries.Refinement.{leave_refines}
 use Rattle.address_space.proofs.steps.Stores.{found, get_user, named_entry, page_of_name, page_held, entry_rules}
@@ -28,23 +31,10 @@ after_page c = elim (nat_lt 1 c) as (λ b. (b ≡ true) ⊎ (b ≡ false)) [ tru
 pages-less : (E : Entries) (R R' : Roles) (slot : Slot) (e : PageEntry) (c : ℕ) → Pages E R → map.get E slot ≡ Some e → R e.frame ≡ Some (Page c) → R' e.frame ≡ Some (released (Page c))
     → ((g : ℕ) → g ≢ e.frame → R' g ≡ R g) → Pages (map.remove E slot) R'
 pages-less E R R' slot e c P there was own others = record {
-  pages = λ q d is. elim (cases_eq d.frame e.frame) [
-    | inl same ↦ elim (after_page c) [
-      | inl more ↦ inr (c - 1, ap R' same ∙ own ∙ ap (λ b. Some (if b then Page (c - 1) else Free)) more)
-      | inr one ↦ absurd (no_other q d is same one)
-    ]
-    | inr differ ↦ subst HoldsPage (sym (others d.frame differ)) (P.pages q d (before q d is))
-  ];
+  pages = grind (arith, cases_eq, after_page, no_other, before);
   counts = λ f n is. elim (cases_eq f e.frame) [
     | inl same ↦ elim (after_page c) [
-      | inl more ↦
-          let k : Some (Page (c - 1)) ≡ Some (Page n) = sym (ap R' same ∙ own ∙ ap (λ b. Some (if b then Page (c - 1) else Free)) more) ∙ is in
-          let n_is : c - 1 ≡ n = cc in
-          let big : 1 < c = lt_of c more in
-          let old = (P.counts e.frame c was).1 in
-          let less = (holders-less E slot e there).0 in
-          let l : set.len (holders_of (map.remove E slot) f) ≡ set.len (holders_of (map.remove E slot) e.frame) = ap (λ g. set.len (holders_of (map.remove E slot) g)) same in
-          (omega (arith, n_is, big), omega (arith, n_is, big, old, less, l))
+      | inl more ↦ grind (arith, lt_of, holders-less)
       | inr one ↦ let k : Some Free ≡ Some (Page n) = sym (ap R' same ∙ own ∙ ap (λ b. Some (if b then Page (c - 1) else Free)) one) ∙ is in cc
     ]
     | inr differ ↦ let old = P.counts f n (sym (others f differ) ∙ is) in (old.0, old.1 ∙ sym (ap set.len ((holders-less E slot e there).1 f differ)))
@@ -92,11 +82,7 @@ record Left (D : Directories) (m : Frames) (E E' : Entries) (roles one : List Ro
   pub length : length one ≡ length roles
 
 lighter : (c : ℕ) → 0 < c → weight (released (Page c)) + 1 ≡ c
-lighter c pos = by (nat_lt 1 c) refl
-  where
-    by : (b : Bool) → nat_lt 1 c ≡ b → weight (if b then Page (c - 1) else Free) + 1 ≡ c
-    by true is = omega (arith, pos)
-    by false is = let l : c ≤ 1 = grind (arith, nat_tests) in omega (arith, pos, l)
+lighter c pos = grind arith
 
 entry_left : (directories : List (Option ℕ)) (bytes : List ℕ) (roles one : List Role) (p d page : ℕ) (e : PageEntry) (m1 : Frames) → IsSound directories bytes roles → directory_of directories p ≡ Some d
     → entry_at (frame_bytes bytes) d page ≡ Some e → map.get (entries_in (directory_of directories) (frame_bytes bytes)) (at_page p page) ≡ Some e

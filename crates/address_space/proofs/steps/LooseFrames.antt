@@ -1,24 +1,10 @@
 -- Frames of pages and free ones, where a page leaves or a frame is released.
-use Rattle.std.proofs.Common.{◌≡◌, ◌≢◌, ◌⊎◌, ◌-◌, ℕ, Bool, true, false, List, refl, ap, sym, ◌∙◌, subst, inl, inr, Option, Some, None}
-use Rattle.std.specs.Prelude.{if◌then◌else◌, nat_lt, slice_get}
-use Rattle.std.specs.Option.{option_and_then}
-use Rattle.std.proofs.lemmas.Bool.{cases_eq}
-use Rattle.std.proofs.lemmas.Option.{slice_get_within}
-use Rattle.page_words.specs.Addresses.{slot_number}
-use Rattle.page_words.specs.Words.{frame_number, is_present}
-use Rattle.phys_memory.specs.Bytes.{frame_bytes}
-use Rattle.phys_memory.proofs.Frames.{with_frame-other}
-use Rattle.alloc_table.specs.declared.Role.{Role}
-use Rattle.alloc_table.specs.declared.Role.TheVariants.{Reserved, Free, Directory, Table, Page}
-use Rattle.alloc_table.specs.Roles.{IsReleased, released}
-use Rattle.alloc_table.proofs.RoleLemmas.{get-set_same, get-set_other}
-use Rattle.page_map.specs.declared.PageEntry.{PageEntry}
-use Rattle.page_map.specs.Entries.{Frames, IsCleared, dir_word, table_of, without_entry}
-use Rattle.address_space.specs.Image.{image_from}
-use Rattle.address_space.specs.Stays.{LooseStay}
-use Rattle.address_space.specs.Sound.{IsSound}
-use Rattle.address_space.specs.View.{directory_of}
-use Rattle.address_space.specs.Changes.{EntryLeft, TableFreed}
+use Rattle.address_space.proofs.Prelude
+use Prelude.{◌≡◌, ◌≢◌, ◌-◌, ℕ, Bool, List, refl, ap, sym, ◌∙◌, subst, inl, inr, Option, Some, None, arith, ◌⊎◌}
+use Prelude.{slice_get, option_and_then, cases_eq, slice_get_within, slot_number, frame_number, frame_bytes}
+use Prelude.{with_frame-other, Role, Free, Directory, Table, Page, IsReleased, released, get-set_same, get-set_other}
+use Prelude.{PageEntry, Frames, IsCleared, dir_word, table_of, image_from, LooseStay, IsSound, directory_of, EntryLeft}
+use Prelude.{TableFreed}
 
 -- by its role
 abbrev Loose : Option Role → Type 0
@@ -26,23 +12,12 @@ Loose role = (role ≡ Some Free) ⊎ ((c : ℕ) × (role ≡ Some (Page c)))
 
 -- a page with one holder less is a page or free
 loose_role : (r : Role) → Loose (Some r) → Loose (Some (released r))
-loose_role Reserved h = inl refl
-loose_role Free h = inl refl
-loose_role (Directory p) h = inl refl
-loose_role (Table p s) h = inl refl
-loose_role (Page c) h = by (nat_lt 1 c)
-  where
-    by : (b : Bool) → Loose (Some (if b then Page (c - 1) else Free))
-    by true = inr (c - 1, refl)
-    by false = inl refl
+loose_role r h = grind arith
 
 -- one frame is released
 release : (roles new : List Role) (g f : ℕ) → IsReleased roles g new → Loose (slice_get roles f) → Loose (slice_get new f)
 release roles new g f r loose = elim (cases_eq f g) [
-  | inl same ↦
-      let within = slice_get_within roles g r.role r.was in
-      subst Loose (sym (ap (λ n. slice_get new n) same ∙ ap (λ l. slice_get l g) r.now ∙ get-set_same roles g (released r.role) within))
-      (loose_role r.role (subst Loose (ap (slice_get roles) same ∙ r.was) loose))
+  | inl same ↦ grind (arith, slice_get_within, get-set_same, loose_role)
   | inr differ ↦ subst Loose (sym (ap (λ l. slice_get l f) r.now ∙ get-set_other roles g f (released r.role) differ)) loose
 ]
 
@@ -58,33 +33,19 @@ module _ (directories : List (Option ℕ)) (bytes two : List ℕ) (roles one las
 
   -- the table is the one that the word names
   names : frame_number (dir_word m d (slot_number page)) ≡ table
-  names = by (is_present (dir_word m d (slot_number page))) linked
-    where
-      by : (b : Bool) → (if b then Some (frame_number (dir_word m d (slot_number page))) else None) ≡ Some table → frame_number (dir_word m d (slot_number page)) ≡ table
-      by true h = cc
-      by false h = cc
+  names = grind arith
 
   in_table : slice_get roles table ≡ Some (Table p (slot_number page))
   in_table = sound.tables.table p (slot_number page) table (ap (option_and_then (λ d. table_of m d (slot_number page))) live ∙ linked)
 
   bytes_stay : (f : ℕ) → f ≢ table → f ≢ d → frame_bytes two f ≡ m f
-  bytes_stay f other apart = by freed refl
-    where
-      entry : (t : ℕ) → t ≡ table → without_entry m t page f ≡ m f
-      entry t is = with_frame-other m t f _ (λ same. other (same ∙ is))
-
-      by : (x : Option ℕ) → freed ≡ x → frame_bytes two f ≡ m f
-      by None is = ap (λ (k : Frames). k f) (cleared.kept is).0 ∙ entry (frame_number (dir_word m d (slot_number page))) names
-      by (Some t) is =
-          let gone = cleared.unlinked t is in
-          ap (λ (k : Frames). k f) gone.1 ∙ with_frame-other (without_entry m t page) d f _ apart ∙ entry t (gone.0 ∙ names)
+  bytes_stay f other apart = grind (arith, with_frame-other, names)
 
   roles_stay : (f : ℕ) → Loose (slice_get roles f) → Loose (slice_get last f)
   roles_stay f loose = by freed refl
     where
       first : (b : Bool) → e.lazy ≡ b → Loose (slice_get one f)
-      first true is = subst (λ l. Loose (slice_get l f)) (sym (left.lazy is)) loose
-      first false is = release roles one e.frame f (left.real is) loose
+      first b is = grind (arith, release)
 
       by : (x : Option ℕ) → freed ≡ x → Loose (slice_get last f)
       by None is = subst (λ l. Loose (slice_get l f)) (sym (table_freed.kept is)) (first e.lazy refl)

@@ -1,10 +1,10 @@
 -- The places of a process's other pages, after an access through one.
 use Rattle.address_space.proofs.Prelude
 use Prelude.{◌≡◌, ◌≢◌, ◌+◌, ◌<◌, ◌≤◌, ◌^◌, ℕ, true, false, List, length, refl, ap, sym, ◌∙◌, inl, inr, Option, Some}
-use Prelude.{None, arith, slice_get, option_map, option_and_then, slot_number, index_number, IsUserPage, frame_bytes}
-use Prelude.{word_in, length-frame, Role, PageEntry, Frames, table_of, entry_at, word_entry, entry_word, with_entry}
-use Prelude.{entry_word-lt, Found, Place, Slot, at_page, write_at, Directories, directory_of, table_in, entry_in}
-use Prelude.{PageFilled, EntryIs, BytesStored, place_by, place_there, place_in, IsSound}
+use Prelude.{None, arith, slice_get, option_map, option_and_then, slot_number, IsUserPage, frame_bytes, length-frame}
+use Prelude.{Role, PageEntry, Frames, table_of, entry_at, entry_word, with_entry, entry_word-lt, Found, Place, Slot}
+use Prelude.{at_page, write_at, Directories, directory_of, table_in, entry_in, PageFilled, EntryIs, BytesStored}
+use Prelude.{place_by, place_in, IsSound}
 use Rattle.address_space.specs.declared.Spaces.TheInside.{Inside as Inner}
 use Rattle.address_space.proofs.Insides.{AreCountedInside, found_at}
 use Rattle.address_space.proofs.entries.EntrySteps.{entry_by_table, tables_kept, entry_other}
@@ -14,20 +14,7 @@ use Rattle.address_space.proofs.steps.Stores.{frame_written, length-write_at, st
 -- a place is that of its table and its entry
 place_same : (D : Directories) (m m' : Frames) (p page : ℕ) → table_in D m' p (slot_number page) ≡ table_in D m p (slot_number page)
     → entry_in D m' (at_page p page) ≡ entry_in D m (at_page p page) → place_by m' page (table_in D m' p (slot_number page)) ≡ place_by m page (table_in D m p (slot_number page))
-place_same D m m' p page tables entries = by (table_in D m p (slot_number page)) (table_in D m' p (slot_number page)) tables
-    (sym (entry_by_table D m' (at_page p page)) ∙ entries ∙ entry_by_table D m (at_page p page))
-  where
-    read : Frames → ℕ → Option PageEntry
-    read n t = word_entry (word_in (n t) (index_number page))
-
-    by : (x y : Option ℕ) → y ≡ x → option_and_then (read m') y ≡ option_and_then (read m) x → place_by m' page y ≡ place_by m page x
-    by None None same h = refl
-    by (Some t) None same h = cc
-    by None (Some t) same h = cc
-    by (Some t) (Some u) same h =
-        let e : Some u ≡ Some t = same in
-        let is : u ≡ t = cc in
-        (λ i. place_there (is i) (option_map (λ e. record { page = page; table = is i; entry = e }) (h i)))
+place_same D m m' p page tables entries = grind (arith, entry_by_table)
 
 -- where an entry is written at another page
 entry_beside : (directories : List (Option ℕ)) (one two : List ℕ) (roles : List Role) (p d page : ℕ) (f : Found) (e : PageEntry) → IsSound directories one roles → directory_of directories p ≡ Some d
@@ -86,11 +73,8 @@ no_second directories bytes p (Some page) h = cc
 
 pub second_there : (directories : List (Option ℕ)) (bytes : List ℕ) (p page : ℕ) (x : Option ℕ) (y : Option Place) (place : Place) → y ≡ option_map (place_in directories bytes p) x → x ≡ Some page → y ≡ Some place
     → place ≡ place_in directories bytes p page
-second_there directories bytes p page x y place at is found =
-    let e : Some place ≡ Some (place_in directories bytes p page) = sym found ∙ at ∙ ap (option_map (place_in directories bytes p)) is in
-    cc
+second_there directories bytes p page x y place at is found = grind arith
 
 pub second_is : (directories : List (Option ℕ)) (bytes : List ℕ) (p : ℕ) (x : Option ℕ) (place : Place) → Some place ≡ option_map (place_in directories bytes p) x
     → (page : ℕ) × (x ≡ Some page) × (place ≡ place_in directories bytes p page)
-second_is directories bytes p None place h = cc
-second_is directories bytes p (Some page) place h = let e : Some place ≡ Some (place_in directories bytes p page) = h in (page, refl, cc)
+second_is directories bytes p x place h = grind arith

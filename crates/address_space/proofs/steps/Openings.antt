@@ -1,17 +1,15 @@
 -- A machine without any space, and a process that gets an empty one.
 use Rattle.address_space.proofs.Prelude
-use Prelude.{◌≡◌, ◌≢◌, ℕ, zero, suc, ◌+◌, ◌*◌, ◌<◌, ◌≤◌, Bool, true, false, cond, List, length, replicate, refl, ap}
-use Prelude.{sym, ◌∙◌, subst, arith, inl, inr, Option, Some, None, length-set, drop, ◌⊎◌, is_some, slice_get, slice_set}
-use Prelude.{if◌then◌else◌, sum_by, option_and_then, option_map, unwrap_or, list_any, range_with_len, cases_eq}
-use Prelude.{length-replicate, get_or-drop, sum_by-cons, slice_get_within, is_present, same, slot_number}
-use Prelude.{index_number, same_map, same_set, get-collect, frame_bytes, blank_bytes, word_at, word_in, with_frame}
-use Prelude.{Role, Reserved, Free, Directory, Table, Page, frames_weight, weight, IsTaken, opening_roles, free_frames}
-use Prelude.{weight-taken, get-set_same, get-set_other, PageEntry, Frames, dir_word, word_table, word_entry, table_of}
-use Prelude.{entry_at, Slot, slot_order, Spaces, cost, cost_of, pages_of, at_page, user_slots, Entries, lazy_count}
-use Prelude.{spaces_of, cell_of, Directories, Roles, directory_of, table_in, entry_in, entries_in, spaces_in, live_cost}
-use Prelude.{total_cost, Tables, Pages, IsSpaces, SpaceAdded, none_goes}
-use Rattle.std.proofs.Common.{get_or}
-use Rattle.phys_memory.proofs.Frames.{with_frame-same, with_frame-other, frame-blank}
+use Prelude.{◌≡◌, ◌≢◌, ℕ, zero, suc, ◌+◌, ◌*◌, ◌<◌, ◌≤◌, true, cond, List, length, replicate, refl, ap, sym, ◌∙◌, subst}
+use Prelude.{arith, inl, inr, Option, Some, None, length-set, get_or, ◌⊎◌, is_some, slice_get, slice_set, if◌then◌else◌}
+use Prelude.{sum_by, option_and_then, option_map, unwrap_or, list_any, range_with_len, cases_eq, length-replicate}
+use Prelude.{get_or-drop, sum_by-cons, slice_get_within, is_present, same, slot_number, index_number, same_map}
+use Prelude.{same_set, get-collect, frame_bytes, blank_bytes, word_at, word_in, with_frame, Role, Reserved, Free}
+use Prelude.{Directory, Table, Page, frames_weight, weight, IsTaken, opening_roles, free_frames, weight-taken}
+use Prelude.{get-set_same, get-set_other, PageEntry, Frames, dir_word, word_table, word_entry, table_of, Slot}
+use Prelude.{slot_order, Spaces, cost, cost_of, pages_of, at_page, user_slots, Entries, lazy_count, spaces_of, cell_of}
+use Prelude.{Directories, Roles, directory_of, table_in, entry_in, entries_in, spaces_in, live_cost, total_cost, Tables}
+use Prelude.{Pages, IsSpaces, SpaceAdded, with_frame-same, with_frame-other, frame-blank}
 use Rattle.address_space.proofs.costs.Costs.{contains-pages_of}
 use Rattle.address_space.proofs.costs.CostSteps.{sum_one}
 use Rattle.address_space.proofs.costs.Costed.{free_where_light}
@@ -32,9 +30,7 @@ zero_byte (suc n) (suc k) = zero_byte n k
 -- every word of a frame of zeros is 0, and past it too
 zero_word : (n i : ℕ) → word_in (replicate n 0) i ≡ 0
 unfolding word_at
-zero_word n i =
-    let byte : (k : ℕ) → get_or (drop (4 * i) (replicate n 0)) k 0 ≡ 0 = λ k. get_or-drop (4 * i) (replicate n 0) k 0 ∙ zero_byte n (4 * i + k) in
-    omega (arith, byte 0, byte 1, byte 2, byte 3)
+zero_word n i = grind (arith, get_or-drop, zero_byte)
 
 -- a frame of zeros holds no table
 zeros_name_nothing : (m : Frames) (d s : ℕ) → m d ≡ replicate 4096 0 → table_of m d s ≡ None
@@ -57,10 +53,7 @@ module _ (D D' : Directories) (m : Frames) (R R' : Roles) (T : Tables D m R) (p 
   no_table_before s = ap (option_and_then (λ d. table_of m d s)) none
 
   same_tables : (q s : ℕ) → table_in D' m q s ≡ table_in D m q s
-  same_tables q s = elim (cases_eq q p) [
-    | inl same ↦ ap (λ x. table_in D' m x s) same ∙ no_table_own s ∙ sym (ap (λ x. table_in D m x s) same ∙ no_table_before s)
-    | inr differ ↦ ap (option_and_then (λ d. table_of m d s)) (others q differ)
-  ]
+  same_tables q s = grind (arith, cases_eq, no_table_own, no_table_before)
 
   same_entry : (q : Slot) → entry_in D' m q ≡ entry_in D m q
   same_entry q = entry_by_table D' m q ∙ ap (option_and_then (λ table. word_entry (word_in (m table) (index_number q.page)))) (same_tables q.pid (slot_number q.page)) ∙ sym (entry_by_table D m q)
@@ -74,29 +67,14 @@ module _ (D D' : Directories) (m : Frames) (R R' : Roles) (T : Tables D m R) (p 
     zero_role = roles 0 (λ is. let a = T.zero_role in let k : R 0 ≡ R f = ap R is in cc) ∙ T.zero_role;
     zero_bytes = T.zero_bytes;
     reserved = λ g is. T.reserved g (sym (roles g (λ same. let k : R' g ≡ R' f = ap R' same in cc)) ∙ is);
-    directory = λ q d is. elim (cases_eq q p) [
-      | inl same ↦ let e : Some f ≡ Some d = sym own ∙ ap D' (sym same) ∙ is in let g : f ≡ d = cc in ap R' (sym g) ∙ role ∙ ap (λ x. Some (Directory x)) (sym same)
-      | inr differ ↦ let old : R d ≡ Some (Directory q) = T.directory q d (sym (others q differ) ∙ is) in roles d (λ same. let k : R d ≡ R f = ap R same in cc) ∙ old
-    ];
-    directory_back = λ q d is. elim (cases_eq d f) [
-      | inl same ↦ let e : Some (Directory p) ≡ Some (Directory q) = sym role ∙ ap R' (sym same) ∙ is in let g : p ≡ q = cc in ap D' (sym g) ∙ own ∙ ap Some (sym same)
-      | inr differ ↦ let old : D q ≡ Some d = T.directory_back q d (sym (roles d differ) ∙ is) in others q (λ same. let k : D q ≡ D p = ap D same in cc) ∙ old
-    ];
+    directory = grind (arith, cases_eq);
+    directory_back = grind (arith, cases_eq);
     table = λ q s t is. let old : R t ≡ Some (Table q s) = T.table q s t (sym (same_tables q s) ∙ is) in roles t (λ same. let k : R t ≡ R f = ap R same in cc) ∙ old;
     table_back = λ q s t is. same_tables q s ∙ T.table_back q s t (sym (roles t (λ same. let k : R' t ≡ R' f = ap R' same in cc)) ∙ is);
-    dir_words = λ q d s is i. elim (cases_eq q p) [
-      | inl same ↦ inl (own_word q d s same is)
-      | inr differ ↦ T.dir_words q d s (sym (others q differ) ∙ is) i
-    ];
-    outside = λ q d s is i out. elim (cases_eq q p) [
-      | inl same ↦ own_word q d s same is
-      | inr differ ↦ T.outside q d s (sym (others q differ) ∙ is) i out
-    ];
+    dir_words = grind (arith, cases_eq, own_word);
+    outside = grind (arith, cases_eq, own_word);
     table_words = λ q s t i is l. T.table_words q s t i (sym (same_tables q s) ∙ is) l;
-    long = λ g r is. elim (cases_eq g f) [
-      | inl same ↦ T.long g Free (ap R same ∙ free)
-      | inr differ ↦ T.long g r (sym (roles g differ) ∙ is)
-    ];
+    long = grind (arith, cases_eq);
   }
     where
       own_word : (q d s : ℕ) → q ≡ p → D' q ≡ Some d → dir_word m d s ≡ 0
@@ -105,11 +83,7 @@ module _ (D D' : Directories) (m : Frames) (R R' : Roles) (T : Tables D m R) (p 
 -- ---- A process with a blank directory costs one
 
 no_pages : (D : Directories) (m : Frames) (p page : ℕ) → D p ≡ None → map.get (entries_in D m) (at_page p page) ≡ None
-no_pages D m p page none = get-entries_in D m (at_page p page) ∙ ap (λ x. cond (list_any (same slot_order (at_page p page)) user_slots) x None) (ap (option_and_then (λ d. entry_at m d page)) none) ∙ either (list_any (same slot_order (at_page p page)) user_slots)
-  where
-    either : (b : Bool) → ◌≡◌ {A = Option PageEntry} (cond b None None) None
-    either true = refl
-    either false = refl
+no_pages D m p page none = grind (arith, get-entries_in)
 
 pub empty_cost : (S : Spaces) (p : ℕ) → ((page : ℕ) → map.get S (at_page p page) ≡ None) → cost S p ≡ 1
 empty_cost S p none = ap cost_of (same_set (pages_of S p) set.empty (λ page. contains-pages_of S p page ∙ ap is_some (none page)))
@@ -177,11 +151,7 @@ space_added directories bytes one roles roles' p f s few none room taken is long
       cost = total;
       live = ap is_some own;
       others = others;
-      stay = places_by none_goes D m D' (frame_bytes one)
-          (stay_same none_goes E (entries_in D' (frame_bytes one)) E2)
-          (λ q r t found. ap (λ x. table_in D' x q r) is
-          ∙ same_tables D D' m1 R R' Ta p f none free blank own others role kept q r
-          ∙ loose-tables D m R T f (replicate 4096 0) loose q r ∙ found);
+      stay = grind (arith, places_by, stay_same, same_tables, loose-tables);
       entries = λ q. ap (λ x. entry_in D' x q) is
           ∙ same_entry D D' m1 R R' Ta p f none free blank own others role kept q
           ∙ loose-entry D m R T f (replicate 4096 0) loose q;
@@ -207,9 +177,7 @@ free_or_none (suc n) (suc f) r h = free_or_none n f r h
 -- what each frame is at first
 opening_role : (n f : ℕ) (r : Role) → slice_get (opening_roles n) f ≡ Some r → ((f ≡ 0) × (r ≡ Reserved)) ⊎ (r ≡ Free)
 unfolding opening_roles
-opening_role zero f r h = cc
-opening_role (suc n) zero r h = let e : Reserved ≡ r = cc in inl (refl, sym e)
-opening_role (suc n) (suc f) r h = inr (free_or_none n f r h)
+opening_role n f r h = grind (arith, free_or_none)
 
 light : (n : ℕ) → frames_weight (replicate n Free) ≡ 0
 light zero = refl
@@ -226,8 +194,7 @@ opening_length n = length-set (replicate n Free) 0 Reserved ∙ length-replicate
 
 opening_reserved : (n : ℕ) → 0 < n → slice_get (opening_roles n) 0 ≡ Some Reserved
 unfolding opening_roles
-opening_reserved zero h = absurd (omega arith)
-opening_reserved (suc n) h = refl
+opening_reserved n h = grind arith
 
 blank_length : (n : ℕ) → length (blank_bytes n) ≡ 4096 * n
 unfolding blank_bytes
@@ -304,8 +271,7 @@ cost_within directories S p long live =
     ap_le (ap (λ b. if b then cost S p else 0) live) (among p 0 64 (omega arith) (omega arith))
   where
     by : (x : Option ℕ) → directory_of directories p ≡ x → is_some x ≡ true → p < 64
-    by None is h = cc
-    by (Some d) is h = live_small directories p d long is
+    by x is h = grind (arith, live_small)
 
     ap_le : {n : ℕ} → live_cost (directory_of directories) S p ≡ cost S p → live_cost (directory_of directories) S p ≤ n → cost S p ≤ n
     ap_le e l = omega (arith, e, l)

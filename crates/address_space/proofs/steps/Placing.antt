@@ -1,35 +1,26 @@
 -- What the place of a page says.
-use Rattle.address_space.proofs.Prelude.{◌≡◌, ℕ, List, refl, ap, sym, ◌∙◌, Option, Some, None, is_some, option_and_then}
-use Rattle.address_space.proofs.Prelude.{option_map, slot_number, index_number, IsUserPage, frame_bytes, word_in}
-use Rattle.address_space.proofs.Prelude.{Frames, table_of, word_entry, PageEntry, Found, takes_stores_through, need}
-use Rattle.address_space.proofs.Prelude.{at_page, directory_of, table_in, place_there, place_by, place_in, found_of}
-use Rattle.address_space.proofs.Prelude.{table_of_place, need_of, PlacesTell}
-use Rattle.address_space.specs.Places.{entry_flags, cell_flags}
+use Rattle.address_space.proofs.Prelude
+use Prelude.{arith, ◌≡◌, ℕ, List, refl, ap, sym, ◌∙◌, Option, Some, None, subst, true, is_some, option_and_then}
+use Prelude.{option_map, slot_number, index_number, IsUserPage, frame_bytes, word_in, Frames, table_of, word_entry}
+use Prelude.{PageEntry, Found, takes_stores_through, need, at_page, directory_of, table_in, View, place_there, place_by}
+use Prelude.{place_in, found_of, table_of_place, need_of, PlacesTell, entry_flags, cell_flags, Place, found_by}
+use Prelude.{found_in, entry_found}
 use Rattle.address_space.specs.declared.Spaces.TheInside.{Inside as Inner}
-use Rattle.address_space.specs.declared.place.Place.TheVariants.{Mapped}
-use Rattle.address_space.specs.Finds.{found_by, found_in, entry_found}
-use Rattle.address_space.proofs.Insides.{AreCountedInside, spaces_at, image_at, table_at, found_at}
-use Rattle.address_space.proofs.steps.FoundPages.{absent_cell, need_without, need_with, found_mapped, found_takes, found_lazy, found_get}
+use Rattle.address_space.specs.declared.place.Place.TheVariants.{Bare, Open, Mapped}
+use Rattle.address_space.proofs.Insides.{AreCountedInside, spaces_at, image_at, table_at, found_at, view_of}
+use Rattle.address_space.proofs.steps.FoundPages.{absent_cell, need_without, need_with, found_mapped, found_takes}
+use Rattle.address_space.proofs.steps.FoundPages.{found_lazy, found_get}
 use Rattle.page_words.specs.FiniteMap as map
 
 there_found : (t : ℕ) (x : Option Found) → found_of (place_there t x) ≡ x
-there_found t None = refl
-there_found t (Some f) = refl
+there_found t x = grind arith
 
 -- what was found at a place is what is found by the page
 pub place_found : (inner : Inner) (p page : ℕ) → found_of (place_in inner.directories inner.memory p page) ≡ found_at inner p page
-place_found inner p page = by (table_at inner p page)
-  where
-    m : Frames
-    m = frame_bytes inner.memory
-
-    by : (x : Option ℕ) → found_of (place_by m page x) ≡ option_and_then (found_by m page) x
-    by None = refl
-    by (Some t) = there_found t (found_by m page t)
+place_found inner p page = grind (arith, table_at, frame_bytes, found_of, place_by, option_and_then, there_found)
 
 there_need : (t : ℕ) (x : Option Found) → need_of (place_there t x) ≡ 1
-there_need t None = refl
-there_need t (Some f) = refl
+there_need t x = grind arith
 
 place_need : (inner : Inner) (p page : ℕ) → AreCountedInside inner → IsUserPage page → need_of (place_in inner.directories inner.memory p page) ≡ need (spaces_at inner) p page
 place_need inner p page before user = by (table_at inner p page) refl
@@ -38,8 +29,7 @@ place_need inner p page before user = by (table_at inner p page) refl
     m = frame_bytes inner.memory
 
     by : (x : Option ℕ) → table_at inner p page ≡ x → need_of (place_by m page x) ≡ need (spaces_at inner) p page
-    by None is = sym (need_without inner p page is)
-    by (Some t) is = there_need t (found_by m page t) ∙ sym (need_with inner p page t before user is)
+    by x is = grind (arith, need_without, there_need, m, need_with)
 
 place_flags : (inner : Inner) (p page : ℕ) → AreCountedInside inner → IsUserPage page → (x : Option Found) → found_at inner p page ≡ x
     → option_map entry_flags (entry_found x) ≡ option_map cell_flags (map.get (spaces_at inner) (at_page p page))
@@ -56,28 +46,39 @@ places_tell inner before = record {
 }
 
 there_table : (m : Frames) (page t : ℕ) (x : Option PageEntry) → table_of_place (place_there t (option_map (λ e. record { page = page; table = t; entry = e }) x)) ≡ Some t
-there_table m page t None = refl
-there_table m page t (Some e) = refl
+there_table m page t x = grind arith
 
 by_table : (m : Frames) (page : ℕ) (x : Option ℕ) → table_of_place (place_by m page x) ≡ x
-by_table m page None = refl
-by_table m page (Some t) = there_table m page t (word_entry (word_in (m t) (index_number page)))
+by_table m page x = grind (arith, there_table, word_entry, word_in, index_number)
 
 -- the table of a place is that which the directory has
 pub place_table : (directories : List (Option ℕ)) (bytes : List ℕ) (p d page : ℕ) → directory_of directories p ≡ Some d
     → table_of_place (place_in directories bytes p page) ≡ table_of (frame_bytes bytes) d (slot_number page)
 place_table directories bytes p d page live =
-    by_table (frame_bytes bytes) page (table_in (directory_of directories) (frame_bytes bytes) p (slot_number page))
-    ∙ ap (option_and_then (λ x. table_of (frame_bytes bytes) x (slot_number page))) live
+    grind (arith, by_table, frame_bytes, table_in, directory_of, slot_number, option_and_then, table_of)
 
 there_mapped : (t : ℕ) (x : Option Found) (f : Found) → x ≡ Some f → place_there t x ≡ Mapped f
-there_mapped t None f h = cc
-there_mapped t (Some g) f h = let e : Some g ≡ Some f = h in ap (place_there t) e
+there_mapped t x f h = grind (arith, place_there)
 
 -- what is found at a page is its place
 pub place_mapped : (directories : List (Option ℕ)) (bytes : List ℕ) (p page : ℕ) (f : Found) → found_in (directory_of directories) (frame_bytes bytes) p page ≡ Some f → place_in directories bytes p page ≡ Mapped f
 place_mapped directories bytes p page f h = by (table_in (directory_of directories) (frame_bytes bytes) p (slot_number page)) h
   where
     by : (x : Option ℕ) → option_and_then (found_by (frame_bytes bytes) page) x ≡ Some f → place_by (frame_bytes bytes) page x ≡ Mapped f
-    by None h = cc
-    by (Some t) h = there_mapped t (found_by (frame_bytes bytes) page t) f h
+    by x h = grind (arith, there_mapped)
+
+found_there : (q : Place) (f : Found) → found_of q ≡ Some f → Mapped f ≡ q
+found_there (Mapped g) f is = cc
+found_there Bare f is = cc
+found_there (Open t) f is = cc
+
+-- a page that was found is mapped, and this is its place
+pub found_placed : (v : View) (inner : Inner) (p page : ℕ) (f : Found) → AreCountedInside inner → view_of inner ≡ v → IsUserPage page
+    → found_in (directory_of v.directories) (frame_bytes v.bytes) p page ≡ Some f
+    → (is_some (map.get v.spaces (at_page p page)) ≡ true) × (Mapped f ≡ place_in v.directories v.bytes p page)
+found_placed v inner p page f counted is user found =
+    subst (λ (w : View). (is_some (map.get w.spaces (at_page p page)) ≡ true) × (Mapped f ≡ place_in w.directories w.bytes p page)) is
+    (sym (found_mapped inner p page counted user) ∙ ap is_some here, found_there (place_in inner.directories inner.memory p page) f (place_found inner p page ∙ here))
+  where
+    here : found_at inner p page ≡ Some f
+    here = subst (λ (w : View). found_in (directory_of w.directories) (frame_bytes w.bytes) p page ≡ Some f) (sym is) found

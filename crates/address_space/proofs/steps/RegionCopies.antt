@@ -5,16 +5,23 @@ use Prelude.{Option, Some, None, is_some, slice_get, IfSome, if◌then◌else◌
 use Prelude.{IsUserPage, is_present, frame_bytes, word_in, Role, PageEntry, Frames, table_of, entry_at, entry_from}
 use Prelude.{word_entry, counted, count_range, count_range-none, count_range-same, Slot, cost, at_page, cell_or_fresh}
 use Prelude.{copy_of, directory_of, spaces_in, total_cost, IsSound, IsSpaces, IsCounted, IsEmptySpace, PageCopied}
-use Prelude.{CopiedBelow, CopyIn, PagesCopied, words_left}
+use Prelude.{CopiedBelow, CopyIn, PagesCopied, words_left, ◌⊎◌, inl, inr, cases_lt, Cell, Spaces, Set, nat_order}
+use Prelude.{option_map, cost_of, need, pages_of, regions_of, without, is_slot}
 use Rattle.page_map.proofs.PageLemmas.{count_range-add, count-table, mapped_in_table}
 use Rattle.page_map.specs.declared.regions.Listed.{Listed}
 use Rattle.page_map.proofs.Counting.{count_none}
 use Rattle.address_space.proofs.costs.Costed.{Room}
+use Rattle.address_space.proofs.costs.Costs.{contains-pages_of, cost-insert}
+use Rattle.address_space.proofs.costs.CostSteps.{need-least, need-one, need-two, region_member, region_there as region_kept}
+use Rattle.address_space.proofs.costs.Relief.{cost_left, page_left}
+use Rattle.address_space.proofs.costs.Sizes.{len-subset}
 use Rattle.address_space.proofs.entries.Readings.{mapped_read}
+use Rattle.address_space.proofs.steps.Openings.{cost_within}
 use Rattle.address_space.proofs.steps.Steps.{live_small}
 use Rattle.address_space.proofs.steps.CountSteps.{count_there, count_by_entries}
-use Rattle.address_space.proofs.steps.Copies.{copied_past, copied_next, copied_at_last, room_for_copy, put_other}
+use Rattle.address_space.proofs.steps.Copies.{copied_over, copied_past, copied_next, copied_at_last, room_for_copy, put_other}
 use Rattle.page_words.specs.FiniteMap as map
+use Rattle.page_words.specs.FiniteSet as set
 
 -- ---- The words of a table that are left
 
@@ -22,18 +29,10 @@ word_absent : (w : ℕ) → is_present w ≡ false → word_entry w ≡ None
 word_absent w h = ap (λ b. if b then Some (entry_from w) else None) h
 
 word_present : (w : ℕ) (e : PageEntry) → word_entry w ≡ Some e → is_present w ≡ true
-word_present w e h = by (is_present w) refl
-  where
-    by : (b : Bool) → is_present w ≡ b → is_present w ≡ true
-    by true is = is
-    by false is = let none = word_absent w is in cc
+word_present w e h = grind (arith, word_absent)
 
 no_word : (w : ℕ) → word_entry w ≡ None → is_present w ≡ false
-no_word w h = by (is_present w) refl
-  where
-    by : (b : Bool) → is_present w ≡ b → is_present w ≡ false
-    by false is = is
-    by true is = let some : word_entry w ≡ Some (entry_from w) = ap (λ b. if b then Some (entry_from w) else None) is in cc
+no_word w h = grind arith
 
 -- where none is left, no word has an entry
 pub none_left : (bytes : List ℕ) (table index : ℕ) → words_left bytes table index ≡ 0 → (i : ℕ) → index ≤ i → i < 1024 → word_entry (word_in (frame_bytes bytes table) i) ≡ None
@@ -63,8 +62,7 @@ pub left_behind : (bytes : List ℕ) (table index left : ℕ) (x : Option Listed
     → IfSome x (λ listed. word_entry (word_in (frame_bytes bytes table) listed.index) ≡ Some listed.entry)
     → IfSome x (λ listed. (i : ℕ) → index ≤ i → i < listed.index → word_entry (word_in (frame_bytes bytes table) i) ≡ None)
     → IfSome x (λ listed. left ≡ words_left bytes table (listed.index + 1) + 1)
-left_behind bytes table index left None all within entry least = tt
-left_behind bytes table index left (Some listed) all within entry least = all ∙ one_left bytes table index listed.index listed.entry within.0 within.1 least entry
+left_behind bytes table index left x all within entry least = grind (arith, one_left)
 
 -- ---- Regions
 
@@ -74,11 +72,7 @@ no_entry_there m source page none = ap (option_and_then (λ t. word_entry (word_
 
 -- the entry of a page is that of its word
 pub listed_entry : (m : Frames) (source slot table index : ℕ) (x : Option PageEntry) → index < 1024 → table_of m source slot ≡ Some table → word_entry (word_in (m table) index) ≡ x → entry_at m source (1024 * slot + index) ≡ x
-listed_entry m source slot table index x few there is =
-    let s : slot_number (1024 * slot + index) ≡ slot = omega arith in
-    let i : index_number (1024 * slot + index) ≡ index = omega arith in
-    ap (option_and_then (λ t. word_entry (word_in (m t) (index_number (1024 * slot + index))))) (ap (table_of m source) s ∙ there)
-    ∙ ap (λ k. word_entry (word_in (m table) k)) i ∙ is
+listed_entry m source slot table index x few there is = grind arith
 
 -- the word of a page is present where the page is mapped
 present_mapped : (directories : List (Option ℕ)) (memory : List ℕ) (from source slot table index : ℕ) → length directories ≡ 64 → directory_of directories from ≡ Some source → index < 1024 → 256 ≤ slot → slot < 960
@@ -149,11 +143,7 @@ module _ {directories : List (Option ℕ)} {bytes one : List ℕ} {roles roles1 
   }
     where
       absent : (page : ℕ) → 1024 * slot + index ≤ page → page < 1024 * slot + beyond → entry_at (frame_bytes one) source page ≡ None
-      absent page low high =
-          let is : 1024 * slot + (page - 1024 * slot) ≡ page = omega (arith, low) in
-          subst (λ n. entry_at (frame_bytes one) source n ≡ None) is
-          (listed_entry (frame_bytes one) source slot table (page - 1024 * slot) None (omega (arith, low, high, most)) copy.there
-          (ap (λ b. word_entry (word_in (frame_bytes b table) (page - 1024 * slot))) (sym same) ∙ none (page - 1024 * slot) (omega (arith, low)) (omega (arith, low, high))))
+      absent page low high = grind (arith, listed_entry)
 
   pub region_ended : CopyIn directories from source to slot table 1024 bytes roles one roles1 → CopiedBelow directories from to (1024 * (slot + 1)) bytes roles one roles1
   region_ended copy = let e : 1024 * slot + 1024 ≡ 1024 * (slot + 1) = omega arith in subst (λ n. CopiedBelow directories from to n bytes roles one roles1) e copy.so_far
@@ -172,6 +162,35 @@ module _ {directories : List (Option ℕ)} {bytes one : List ℕ} {roles roles1 
     pub copy_room : {target : ℕ} → directory_of directories to ≡ Some target → Room directories (spaces_in directories one) roles1 to (1024 * slot + index)
     copy_room {target} live =
         room_for_copy directories bytes one roles roles1 from source to target (1024 * slot + index) copy.so_far copy.home live copy_user (ap is_some copy_entry) copy.before copy.empty copy.room
+
+    -- what the copy of the page costs: its table, where its region has none yet, and its frame
+    pub copy_need : {target : ℕ} (linked : Option ℕ) → directory_of directories to ≡ Some target
+        → linked ≡ table_of (frame_bytes one) target (slot_number (1024 * slot + index))
+        → need (spaces_in directories one) to (1024 * slot + index) ≡ (if is_some linked then 1 else 2)
+    unfolding spaces_in
+    copy_need {target} None live is =
+        need-two (directory_of directories) (frame_bytes one) to (1024 * slot + index)
+        (ap (option_and_then (λ d. table_of (frame_bytes one) d (slot_number (1024 * slot + index)))) live ∙ sym is)
+    copy_need {target} (Some t) live is =
+        let few = live_small directories to target copy.so_far.after.sound.pids live in
+        need-one (directory_of directories) (frame_bytes one) to (1024 * slot + index) t few copy_user.0 copy_user.1
+        (ap (option_and_then (λ d. table_of (frame_bytes one) d (slot_number (1024 * slot + index)))) live ∙ sym is)
+        (copy.so_far.after.in_use to (slot_number (1024 * slot + index)))
+
+    pub copy_fits : {target : ℕ} → directory_of directories to ≡ Some target
+        → cost (spaces_in directories one) to + need (spaces_in directories one) to (1024 * slot + index) ≤ 1048576
+    copy_fits {target} live =
+        let room = copy_room live in
+        let within = cost_within directories (spaces_in directories one) to copy.so_far.after.sound.pids (ap is_some live) in
+        let few = copy.so_far.after.sound.few in
+        omega (arith, room, within, few)
+
+    pub copy_cost : {two : List ℕ} {roles2 : List Role} → PageCopied directories from to (1024 * slot + index) one roles1 two roles2
+        → cost (spaces_in directories two) to ≡ cost (spaces_in directories one) to + need (spaces_in directories one) to (1024 * slot + index)
+    copy_cost made =
+        ap (λ S. cost S to) made.spaces
+        ∙ cost-insert (spaces_in directories one) (at_page to (1024 * slot + index))
+        (copy_of (at_page to (1024 * slot + index)) (cell_or_fresh (spaces_in directories one) (at_page from (1024 * slot + index)))) copy_unmapped
 
     pub copy_stepped : {target : ℕ} {two : List ℕ} {roles2 : List Role} → directory_of directories to ≡ Some target → PageCopied directories from to (1024 * slot + index) one roles1 two roles2
         → CopyIn directories from source to slot table (index + 1) bytes roles two roles2
@@ -219,3 +238,60 @@ regions_copied {directories} {bytes} {one} {roles} {roles1} {from} {source} {to}
     copied_at_last directories bytes one roles roles1 from to before
     (copied_past directories bytes one roles roles1 from source to (1024 * first) 0xf0000 empty so_far home high (omega arith)
     (λ page low past. no_entry_there (frame_bytes one) source page (none (slot_number page) (omega (arith, low)) (omega (arith, past)))))
+
+-- fewer pages cost no more
+cost_subset : (few many : Set nat_order) → ((q : ℕ) → set.contains few q ≡ true → set.contains many q ≡ true) → cost_of few ≤ cost_of many
+cost_subset few many within =
+    let pages = len-subset few many within in
+    let regions = len-subset (regions_of few) (regions_of many) (λ r there.
+    let m = region_member few r there in
+    subst (λ n. set.contains (regions_of many) n ≡ true) m.1 (region_kept many m.0 (within m.0 m.2))) in
+    omega (arith, pages, regions)
+
+copied_there : (slot : Slot) (x : Option Cell) → is_some x ≡ is_some (option_map (copy_of slot) x)
+copied_there slot None = refl
+copied_there slot (Some c) = refl
+
+-- Where the copies cost as much as the pages, no page is left.
+module _ {directories : List (Option ℕ)} {bytes one : List ℕ} {roles roles1 : List Role} {from to next : ℕ}
+    (so_far : CopiedBelow directories from to next bytes roles one roles1)
+    (full : cost (spaces_in directories bytes) from ≤ cost (spaces_in directories one) to) where
+  abbrev S : Spaces
+  S = spaces_in directories bytes
+
+  abbrev S1 : Spaces
+  S1 = spaces_in directories one
+
+  none_left_over : (page : ℕ) → next ≤ page → map.get S (at_page from page) ≡ None
+  none_left_over page above = by (map.get S (at_page from page)) refl
+    where
+      left : Spaces
+      left = without S (is_slot from page)
+
+      copied : (q : ℕ) → map.contains_key S1 (at_page to q) ≡ true → map.contains_key left (at_page from q) ≡ true
+      copied q there = elim (cases_lt q next) [
+        | inl less ↦
+            page_left S from page q (λ same. absurd (omega (arith, less, above, same)))
+            ∙ copied_there (at_page to q) (map.get S (at_page from q)) ∙ sym (ap is_some (so_far.below q less)) ∙ there
+        | inr beyond ↦ absurd (let none = ap is_some (so_far.rest q beyond) in cc)
+      ]
+
+      fewer : cost S1 to ≤ cost left from
+      fewer = cost_subset (pages_of S1 to) (pages_of left from)
+          (λ q there. contains-pages_of left from q ∙ copied q (sym (contains-pages_of S1 to q) ∙ there))
+
+      by : (x : Option Cell) → map.get S (at_page from page) ≡ x → map.get S (at_page from page) ≡ None
+      by None is = is
+      by (Some cell) is = absurd (omega (arith, fewer, full, cost_left S from page cell is, need-least left from page))
+
+-- All are copied: no region from there on has a table, or the copies cost as much as the pages.
+pub all_copied : {directories : List (Option ℕ)} {bytes one : List ℕ} {roles roles1 : List Role} {from source to used made left : ℕ} (first : ℕ) → directory_of directories from ≡ Some source
+    → IsSpaces directories bytes roles → IsEmptySpace (spaces_in directories bytes) to → CopiedBelow directories from to (1024 * first) bytes roles one roles1
+    → used ≡ cost (spaces_in directories bytes) from → made ≡ cost (spaces_in directories one) to → left ≡ used - made
+    → (left ≡ 0) ⊎ ((s : ℕ) → first ≤ s → s < 960 → table_of (frame_bytes one) source s ≡ None) → PagesCopied directories from to bytes roles one roles1
+all_copied first home before empty so_far used made rest (inr none) = regions_copied first home before empty so_far none
+all_copied {directories} {bytes} {one} {roles} {roles1} {from} {source} {to} first home before empty so_far used made rest (inl full) =
+    let high = so_far.high in
+    copied_at_last directories bytes one roles roles1 from to before
+    (copied_over directories bytes one roles roles1 from to (1024 * first) 0xf0000 so_far high (omega arith)
+    (λ page low past. none_left_over so_far (omega (arith, used, made, rest, full)) page low))

@@ -1,14 +1,13 @@
 -- The pages of a process leave from region to region, and those of a region by its table.
 use Rattle.address_space.proofs.Prelude
-use Prelude.{◌≡◌, ◌≢◌, ℕ, ◌+◌, ◌-◌, ◌*◌, ◌<◌, ◌≤◌, false, List, length, refl, ap, sym, ◌∙◌, subst, arith, inl, inr}
-use Prelude.{Option, Some, None, ◌⊎◌, option_and_then, option_map, slot_number, index_number, is_present, frame_number}
-use Prelude.{frame_bytes, word_in, with_frame-same, with_frame-other, word_in_same, word_in_other, PageEntry, Frames}
-use Prelude.{IsPageMap, IsCleared, dir_word, table_of, entry_at, word_table, word_entry, without_table}
-use Prelude.{count_range-same, count_range-none, Found, found_in, View, directory_of}
-use Rattle.page_map.specs.Entries.{without_entry}
+use Prelude.{◌≡◌, ◌≢◌, ℕ, ◌+◌, ◌-◌, ◌*◌, ◌<◌, ◌≤◌, List, length, refl, ap, sym, ◌∙◌, arith, inl, inr, Option, Some}
+use Prelude.{None, ◌⊎◌, option_and_then, option_map, slot_number, index_number, is_present, frame_number, frame_bytes}
+use Prelude.{word_in, with_frame-same, with_frame-other, word_in_same, word_in_other, PageEntry, Frames, IsPageMap}
+use Prelude.{IsCleared, dir_word, table_of, entry_at, word_entry, without_entry, count_range-same, count_range-none}
+use Prelude.{Found, found_in, View, directory_of, cost, EntryGone, DroppedBelow, words_left}
 use Rattle.address_space.specs.declared.Spaces.TheInside.{Inside as Inner}
-use Rattle.address_space.specs.Changes.{EntryGone, DroppedBelow, words_left}
-use Rattle.address_space.proofs.Insides.{view_of}
+use Rattle.address_space.proofs.Insides.{spaces_at, view_of}
+use Rattle.address_space.proofs.costs.Relief.{light_lacks}
 use Rattle.address_space.proofs.steps.Departures.{dropped_past}
 use Rattle.address_space.proofs.steps.RegionCopies.{no_entry_there, listed_entry}
 use Rattle.address_space.proofs.steps.Steps.{table_by_word}
@@ -39,25 +38,8 @@ entry_gone bytes d t page freed m' apart few there cleared = by freed refl
         ∙ word_in_other (m t) (index_number page) i 0 (apart.long t (apart.tables_inside (slot_number page) t few there)) (omega arith) n
 
     by : (x : Option ℕ) → freed ≡ x → EntryGone m d t page m'
-    by None is =
-        let now : m' ≡ gone = (cleared.kept is).0 ∙ ap (λ f. without_entry m f page) named in
-        record {
-          words = λ i n. ap (λ (g : Frames). word_in (g t) i) now ∙ words i n;
-          linked = inl (ap (λ (g : Frames). table_of g d (slot_number page)) now ∙ ap (λ l. word_table (word_in l (slot_number page))) (with_frame-other m t d _ back) ∙ there);
-        }
-    by (Some u) is =
-        let un = cleared.unlinked u is in
-        let same : u ≡ t = un.0 ∙ named in
-        let now : m' ≡ without_table gone d (slot_number page) = un.1 ∙ ap (λ f. without_table (without_entry m f page) d (slot_number page)) same in
-        let table_now : m' t ≡ gone t = ap (λ (g : Frames). g t) now ∙ with_frame-other gone d t _ differ in
-        record {
-          words = λ i n. ap (λ l. word_in l i) table_now ∙ words i n;
-          linked = inr (
-            ap (λ (g : Frames). table_of g d (slot_number page)) now ∙ ap (λ l. word_table (word_in l (slot_number page))) (with_frame-same gone d _)
-                ∙ ap word_table (word_in_same (gone d) (slot_number page) 0 (ap length (with_frame-other m t d _ back) ∙ apart.long d apart.directory_inside) few (omega arith)),
-            λ i l. ap (λ l. is_present (word_in l i)) table_now ∙ subst (λ f. is_present (word_in (without_entry m f page f) i) ≡ false) same (un.2 i l),
-          );
-        }
+    by None is = grind (arith, gone, m, named, words, with_frame-other, back)
+    by (Some u) is = grind (arith, named, gone, m, with_frame-other, differ, words, with_frame-same, word_in_same, back)
 
 -- what is found at a page whose word was listed
 pub listed_found : (directories : List (Option ℕ)) (bytes : List ℕ) (p slot : ℕ) {d table index : ℕ} {e : PageEntry} → directory_of directories p ≡ Some d → table_of (frame_bytes bytes) d slot ≡ Some table → index < 1024
@@ -89,12 +71,7 @@ left_next {bytes} {bytes'} {d} {slot} {table} {index} {found} {left} l few some 
     (λ i l. ap is_present (gone.words (found + 1 + i) (λ e. absurd (omega (arith, e, few))))) in
     record {
       words = omega (arith, some, kept);
-      linked = elim gone.linked [
-        | inl there ↦ inl (subst (λ n. table_of (frame_bytes bytes') d n ≡ Some table) s there)
-        | inr none ↦
-            let empty : words_left bytes' table (found + 1) ≡ 0 = count_range-none (λ i. is_present (word_in (frame_bytes bytes' table) i)) (found + 1) (1024 - (found + 1)) (λ i l. none.1 (found + 1 + i) (omega (arith, l, few))) in
-            inr (subst (λ n. table_of (frame_bytes bytes') d n ≡ None) s none.0, omega (arith, empty, some, kept))
-      ];
+      linked = grind (arith, s, count_range-none);
     }
   where
     s : slot_number (1024 * slot + found) ≡ slot
@@ -108,15 +85,7 @@ region_passed {v} inner {p} {d} {slot} {table} {index} {left} beyond so_far live
     dropped_past v inner p d (1024 * slot + index) (1024 * slot + beyond) so_far live (omega (arith, up)) (omega (arith, few, most)) absent
   where
     absent : (page : ℕ) → 1024 * slot + index ≤ page → page < 1024 * slot + beyond → entry_at (frame_bytes inner.memory) d page ≡ None
-    absent page low high = elim l.linked [
-      | inl there ↦
-          let is : 1024 * slot + (page - 1024 * slot) ≡ page = omega (arith, low) in
-          subst (λ n. entry_at (frame_bytes inner.memory) d n ≡ None) is
-          (listed_entry (frame_bytes inner.memory) d slot table (page - 1024 * slot) None (omega (arith, low, high, most)) there (none (page - 1024 * slot) (omega (arith, low)) (omega (arith, low, high))))
-      | inr gone ↦
-          let s : slot_number page ≡ slot = omega (arith, low, high, most) in
-          no_entry_there (frame_bytes inner.memory) d page (ap (table_of (frame_bytes inner.memory) d) s ∙ gone.0)
-    ]
+    absent page low high = grind (arith, listed_entry, no_entry_there)
 
 -- and over regions without a table
 pub regions_passed : {v : View} (inner : Inner) {p d first : ℕ} (beyond : ℕ) → DroppedBelow v p (1024 * first) (view_of inner) → directory_of inner.directories p ≡ Some d → first ≤ beyond → beyond ≤ 960
@@ -124,3 +93,19 @@ pub regions_passed : {v : View} (inner : Inner) {p d first : ℕ} (beyond : ℕ)
 regions_passed {v} inner {p} {d} {first} beyond so_far live up most none =
     dropped_past v inner p d (1024 * first) (1024 * beyond) so_far live (omega (arith, up)) (omega (arith, most))
     (λ page low high. no_entry_there (frame_bytes inner.memory) d page (none (slot_number page) (omega (arith, low)) (omega (arith, high))))
+
+-- All have left: no region from there on has a table, or the process is charged for its directory alone.
+pub all_passed : {v : View} (inner : Inner) {p d first used left : ℕ} → DroppedBelow v p (1024 * first) (view_of inner) → directory_of inner.directories p ≡ Some d
+    → used ≡ cost (spaces_at inner) p → left ≡ used - 1
+    → (left ≡ 0) ⊎ ((slot : ℕ) → first ≤ slot → slot < 960 → table_of (frame_bytes inner.memory) d slot ≡ None) → DroppedBelow v p 0xf0000 (view_of inner)
+all_passed {v} inner {p} {d} {first} {used} {left} here live is rest (inl light) = record {
+  directories = here.directories;
+  spaces = here.spaces;
+  stay = here.stay;
+  loose = here.loose;
+  below = λ page few. light_lacks (spaces_at inner) p page (omega (arith, is, rest, light));
+  length = here.length;
+  low = omega arith;
+  high = omega arith;
+}
+all_passed {v} inner {p} {d} {first} {used} {left} here live is rest (inr none) = let high = here.high in regions_passed inner 960 here live (omega (arith, high)) (omega arith) none

@@ -1,7 +1,7 @@
 -- What each step of the code leaves.
 use Rattle.address_space.proofs.Prelude
 use Prelude.{◌≡◌, ◌≢◌, ℕ, ◌+◌, ◌*◌, ◌^◌, ◌<◌, ◌≤◌, Bool, true, false, List, length, replicate, refl, ap, sym, ◌∙◌}
-use Prelude.{subst, arith, inl, inr, Option, Some, None, length-set, cond, is_some, slice_get, slice_set, if◌then◌else◌}
+use Prelude.{subst, arith, inl, inr, Option, Some, None, length-set, cond, is_some, slice_get, slice_set}
 use Prelude.{option_and_then, unwrap_or, option_map, slice_get_within, slot_number, is_present, frame_number}
 use Prelude.{frame_bytes, word_in, with_frame, with_frame_bytes, Role, Reserved, Free, Directory, Table, Page, IsTaken}
 use Prelude.{frames_weight, get-set_same, get-set_other, weight-taken, length-frame, with_frame-other}
@@ -9,13 +9,15 @@ use Prelude.{frames-with_frame_bytes, entry_word-names, entry_word-lt, entry_wor
 use Prelude.{length-replicate, PageEntry, Frames, dir_word, word_table, table_of, with_table, with_entry, entry_word}
 use Prelude.{IsKernelEntry, IsPageMap, Slot, fresh, at_page, slot_order, Entries, lazy_count, cell_of, spaces_of}
 use Prelude.{Directories, Roles, directory_of, table_in, entry_in, entries_in, spaces_in, total_cost, Tables, Pages}
-use Prelude.{HoldsPage, IsSound, InUseAt, Inside, TableGiven, PageAdded, table_need, SlotAdded, get-insert}
-use Prelude.{same_itself}
+use Prelude.{HoldsPage, IsSound, InUseAt, Inside, TableGiven, PageAdded, SlotAdded, get-insert, same_itself}
 use Rattle.address_space.proofs.entries.Refinement.{lazy_refines, get-spaces_of}
 use Rattle.address_space.proofs.costs.CostSteps.{total-entry}
-use Rattle.address_space.proofs.entries.EntrySteps.{Loose, entries-insert, entry_own, tables-entry, tables_kept, use_own, use_kept}
-use Rattle.address_space.proofs.frames.FrameSteps.{tables-linked, linked-entries, linked-own, linked-others, linked-other, kept_table, loose-directory, tables-loose}
-use Rattle.address_space.proofs.frames.PageSteps.{same_bytes, pages-role, pages-lazy, lazy-more, kept_holder, no_free, no_table, no_directory}
+use Rattle.address_space.proofs.entries.EntrySteps.{Loose, entries-insert, entry_own, tables-entry, tables_kept}
+use Rattle.address_space.proofs.entries.EntrySteps.{use_own, use_kept}
+use Rattle.address_space.proofs.frames.FrameSteps.{tables-linked, linked-entries, linked-own, linked-others}
+use Rattle.address_space.proofs.frames.FrameSteps.{linked-other, kept_table, loose-directory, tables-loose}
+use Rattle.address_space.proofs.frames.PageSteps.{same_bytes, pages-role, pages-lazy, lazy-more, kept_holder, no_free}
+use Rattle.address_space.proofs.frames.PageSteps.{no_table, no_directory}
 use Rattle.address_space.proofs.entries.Staying.{places_new}
 use Rattle.page_words.specs.FiniteMap as map
 
@@ -29,13 +31,7 @@ inside directories bytes roles f r s is = inside_by bytes roles f r s.size s.few
 -- memory of the same size whose tables and pages agree with as many roles is sound
 pub sound_by : (directories : List (Option ℕ)) (bytes two : List ℕ) (roles roles' : List Role) (m2 : Frames) (E : Entries) → IsSound directories bytes roles → length two ≡ length bytes → length roles' ≡ length roles
     → frame_bytes two ≡ m2 → Tables (directory_of directories) m2 (slice_get roles') → entries_in (directory_of directories) (frame_bytes two) ≡ E → Pages E (slice_get roles') → IsSound directories two roles'
-sound_by directories bytes two roles roles' m2 E sound long same is T entries P = record {
-  size = long ∙ sound.size ∙ ap (λ n. 4096 * n) (sym same);
-  few = subst (λ n. n ≤ 1048576) (sym same) sound.few;
-  pids = sound.pids;
-  tables = subst (λ x. Tables (directory_of directories) x (slice_get roles')) (sym is) T;
-  pages = subst (λ x. Pages x (slice_get roles')) (sym entries) P;
-}
+sound_by directories bytes two roles roles' m2 E sound long same is h entries k = grind arith
 
 -- each process's page map is as the layer below asks
 pub page_map_by : (D : Directories) (bytes : List ℕ) (roles : List Role) (p d : ℕ) → length bytes ≡ 4096 * length roles → length roles ≤ 1048576 → Tables D (frame_bytes bytes) (slice_get roles) → D p ≡ Some d → IsPageMap bytes d
@@ -93,11 +89,7 @@ table_given directories bytes bytes' roles roles' p d s t sound live low high no
           ∙ linked-others D m R T p d s t live none free small low high q r
           (λ a b. let k : None ≡ Some g = sym ((λ i. table_in D m (a i) (b i))
           ∙ ap (option_and_then (λ x. table_of m x s)) live ∙ none) ∙ found in cc) ∙ found;
-      weight =
-          let w = weight-taken roles roles' t (Table p s) taken in
-          let l : lazy_count (entries_in D (frame_bytes bytes')) ≡ lazy_count (entries_in D m) = ap lazy_count E in
-          let n : table_need (table_in D m p s) ≡ 1 = ap table_need (ap (option_and_then (λ x. table_of m x s)) live ∙ none) in
-          omega (arith, w, l, n);
+      weight = grind (arith, weight-taken);
       length = same_length;
       others = λ q r n use_at f found.
           let old : table_in D m q r ≡ Some f = sym (ap (λ x. table_in D x q r) is ∙ linked-others D m R T p d s t live none free small low high q r n) ∙ found in
@@ -120,23 +112,17 @@ pub live_small : (directories : List (Option ℕ)) (p d : ℕ) → length direct
 live_small directories p d l live = by (slice_get directories p) refl live
   where
     by : (x : Option (Option ℕ)) → slice_get directories p ≡ x → unwrap_or x None ≡ Some d → p < 64
-    by None is h = cc
-    by (Some y) is h = let w = slice_get_within directories p y is in omega arith
+    by x is h = grind (arith, slice_get_within)
 
 -- a frame that was zeroed
 pub zeroed : (bytes one : List ℕ) (f : ℕ) → Inside bytes f → one ≡ with_frame_bytes bytes f (replicate 4096 0) → frame_bytes one ≡ with_frame (frame_bytes bytes) f (replicate 4096 0)
 zeroed bytes one f i is = ap frame_bytes is ∙ frames-with_frame_bytes bytes (replicate 4096 0) f i.fits (length-replicate {A = ℕ} 4096 0)
 
 pub none_before : (E : Entries) (m : Frames) (q : Slot) (x : Option PageEntry) → option_map (cell_of E m q) x ≡ None → x ≡ None
-none_before E m q None h = refl
-none_before E m q (Some d) h = cc
+none_before E m q x h = grind arith
 
 pub table_by_word : (word t : ℕ) → word_table word ≡ Some t → frame_number word ≡ t
-table_by_word word t h = by (is_present word) h
-  where
-    by : (b : Bool) → (if b then Some (frame_number word) else None) ≡ Some t → frame_number word ≡ t
-    by true h = cc
-    by false h = cc
+table_by_word word t h = grind arith
 
 -- a frame that an entry may name lies in memory
 pub holds_inside : (directories : List (Option ℕ)) (bytes : List ℕ) (roles : List Role) (f : ℕ) → IsSound directories bytes roles → HoldsPage (slice_get roles f) → Inside bytes f
@@ -277,8 +263,4 @@ pub page_loose : (R : Roles) (f c : ℕ) → R f ≡ Some (Page c) → Loose R f
 page_loose R f c is = record { no_directory = λ q h. cc; no_table = λ q r h. cc; not_reserved = λ h. cc }
 
 pub present_by_table : (word : ℕ) → is_some (word_table word) ≡ true → is_present word ≡ true
-present_by_table word h = by (is_present word) h
-  where
-    by : (b : Bool) → is_some (if b then Some (frame_number word) else None) ≡ true → b ≡ true
-    by true h = refl
-    by false h = cc
+present_by_table word h = grind arith

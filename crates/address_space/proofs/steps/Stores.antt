@@ -1,24 +1,21 @@
 -- The effect of a store, a load and a change of the right through a mapped slot.
 use Rattle.address_space.proofs.Prelude
-use Prelude.{◌≡◌, ℕ, suc, ◌+◌, ◌*◌, ◌/◌, ◌%◌, ◌^◌, ◌<◌, ◌≤◌, Bool, true, false, cond, List, [], ◌∷◌, ◌++◌, length, take}
-use Prelude.{drop, refl, ap, sym, ◌∙◌, subst, arith, inl, inr, Option, Some, None, length-append, length-drop, zero}
-use Prelude.{is_some, slice_get, slice_set, if◌then◌else◌, splice, option_and_then, slot_number, index_number}
-use Prelude.{byte_count, Size, is_present, frame_number, IsKernelTableWord, frame_bytes, word_in, with_word, with_frame}
-use Prelude.{Role, Table, Page, PageEntry, Frames, dir_word, table_of, word_entry, entry_from, entry_at, with_entry}
-use Prelude.{entry_word, IsKernelEntry, entry_word-names, entry_word-lt, entry_word-present, word_entry-entry_word}
-use Prelude.{same, Slot, Spaces, Cell, cell_or_fresh, write_at, bytes_of, stored}
-use Prelude.{protected, at_page, Entries, holders_of, cell_of, spaces_of, Directories, Roles, directory_of, table_in}
-use Prelude.{entry_in, entries_in, spaces_in, total_cost, Tables, Pages, HoldsPage, IsSound, InUseAt, Names, Inside}
-use Prelude.{InUse, ne_eqb}
-use Rattle.std.proofs.Common.{append_assoc}
+use Prelude.{◌≡◌, ℕ, suc, ◌+◌, ◌*◌, ◌/◌, ◌%◌, ◌^◌, ◌<◌, ◌≤◌, Bool, true, false, List, [], ◌∷◌, ◌++◌, length, take, drop}
+use Prelude.{refl, ap, sym, ◌∙◌, subst, arith, inl, inr, Option, Some, length-append, length-drop, zero, append_assoc}
+use Prelude.{is_some, slice_get, slice_set, splice, option_and_then, slot_number, index_number, byte_count, Size}
+use Prelude.{frame_number, IsKernelTableWord, frame_bytes, word_in, with_word, with_frame, Role, Table, Page, PageEntry}
+use Prelude.{Frames, dir_word, table_of, word_entry, entry_at, with_entry, entry_word, IsKernelEntry, entry_word-names}
+use Prelude.{entry_word-lt, entry_word-present, word_entry-entry_word, same, Slot, Spaces, Cell, cell_or_fresh}
+use Prelude.{write_at, bytes_of, stored, protected, at_page, Entries, holders_of, cell_of, spaces_of, Directories}
+use Prelude.{Roles, directory_of, table_in, entries_in, spaces_in, total_cost, Tables, Pages, HoldsPage, IsSound}
+use Prelude.{InUseAt, Names, Inside, InUse, ne_eqb, with_frame-other, frames-with_word_at, frames-with_byte, set_split}
+use Prelude.{length-take-le, EntryPut, Touched, flagged}
 use Rattle.address_space.specs.Spaces.{accessed as accessed_in}
 use Rattle.byteorder.specs.Endian.{little_bytes}
-use Rattle.phys_memory.proofs.Frames.{with_frame-other, frames-with_word_at, frames-with_byte}
-use Rattle.std.proofs.lemmas.List.{set_split, length-take-le}
 use Rattle.address_space.proofs.entries.UserSlots.{in_user_slots}
-use Rattle.address_space.specs.Changes.{EntryPut, Touched, flagged}
 use Rattle.address_space.proofs.costs.CostSteps.{total-kept}
-use Rattle.address_space.proofs.entries.EntrySteps.{Loose, get-entries_in, entries-insert, tables-entry, tables_kept, use_kept}
+use Rattle.address_space.proofs.entries.EntrySteps.{Loose, get-entries_in, entries-insert, tables-entry, tables_kept}
+use Rattle.address_space.proofs.entries.EntrySteps.{use_kept}
 use Rattle.address_space.proofs.frames.FrameSteps.{loose-entry, loose-entries, loose-tables, tables-loose, use_loose}
 use Rattle.address_space.proofs.frames.PageSteps.{same_bytes, pages-same, no_table, lazy-same}
 use Rattle.address_space.proofs.entries.Refinement.{insert_there, store_refines, flags_refine, cell_at}
@@ -29,11 +26,7 @@ use Rattle.page_words.specs.FiniteMap as map
 -- ---- Bytes
 
 four_bytes : (w : ℕ) → little_bytes 4 w ≡ bytes_of 4 w
-four_bytes w =
-    let a : w / 256 ^ 1 ≡ w / 256 = omega arith in
-    let b : w / 256 ^ 2 ≡ w / 256 / 256 = omega arith in
-    let c : w / 256 ^ 3 ≡ w / 256 / 256 / 256 = omega arith in
-    λ i. w % 256 ∷ a i % 256 ∷ b i % 256 ∷ c i % 256 ∷ []
+four_bytes w = grind arith
 
 pub word_is_write : (frame : List ℕ) (at w : ℕ) → with_word frame at w ≡ write_at frame at (bytes_of 4 w)
 unfolding with_word
@@ -52,28 +45,14 @@ pub record Found (D : Directories) (m : Frames) (p d page : ℕ) (e : PageEntry)
   pub word : word_entry (word_in (m table) (index_number page)) ≡ Some e
 
 pub found : (D : Directories) (m : Frames) (p d page : ℕ) (e : PageEntry) → entry_at m d page ≡ Some e → Found D m p d page e
-found D m p d page e is = by (table_of m d (slot_number page)) refl is
-  where
-    by : (x : Option ℕ) → table_of m d (slot_number page) ≡ x → option_and_then (λ table. word_entry (word_in (m table) (index_number page))) x ≡ Some e → Found D m p d page e
-    by None t h = cc
-    by (Some table) t h = record { table = table; there = t; word = h }
+found D m p d page e is = grind arith
 
 -- an entry that a kernel word holds keeps its rules
 pub allowed : (word : ℕ) (e : PageEntry) → IsKernelTableWord word → word_entry word ≡ Some e → IsKernelEntry e
-allowed word e k h = by (is_present word) refl h k
-  where
-    by : (b : Bool) → is_present word ≡ b → (if b then Some (entry_from word) else None) ≡ Some e → IsKernelTableWord word → IsKernelEntry e
-    by false is h k = cc
-    by true is h (inl z) = let c : is_present 0 ≡ true = sym (ap is_present z) ∙ is in cc
-    by true is h (inr n) =
-        let s : entry_from word ≡ e = cc in
-        subst IsKernelEntry s (record { frame = n.frame; zero = n.zero; clean = n.clean; right = n.right; touched = n.touched })
+allowed word e k h = grind arith
 
 pub get_user : (D : Directories) (m : Frames) (p d page : ℕ) (e : PageEntry) → D p ≡ Some d → p < 64 → 0x40000 ≤ page → page < 0xf0000 → entry_at m d page ≡ Some e → map.get (entries_in D m) (at_page p page) ≡ Some e
-get_user D m p d page e live few low high is =
-    get-entries_in D m (at_page p page)
-    ∙ ap (λ b. cond b (entry_in D m (at_page p page)) None) (in_user_slots p page few low high)
-    ∙ ap (option_and_then (λ d. entry_at m d page)) live ∙ is
+get_user D m p d page e live few low high is = grind (arith, get-entries_in, in_user_slots)
 
 -- the rules of an entry that is in use
 pub entry_rules : (directories : List (Option ℕ)) (bytes : List ℕ) (roles : List Role) (p d page : ℕ) (e : PageEntry) → IsSound directories bytes roles → directory_of directories p ≡ Some d → entry_at (frame_bytes bytes) d page ≡ Some e → IsKernelEntry e
@@ -311,8 +290,7 @@ page_of_name directories bytes roles slot f sound given up = page_held directori
 -- the entry that was read is the one that the map has
 pub named_entry : (directories : List (Option ℕ)) (bytes : List ℕ) (roles : List Role) (p d page : ℕ) (e : PageEntry) → IsSound directories bytes roles → directory_of directories p ≡ Some d → 0x40000 ≤ page → page < 0xf0000
     → entry_at (frame_bytes bytes) d page ≡ Some e → Names (entries_in (directory_of directories) (frame_bytes bytes)) (at_page p page) e.frame
-named_entry directories bytes roles p d page e sound live low high is =
-    (e, get_user (directory_of directories) (frame_bytes bytes) p d page e live (live_small directories p d sound.pids live) low high is, refl)
+named_entry directories bytes roles p d page e sound live low high is = grind (arith, get_user, live_small)
 
 -- where a store through an entry goes
 pub record Place (bytes : List ℕ) (roles : List Role) (d page : ℕ) (e : PageEntry) : Type 0 where
@@ -348,8 +326,7 @@ written_long frame at size value long l = length-write_at frame at (bytes_of (by
 pub cell_read : (directories : List (Option ℕ)) (bytes : List ℕ) (p d page : ℕ) (e : PageEntry) → directory_of directories p ≡ Some d → p < 64 → 0x40000 ≤ page → page < 0xf0000 → entry_at (frame_bytes bytes) d page ≡ Some e
     → cell_or_fresh (spaces_in directories bytes) (at_page p page) ≡ cell_of (entries_in (directory_of directories) (frame_bytes bytes)) (frame_bytes bytes) (at_page p page) e
 unfolding spaces_in
-cell_read directories bytes p d page e live few low high is =
-    cell_at (entries_in (directory_of directories) (frame_bytes bytes)) (frame_bytes bytes) (at_page p page) e (get_user (directory_of directories) (frame_bytes bytes) p d page e live few low high is)
+cell_read directories bytes p d page e live few low high is = grind (arith, cell_at, get_user)
 
 -- where an entry keeps its right, setting accessed is what a load leaves
 pub flagged_load : (directories : List (Option ℕ)) (bytes : List ℕ) (p d page : ℕ) (e : PageEntry) → directory_of directories p ≡ Some d → p < 64 → 0x40000 ≤ page → page < 0xf0000 → entry_at (frame_bytes bytes) d page ≡ Some e

@@ -9,23 +9,24 @@ use Prelude.{Access, Read, Write, WalkEnd, Outside, PageEntry, Frames, dir_word,
 use Prelude.{entry_at, entry_word, with_entry, lets_writes, IsKernelEntry, walks_read_entries, user_cases, byte_place}
 use Prelude.{is_marked, and_parts, Slot, Spaces, Cell, cell_or_fresh, stored, write_at, byte_at, at_page, slot_at}
 use Prelude.{Directories, Roles, directory_of, table_in, spaces_in, Tables, IsSound, Inside, Touched, none_goes}
+use Prelude.{table_words_by_fields, by_frame, byte-frame, frames-with_word, frames-with_byte, word_in-frame, walk_of}
+use Prelude.{table_word, is_write, is_outside, not_allowed, end_at_entry, touched_entry, entry_word-names, with_flag_lt}
 use Rattle.address_space.specs.Spaces.{accessed as accessed_in}
-use Rattle.page_words.proofs.Flags.{table_words_by_fields}
+use Rattle.page_map.proofs.WordLaws.{entry_from-entry_word}
 use Rattle.phys_memory.proofs.Words.{length-with_word}
-use Rattle.phys_memory.proofs.Frames.{by_frame, byte-frame, frames-with_word, frames-with_byte, word_in-frame}
-use Rattle.table_walk.specs.Walk.{walk_of, table_word, not_present, is_write, is_outside, not_allowed}
 use Rattle.table_walk.specs.Marks.{marked, accessed_word, touched_word}
 use Rattle.table_walk.proofs.Leads.{walks_find_what_leads}
-use Rattle.page_map.specs.Laws.{end_at_entry, touched_entry}
 use Rattle.page_map.proofs.MarkProofs.{touched_names, entry_from-touched}
-use Rattle.page_map.proofs.WordLaws.{entry_word-names, entry_from-entry_word, with_flag_lt}
 use Rattle.address_space.proofs.entries.EntrySteps.{entry_by_table}
 use Rattle.address_space.proofs.frames.PageSteps.{no_directory, no_table}
-use Rattle.address_space.proofs.steps.Steps.{inside, holds_inside, live_small, page_map_of, present_by_table, table_by_word}
-use Rattle.address_space.proofs.steps.Stores.{found, get_user, entry_rules, page_stored, flags_set, flagged_load, cell_read, frame_written, stored_place, byte_is_write, length-write_at}
+use Rattle.address_space.proofs.steps.Steps.{inside, holds_inside, live_small, page_map_of, present_by_table}
+use Rattle.address_space.proofs.steps.Steps.{table_by_word}
+use Rattle.address_space.proofs.steps.Stores.{found, get_user, entry_rules, page_stored, flags_set, flagged_load}
+use Rattle.address_space.proofs.steps.Stores.{cell_read, frame_written, stored_place, byte_is_write, length-write_at}
 use Rattle.address_space.proofs.steps.Bytes.{write_at-nothing, stored-none, stored-flags}
 use Rattle.address_space.proofs.steps.Departures.{no_table_outside}
-use Rattle.address_space.proofs.steps.DirWords.{DirsAlike, flagged_alike, dirs_touched, one_dir_word, dirs-entry, dirs-table, dirs-tables}
+use Rattle.address_space.proofs.steps.DirWords.{DirsAlike, flagged_alike, dirs_touched, one_dir_word, dirs-entry}
+use Rattle.address_space.proofs.steps.DirWords.{dirs-table, dirs-tables}
 use Rattle.address_space.proofs.entries.Staying.{places_then}
 
 -- ---- What a walk finds
@@ -46,9 +47,7 @@ none_some : (x : Option PageEntry) (e : PageEntry) → x ≡ None → x ≡ Some
 none_some x e none some = cc
 
 both_true : (a b : Bool) → (a && not b) ≡ false → a ≡ true → b ≡ true
-both_true true true h e = refl
-both_true true false h e = cc
-both_true false b h e = cc
+both_true a b h e = grind arith
 
 module _ (directories : List (Option ℕ)) (bytes : List ℕ) (roles : List Role) (p d : ℕ) (sound : IsSound directories bytes roles) (live : directory_of directories p ≡ Some d) where
   -- only pages of the user range have an entry
@@ -71,22 +70,10 @@ module _ (directories : List (Option ℕ)) (bytes : List ℕ) (roles : List Role
 
       end : (e : PageEntry) → entry_at (frame_bytes bytes) d (page_number address) ≡ Some e → (b c : Bool) → (is_write access && not (lets_writes e)) ≡ b
           → walk_of bytes d address access ≡ (if b then not_allowed address access else if c then Err Outside else Ok e.frame) → FoundEntry bytes d address access
-      end e here true c is walk = absurd (no_frame (not_allowed address access) refl walk)
-      end e here false true is walk = absurd (no_frame (Err Outside) refl walk)
-      end e here false false is walk =
-          let user = user_entry (page_number address) e here in
-          record {
-            entry = e;
-            here = here;
-            right = λ w. both_true (is_write access) (lets_writes e) is (ap is_write w);
-            walk = walk;
-            low = user.0;
-            high = user.1;
-          }
+      end e here b c is walk = grind (arith, no_frame, user_entry, both_true)
 
       by : (x : Option PageEntry) → entry_at (frame_bytes bytes) d (page_number address) ≡ x → walk_of bytes d address access ≡ end_at_entry bytes address access x → FoundEntry bytes d address access
-      by None here walk = absurd (no_frame (not_present address access) refl walk)
-      by (Some e) here walk = end e here (is_write access && not (lets_writes e)) (is_outside bytes e.frame) refl walk
+      by x here walk = grind (arith, no_frame, end)
 
   -- and back: a page that has an entry is found
   pub entry_found : (address : ℕ) (access : Access) (e : PageEntry) → address < 2 ^ 32 → entry_at (frame_bytes bytes) d (page_number address) ≡ Some e → (access ≡ Write → lets_writes e ≡ true)
@@ -98,8 +85,7 @@ module _ (directories : List (Option ℕ)) (bytes : List ℕ) (roles : List Role
       ∙ ap (λ b. if b then Err Outside else Ok e.frame) within
     where
       allowed : (a : Access) → (a ≡ Write → lets_writes e ≡ true) → (is_write a && not (lets_writes e)) ≡ false
-      allowed Read r = refl
-      allowed Write r = ap not (r refl)
+      allowed a r = grind arith
 
       user : IsUserPage (page_number address)
       user = user_entry (page_number address) e here
@@ -200,33 +186,19 @@ pub record EntryWord (w : ℕ) (e : PageEntry) : Type 0 where
   pub from : entry_from w ≡ e
 
 entry_of_word : (w : ℕ) (e : PageEntry) → IsKernelTableWord w → word_entry w ≡ Some e → EntryWord w e
-entry_of_word w e (inl z) h = absurd (none_some (word_entry w) e (ap word_entry z) h)
-entry_of_word w e (inr n) h =
-    let s : Some (entry_from w) ≡ Some e = sym (ap (λ b. if b then Some (entry_from w) else None) n.present) ∙ h in
-    record { names = n; from = (let k : entry_from w ≡ e = cc in k) }
+entry_of_word w e k h = grind (arith, none_some)
 
 not_lazy : (e : PageEntry) → lets_writes e ≡ true → e.lazy ≡ false
-not_lazy e h = both_false e.write e.lazy h
-  where
-    both_false : (a b : Bool) → (a && not b) ≡ true → b ≡ false
-    both_false true false h = refl
-    both_false true true h = cc
-    both_false false b h = cc
+not_lazy e h = grind arith
 
 touched_rules : (access : Access) (e : PageEntry) → IsKernelEntry e → (access ≡ Write → lets_writes e ≡ true) → IsKernelEntry (touched_entry access e)
-touched_rules Read e rules right = record { frame = rules.frame; zero = rules.zero; clean = rules.clean; right = rules.right; touched = λ _. refl }
-touched_rules Write e rules right = record { frame = rules.frame; zero = rules.zero; clean = λ is. (let real = not_lazy e (right refl) in cc); right = rules.right; touched = λ _. refl }
+touched_rules access e rules right = grind (arith, not_lazy)
 
 marked_words : (bytes : List ℕ) (d address : ℕ) (access : Access) (w t v : ℕ) → word_at bytes (word_place d (slot_number (page_number address))) ≡ w → frame_number w ≡ t
     → word_at (with_word bytes (word_place d (slot_number (page_number address))) (accessed_word w)) (word_place t (index_number (page_number address))) ≡ v
     → marked bytes d address access ≡ with_word (with_word bytes (word_place d (slot_number (page_number address))) (accessed_word w)) (word_place t (index_number (page_number address))) (touched_word access v)
 unfolding marked
-marked_words bytes d address access w t v first names second =
-    ap (λ x. with_word (with_word bytes (word_place d (slot_number (page_number address))) (accessed_word x)) (word_place (frame_number x) (index_number (page_number address)))
-    (touched_word access (word_at (with_word bytes (word_place d (slot_number (page_number address))) (accessed_word x)) (word_place (frame_number x) (index_number (page_number address)))))) first
-    ∙ ap (λ x. with_word (with_word bytes (word_place d (slot_number (page_number address))) (accessed_word w)) (word_place x (index_number (page_number address)))
-    (touched_word access (word_at (with_word bytes (word_place d (slot_number (page_number address))) (accessed_word w)) (word_place x (index_number (page_number address)))))) names
-    ∙ ap (λ y. with_word (with_word bytes (word_place d (slot_number (page_number address))) (accessed_word w)) (word_place t (index_number (page_number address))) (touched_word access y)) second
+marked_words bytes d address access w t v first names second = grind arith
 
 pub mark_parts : (directories : List (Option ℕ)) (bytes : List ℕ) (roles : List Role) (p d address : ℕ) (access : Access) → IsSound directories bytes roles → directory_of directories p ≡ Some d
     → (f : FoundEntry bytes d address access) → MarkParts directories bytes roles p d address access f.entry
@@ -275,10 +247,7 @@ mark_parts directories bytes roles p d address access sound live f =
       half = half;
       first = first;
       here = here;
-      second =
-          ap frame_bytes is ∙ frames-with_word half t i (touched_word access v) (omega arith) fits_t
-          ∙ ap (λ x. with_frame (frame_bytes half) t (with_word_in (frame_bytes half t) i x)) (sym word_is_entry)
-          ∙ ap (λ x. with_entry (frame_bytes half) x page (touched_entry access e)) (sym there_half);
+      second = grind (arith, frames-with_word);
       long_half = long_half;
       long = ap length is ∙ length-with_word half (word_place t i) (touched_word access v) (omega (arith, fits_t));
     }

@@ -1,32 +1,32 @@
 -- Accesses that a processor makes by its walk, on what is kept.
 use Rattle.address_space.proofs.Prelude
-use Prelude.{◌≡◌, ◌+◌, ◌*◌, ◌/◌, ◌%◌, ◌^◌, ◌<◌, ℕ, Bool, true, false, cond, List, [], ◌∷◌, length, refl, ap, sym, ◌∙◌}
-use Prelude.{subst, arith, inl, inr, Option, Some, None, if◌then◌else◌, ◌&&◌, IsOk, Ok, nat_lt, slice_set, option_map}
-use Prelude.{unwrap_or, is_ok, and_parts, nat_tests, page_number, offset_number, start_number, second_page, byte_count}
-use Prelude.{covered, touched, page_and, Size, Access, Read, Write, walk_of, marked, finds_at, finds, byte_place}
-use Prelude.{number_found, Image, image_from, directory_at, Slot, slot_order, Cell, Spaces, fresh, with_bytes}
-use Prelude.{set_bytes, write_at, bytes_of, accessed, stored, cell_or_fresh, slot_at, all_accessed, at_page, number_of}
-use Prelude.{get-insert, get-map_values, same_or_not, directory_of, Touched, AreCountedSpaces, FramesStay, none_goes}
+use Prelude.{◌≡◌, ◌+◌, ◌/◌, ◌%◌, ◌^◌, ◌<◌, ℕ, Bool, true, cond, List, [], ◌∷◌, length, refl, ap, sym, ◌∙◌, subst, arith}
+use Prelude.{inl, inr, Option, Some, None, if◌then◌else◌, ◌&&◌, IsOk, Ok, slice_set, option_map, unwrap_or, is_ok}
+use Prelude.{and_parts, page_number, offset_number, start_number, second_page, byte_count, covered, touched, page_and}
+use Prelude.{Size, Access, Read, Write, walk_of, finds_at, finds, byte_place, number_found, Image, image_from}
+use Prelude.{directory_at, Slot, slot_order, Cell, Spaces, fresh, with_bytes, set_bytes, write_at, bytes_of, accessed}
+use Prelude.{stored, cell_or_fresh, slot_at, all_accessed, at_page, number_of, get-insert, get-map_values, same_or_not}
+use Prelude.{directory_of, Touched, AreCountedSpaces, FramesStay, none_goes, is_marked, kept_place, written_at}
+use Rattle.table_walk.specs.Marks.{marked}
 use Rattle.address_space.specs.declared.Spaces.TheInside.{Inside as Inner}
-use Rattle.address_space.specs.Kept.{is_marked, kept_place, written_at}
 use Rattle.address_space.proofs.Insides.{AreCountedInside, spaces_at, image_at}
 use Rattle.address_space.proofs.costs.AccessCosts.{kept, key-stored}
 use Rattle.address_space.proofs.standing.Standing.{lazy_kept}
 use Rattle.address_space.proofs.steps.Touches.{kept_touched}
-use Rattle.address_space.proofs.steps.Finding.{found_at, found_mapped, FoundEach, found_each, found_fits, FoundPages, found_pages, number_is}
+use Rattle.address_space.proofs.steps.Finding.{found_at, found_mapped, FoundEach, found_each, found_fits, FoundPages}
+use Rattle.address_space.proofs.steps.Finding.{found_pages, number_is}
 use Rattle.address_space.proofs.steps.FoundPages.{Left}
-use Rattle.address_space.proofs.steps.WalkSteps.{found_entry, load_marked, ByteParts, byte_written, byte_put, walk_named}
+use Rattle.address_space.proofs.steps.WalkSteps.{found_entry, load_marked, ByteParts, byte_written, byte_put}
+use Rattle.address_space.proofs.steps.WalkSteps.{walk_named}
 use Rattle.address_space.proofs.standing.FramesStand.{frames_stay, stays_then}
 use Rattle.page_words.specs.FiniteMap as map
-use Rattle.page_words.specs.FiniteSet as set
 
 -- the walk of the first page, and that of the second where there is one
 pub finds_first : (image : Image) (p address : ℕ) (size : Size) (access : Access) → finds image p address size access ≡ true → finds_at image p access address ≡ true
 finds_first image p address size access h = (and_parts (finds_at image p access address) _ h).0
 
 pub finds_second : (image : Image) (p address : ℕ) (size : Size) (access : Access) (page : ℕ) → second_page address size ≡ Some page → finds image p address size access ≡ true → finds_at image p access (start_number page) ≡ true
-finds_second image p address size access page is h =
-    sym (ap (λ (x : Option ℕ). unwrap_or (option_map (λ page. finds_at image p access (start_number page)) x) true) is) ∙ (and_parts (finds_at image p access address) _ h).1
+finds_second image p address size access page is h = grind (arith, and_parts)
 
 -- the words that lead to a page were marked
 marked_left : (inner : Inner) (p d address : ℕ) (two : List ℕ) → AreCountedInside inner → directory_of inner.directories p ≡ Some d → address < 2 ^ 32 → IsOk (walk_of inner.memory d address Read)
@@ -40,8 +40,7 @@ marked_left inner p d address two before live small ok is =
       kept = kept_touched inner.directories inner.memory two inner.frames inner.counts.items (accessed (spaces_at inner) (slot_at p address)) before touched
           (kept (spaces_at inner) (slot_at p address) _ (found_mapped inner.directories inner.memory inner.frames p d address Read sound live small ok));
       lazy = lazy_kept inner.directories inner.memory two inner.frames sound touched.sound touched.lazy;
-      stay = frames_stay none_goes inner.directories inner.memory two inner.frames inner.frames sound touched.sound
-          touched.stay;
+      stay = grind (arith, frames_stay);
     }
 
 -- ---- A load: what its walks find, and what its marks leave
@@ -102,19 +101,12 @@ pub record ByteLeft (inner : Inner) (p address v : ℕ) (two : List ℕ) : Type 
   pub finds : (kind : Access) (at : ℕ) → finds_at (image_from inner.directories two inner.frames) p kind at ≡ finds_at (image_at inner) p kind at
 
 both_alike : (a b c : Bool) → (a ≡ true → b ≡ c) → (a && b) ≡ (a && c)
-both_alike true b c h = h refl
-both_alike false b c h = refl
+both_alike a b c h = grind arith
 
 -- walks that end alike find frames alike
 finds_alike : (image image' : Image) (p d : ℕ) (kind : Access) (at : ℕ) → directory_at image p ≡ Some d → directory_at image' p ≡ directory_at image p
     → (at < 2 ^ 32 → walk_of image'.bytes d at kind ≡ walk_of image.bytes d at kind) → finds_at image' p kind at ≡ finds_at image p kind at
-finds_alike image image' p d kind at live same walks =
-    both_alike (nat_lt at 0x100000000) _ _
-    (λ test.
-    let small : at < 0x100000000 = grind (arith, nat_tests) in
-    ap (λ x. unwrap_or (option_map (λ directory. is_ok (walk_of image'.bytes directory at kind)) x) false) (same ∙ live)
-    ∙ ap is_ok (walks (omega (arith, small)))
-    ∙ sym (ap (λ x. unwrap_or (option_map (λ directory. is_ok (walk_of image.bytes directory at kind)) x) false) live))
+finds_alike image image' p d kind at live same walks = grind (arith, both_alike)
 
 left_by : (inner : Inner) (p d address v : ℕ) (two : List ℕ) → AreCountedInside inner → directory_of inner.directories p ≡ Some d
     → finds_at (image_at inner) p Write address ≡ true
@@ -126,8 +118,7 @@ left_by inner p d address v two before live test parts =
     let S = spaces_at inner in
     record {
       spaces = parts.touched.spaces;
-      stay = frames_stay none_goes inner.directories inner.memory two inner.frames inner.frames sound
-          parts.touched.sound parts.touched.stay;
+      stay = grind (arith, frames_stay);
       kept = kept_touched inner.directories inner.memory two inner.frames inner.counts.items (stored S slot (offset_number address) (v % 256 ∷ [])) before parts.touched
           (λ q. key-stored S slot (offset_number address) (v % 256 ∷ []) (cell_or_fresh S slot) q
           ∙ kept S slot (cell_or_fresh S slot) (found_mapped inner.directories inner.memory inner.frames p d address Write sound live found.0 found.1) q);
@@ -150,9 +141,7 @@ marked_stored S slot at ys q h =
     ap flags (get-insert T slot new q)
     ∙ elim (same_or_not slot_order q slot) [
       | inl k ↦ ap (λ b. flags (cond b (Some new) (map.get T q))) k.1
-      | inr k ↦ ap (λ b. flags (cond b (Some new) (map.get T q))) k
-          ∙ ap flags (get-map_values slot_order (λ s (c : Cell). if set.contains cell.holders s then with_bytes c bytes else c) S q)
-          ∙ by (map.get S q) (set.contains cell.holders q) h
+      | inr k ↦ grind (arith, flags, new, T, get-map_values, cell, bytes, by)
     ]
   where
     flags : Option Cell → Bool
@@ -171,9 +160,7 @@ marked_stored S slot at ys q h =
     new = record cell { bytes = bytes; accessed = true; dirty = true }
 
     by : (x : Option Cell) (b : Bool) → flags x ≡ true → flags (option_map (λ (c : Cell). if b then with_bytes c bytes else c) x) ≡ true
-    by None b h = h
-    by (Some c) true h = h
-    by (Some c) false h = h
+    by x b h = grind arith
 
 -- and the walks of the process go as before
 pub record BytePut (inner : Inner) (p d address v : ℕ) (two : List ℕ) : Type 0 where
@@ -200,8 +187,7 @@ put_at frames bytes a v = slice_set bytes (kept_place frames a) (v % 256)
 -- a byte that is written where the walk leads is written there
 pub put_led : (frames : ℕ → ℕ) (bytes two : List ℕ) (d a v : ℕ) → walk_of bytes d a Write ≡ Ok (frames (page_number a))
     → two ≡ slice_set bytes (byte_place bytes d a) (v % 256) → two ≡ put_at frames bytes a v
-put_led frames bytes two d a v walk is = is
-    ∙ ap (λ n. slice_set bytes (4096 * n + offset_number a) (v % 256)) (sym (walk_named bytes d a (frames (page_number a)) Write walk))
+put_led frames bytes two d a v walk is = grind (arith, walk_named)
 
 pub two_led : (frames : ℕ → ℕ) (m0 m1 m2 : List ℕ) (a b v w : ℕ) → b ≡ a + 1 → w ≡ v / 256
     → m1 ≡ put_at frames m0 a v → m2 ≡ put_at frames m1 b w → m2 ≡ written_at frames m0 a (bytes_of 2 v)
@@ -211,12 +197,4 @@ pub four_led : (frames : ℕ → ℕ) (m0 m1 m2 m3 m4 : List ℕ) (a b c d v w x
     → w ≡ v / 256 → x ≡ w / 256 → y ≡ x / 256
     → m1 ≡ put_at frames m0 a v → m2 ≡ put_at frames m1 b w → m3 ≡ put_at frames m2 c x → m4 ≡ put_at frames m3 d y
     → m4 ≡ written_at frames m0 a (bytes_of 4 v)
-four_led frames m0 m1 m2 m3 m4 a b c d v w x y at_b at_c at_d of_w of_x of_y first second third fourth =
-    let c_is : c ≡ a + 1 + 1 = at_c ∙ ap (λ n. n + 1) at_b in
-    let d_is : d ≡ a + 1 + 1 + 1 = at_d ∙ ap (λ n. n + 1) c_is in
-    let x_is : x ≡ v / 256 / 256 = of_x ∙ ap (λ n. n / 256) of_w in
-    let y_is : y ≡ v / 256 / 256 / 256 = of_y ∙ ap (λ n. n / 256) x_is in
-    let two : m2 ≡ put_at frames (put_at frames m0 a v) (a + 1) (v / 256) = second ∙ (λ i. put_at frames (first i) (at_b i) (of_w i)) in
-    let three : m3 ≡ put_at frames (put_at frames (put_at frames m0 a v) (a + 1) (v / 256)) (a + 1 + 1) (v / 256 / 256) =
-    third ∙ (λ i. put_at frames (two i) (c_is i) (x_is i)) in
-    fourth ∙ (λ i. put_at frames (three i) (d_is i) (y_is i))
+four_led frames m0 m1 m2 m3 m4 a b c d v w x y at_b at_c at_d of_w of_x of_y first second third fourth = grind arith

@@ -1,12 +1,10 @@
 use Rattle.std.proofs.Common.{◌≡◌, ◌-◌, ap, ◌∙◌, arith}
-use Rattle.page_words.specs.FiniteSet as set
 use Rattle.alloc_table.proofs.Freeing.{free_above, free_above-before, free_above-all}
 use Rattle.alloc_table.proofs.ledger_of.Goals as goal
 
 pub put_back_free-requires-clause-in_use : goal.put_back_free-requires-clause-in_use
 put_back_free-requires-clause-in_use c =
-    ap (λ l. set.contains l.free (c.loop-frame.frame - 1)) c.loop-frame.invariant.free
-    ∙ free_above-before (c.loop-frame.frame - 1) c.loop-frame.frame c.args.roles.now (omega (arith, c.loop-frame-test.true))
+    grind (arith, free_above-before, c.loop-frame.invariant.free, c.loop-frame-test.true)
 
 pub returns-clause-ledger : goal.returns-clause-ledger
 returns-clause-ledger c =

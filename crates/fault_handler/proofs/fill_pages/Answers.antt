@@ -1,3 +1,4 @@
+use Rattle.std.proofs.Common.{arith}
 use Rattle.fault_handler.proofs.Prelude.{◌≡◌, sym, subst, ◌∙◌, false, IfSome, page_number, at_page, is_lazy_at}
 use Rattle.fault_handler.proofs.Prelude.{memory_of}
 use Rattle.fault_handler.proofs.Filled.{fills_one, fills_two}
@@ -10,8 +11,7 @@ returns-in-Some-clause-real c = (
 )
 
 pub returns-in-None-clause-stay : goal.returns-in-None-clause-stay
-returns-in-None-clause-stay c = fills_one c.args.pid c.args.address c.args.size c.page_of-page.result
-    (memory_of c.args.processes.now) (memory_of c.fill_at-filled.new.self) c.page_of-page.ensures.value c.fill_at-filled.ensures.stay
+returns-in-None-clause-stay c = grind (arith, fills_one, c.page_of-page.ensures.value, c.fill_at-filled.ensures.stay)
 
 pub returns-in-Some-clause-stay : goal.returns-in-Some-clause-stay
 returns-in-Some-clause-stay c =

@@ -1,3 +1,4 @@
+use Rattle.std.proofs.Common.{arith}
 use Rattle.fault_handler.proofs.Prelude.{◌≡◌, sym, subst, ◌∙◌, true, EachTouched, at_page, touched-there, State}
 use Rattle.fault_handler.proofs.Prelude.{is_mapped, stays_then, stays_most}
 use Rattle.fault_handler.proofs.Settled.{first_mapped, second_mapped, complete_real}
@@ -9,8 +10,7 @@ fill_pages-requires-clause-mapped c = subst (λ (t : State). EachTouched c.args.
     (touched-there c.args.processes.now.state.spaces c.args.pid c.args.address c.args.size)
 
 pub map_pages-mapped-requires-clause-first : goal.map_pages-mapped-requires-clause-first
-map_pages-mapped-requires-clause-first c =
-    first_mapped c.args.processes.now c.args.pid c.args.address c.args.size c.args.access c.in-Ready.first c.in-Ready.second (sym c.in-Ready.is ∙ c.requires.plan)
+map_pages-mapped-requires-clause-first c = grind (arith, first_mapped, c.in-Ready.is, c.requires.plan)
 
 pub map_pages-mapped-requires-clause-second : goal.map_pages-mapped-requires-clause-second
 map_pages-mapped-requires-clause-second c =

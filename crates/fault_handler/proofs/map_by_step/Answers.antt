@@ -1,4 +1,4 @@
-use Rattle.fault_handler.proofs.Prelude.{if◌then◌else◌, no_value, at_page, cost, need, page_is_user, State, is_mapped}
+use Rattle.fault_handler.proofs.Prelude.{if◌then◌else◌, no_value, at_page, cost, need, page_is_user, State}
 use Rattle.fault_handler.proofs.Prelude.{maps_page}
 use Rattle.std.proofs.Common.{◌≡◌, ◌∙◌, ◌+◌, refl, ap, not, Some, None, is_ok}
 use Rattle.process_table.proofs.Refusals.{map-charge}

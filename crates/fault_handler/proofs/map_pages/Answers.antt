@@ -27,7 +27,4 @@ pub returns-in-Some-clause-stay : goal.returns-in-Some-clause-stay
 returns-in-Some-clause-stay c = stays_then c.map_by_step-mapped.ensures.stay c.map_behind.ensures.stay
 
 pub map_by_step-mapped-requires-clause-room : goal.map_by_step-mapped-requires-clause-room
-map_by_step-mapped-requires-clause-room c =
-    let s : State = c.args.processes.now.state in
-    subst (λ n. overdrawn s c.args.pid (n ∷ []) ≡ false) (sym c.page_of-page.ensures.value)
-    (first_room s c.args.pid c.args.address c.args.size c.requires.room)
+map_by_step-mapped-requires-clause-room c = grind (arith, first_room, c.page_of-page.ensures.value, c.requires.room)

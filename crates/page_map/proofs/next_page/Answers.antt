@@ -9,8 +9,7 @@ returns-in_err-page-clause-none c =
 
 pub returns-clause-mapped : goal.returns-clause-mapped
 returns-clause-mapped c =
-    let within = c.in_ok-page.ensures.within in
-    found_page (frame_bytes c.args.memory.now) c.args.directory c.in_ok-page.page (omega (arith, c.max.ensures, within.0)) within.1 c.in_ok-page.ensures.mapped
+    grind (arith, found_page, c.in_ok-page.ensures.within, c.max.ensures, c.in_ok-page.ensures.mapped)
 
 pub returns-clause-least : goal.returns-clause-least
 returns-clause-least c = λ other above below.

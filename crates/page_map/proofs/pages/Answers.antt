@@ -1,4 +1,4 @@
-use Rattle.page_map.proofs.Prelude.{◌≡◌, is_some, sym, ◌∙◌, arith, frame_bytes, entry_at}
+use Rattle.page_map.proofs.Prelude.{is_some, sym, arith, frame_bytes, entry_at}
 use Rattle.page_map.proofs.PageLemmas.{count_range-zero, count_slot, count_end, len-entries_of}
 use Rattle.page_map.proofs.pages.Goals as goal
 
@@ -12,7 +12,4 @@ loop-slot-preserved c = (
 )
 
 pub returns : goal.returns
-returns c =
-    let end : c.loop-slot.slot ≡ 960 = omega arith in
-    count_end (λ page. is_some (entry_at (frame_bytes c.args.memory.now) c.args.directory page)) c.loop-slot.slot c.loop-slot.pages end c.loop-slot.invariant.0
-    ∙ sym (len-entries_of (frame_bytes c.args.memory.now) c.args.directory)
+returns c = grind (arith, count_end, len-entries_of, c.loop-slot.invariant.0)

@@ -1,9 +1,7 @@
-use Rattle.page_map.proofs.Prelude.{ap, ◌∙◌, with_word, frame_bytes}
+use Rattle.std.proofs.Common.{arith}
 use Rattle.page_map.proofs.Steps.{word_written}
 use Rattle.page_map.proofs.set_word.Goals as goal
 
 pub returns-clause-frames : goal.returns-clause-frames
 returns-clause-frames c =
-    ap frame_bytes c.write_word.ensures.bytes
-    ∙ ap (λ p. frame_bytes (with_word c.args.memory.now p c.args.word)) c.place_of.ensures
-    ∙ word_written c.args.memory.now c.args.frame c.args.index c.args.word c.requires.index c.requires.inside
+    grind (arith, word_written, c.write_word.ensures.bytes, c.place_of.ensures, c.requires.index, c.requires.inside)

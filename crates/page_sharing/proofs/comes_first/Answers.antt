@@ -1,8 +1,8 @@
-use Rattle.std.proofs.Common.{◌≡◌, ℕ, ◌<◌, ◌≤◌, Bool, true, false, List, ◌++◌, ◌∷◌, [], Option, Some, None, subst, sym, refl, arith}
+use Rattle.std.proofs.Common.{◌≡◌, Bool, true, false, List, ◌++◌, ◌∷◌, [], Some, subst, sym, refl, arith}
 use Rattle.std.specs.Prelude.{if◌then◌else◌, nat_lt}
 use Rattle.std.proofs.lemmas.Bool.{ltb-true, ltb-false}
 use Rattle.page_sharing.specs.declared.Offer.{Offer}
-use Rattle.page_sharing.specs.Listed.{number_in, IsFirstFrom}
+use Rattle.page_sharing.specs.Listed.{IsFirstFrom}
 use Rattle.page_sharing.proofs.FirstOffers.{passes, first_of_all, comes_earlier, comes_later}
 use Rattle.page_sharing.proofs.comes_first.Goals as goal
 

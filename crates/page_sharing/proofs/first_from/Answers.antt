@@ -1,4 +1,4 @@
-use Rattle.std.proofs.Common.{◌≡◌, ◌+◌, ◌++◌, ◌∷◌, [], List, Option, Some, ap, sym, subst, take, ◌∙◌, true, false}
+use Rattle.std.proofs.Common.{◌≡◌, ◌+◌, ◌++◌, ◌∷◌, [], List, Some, ap, sym, subst, take, ◌∙◌, true, false, arith}
 use Rattle.std.specs.Prelude.{if◌then◌else◌}
 use Rattle.std.proofs.lemmas.List.{take_more}
 use Rattle.page_sharing.specs.declared.Offer.{Offer}
@@ -8,10 +8,7 @@ use Rattle.page_sharing.proofs.first_from.Goals.{then-comes_first, else-comes_fi
 
 -- the list with one offer more
 more : (c : goal.Joined-comes_first) → take (c.loop-offer.offer-index + 1) c.args.offers.now ≡ take c.loop-offer.offer-index c.args.offers.now ++ c.offer-item.result ∷ []
-more c =
-    let xs = c.args.offers.now in
-    let at = c.loop-offer.offer-index in
-    take_more xs at c.offer-item.result c.loop-offer-test.true ∙ ap (λ (o : Offer). take at xs ++ o ∷ []) (sym c.offer-item.is)
+more c = grind (arith, take_more, c.loop-offer-test.true, c.offer-item.is)
 
 pub loop-offer-preserved : goal.loop-offer-preserved
 loop-offer-preserved c =

@@ -1,10 +1,9 @@
-use Rattle.address_space.proofs.Prelude.{ap, sym, ◌∙◌, arith, ◌≡◌, ℕ, ◌<◌, Option, None, true, is_some, slice_index}
-use Rattle.address_space.proofs.Prelude.{page_number, offset_number, no_value, Cell, slot_at, Slot, Spaces}
-use Rattle.address_space.proofs.Prelude.{cell_or_fresh, fresh, found_of, unwrap_or}
+use Rattle.address_space.proofs.Prelude
+use Prelude.{ap, sym, ◌∙◌, arith, ◌≡◌, ℕ, ◌<◌, Option, None, true, is_some, slice_index, page_number, offset_number}
+use Prelude.{no_value, Cell, slot_at, Slot, Spaces, cell_or_fresh, fresh, found_of, unwrap_or, get_or-replicate}
 use Rattle.address_space.proofs.steps.FoundPages.{found_mapped, found_lies, found_cell}
 use Rattle.address_space.proofs.steps.Placing.{place_found}
 use Rattle.address_space.proofs.Insides.{spaces_at}
-use Rattle.std.proofs.lemmas.List.{get_or-replicate}
 use Rattle.address_space.proofs.Spaces.byte_at.Goals as goal
 use Rattle.page_words.specs.FiniteMap as map
 

@@ -1,7 +1,9 @@
 use Rattle.address_space.proofs.Prelude.{◌+◌, ◌*◌, ◌≤◌, sym, subst, SlotCopied}
 use Rattle.address_space.proofs.steps.Steps.{page_map_of}
 use Rattle.address_space.proofs.steps.Stores.{named_inside}
-use Rattle.address_space.proofs.steps.NewPages.{table_room, ready_inside, ready_count, ready_fits, ready_lies, ready_free, copy_added, copy_more, copy_alike, copy_whole, copy_linked, added_kept}
+use Rattle.address_space.proofs.steps.NewPages.{table_room, ready_inside, ready_count, ready_fits, ready_lies}
+use Rattle.address_space.proofs.steps.NewPages.{ready_free, copy_added, copy_more, copy_alike, copy_whole, copy_linked}
+use Rattle.address_space.proofs.steps.NewPages.{added_kept}
 use Rattle.address_space.proofs.Spaces.copy_page.Goals as goal
 
 pub give_table-table-requires-clause-map : goal.give_table-table-requires-clause-map

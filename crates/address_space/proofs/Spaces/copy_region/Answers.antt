@@ -1,9 +1,9 @@
 use Rattle.address_space.proofs.Prelude.{◌≡◌, ◌+◌, ◌*◌, ◌<◌, ◌≤◌, ◌∙◌, ℕ, List, length, Option, Some, ap, sym, subst}
 use Rattle.address_space.proofs.Prelude.{refl, arith, slot_number, frame_bytes, Role, table_of, Spaces, at_page, View}
-use Rattle.address_space.proofs.Prelude.{directory_of, spaces_in, PageCopied, CopyIn, words_left}
+use Rattle.address_space.proofs.Prelude.{cost, directory_of, spaces_in, PageCopied, CopyIn, words_left}
 use Rattle.address_space.proofs.costs.Costed.{Room}
 use Rattle.address_space.proofs.steps.Steps.{page_map_of}
-use Rattle.address_space.proofs.steps.RegionCopies.{region_there, region_words, no_table_there, copy_passed, copy_entry, copy_unmapped, copy_room, copy_stepped, words_kept}
+use Rattle.address_space.proofs.steps.RegionCopies.{region_there, region_words, no_table_there, copy_passed, copy_entry, copy_unmapped, copy_room, copy_need, copy_fits, copy_cost, copy_stepped, words_kept}
 use Rattle.page_words.specs.FiniteMap as map
 use Rattle.address_space.proofs.Spaces.copy_region.Goals as goal
 
@@ -23,6 +23,7 @@ loop-listed-init c =
       same = refl;
       linked = sym (rw (← c.self.view_is) (no_table_there c.args.to begun.so_far.after (rw (← c.self.view_is) at c.requires.target) inside c.requires.slot (λ i few. begun.so_far.rest (1024 * c.args.slot + i) (omega arith))));
       left = rw (← c.self.view_is) (region_words c.self.inside.counts.items (rw (← c.self.view_is) at c.requires.copying).from begun.so_far.after.sound begun.home inside c.requires.slot begun.there c.self.invariant.counted c.count_at-left.result c.count_at-left.ensures);
+      used = c.requires.used;
       within = omega arith;
     }
 
@@ -36,9 +37,7 @@ next_left-requires-clause-inside c =
     ((page_map_of c.args.self.now.directories c.loop-listed.self.bytes c.loop-listed.self.roles q.from q.source here.so_far.after.sound here.home).tables_inside c.args.slot c.args.table few here.there)
 
 pub next_left-requires-clause-left : goal.next_left-requires-clause-left
-next_left-requires-clause-left c =
-    let same : c.self-in-loop-listed.inside.memory ≡ c.loop-listed.self.bytes = ap (λ (v : View). v.bytes) c.self-in-loop-listed.view_is in
-    c.loop-listed.invariant.left ∙ ap (λ b. words_left b c.args.table c.loop-listed.index) (sym same)
+next_left-requires-clause-left c = grind (arith, c.loop-listed.invariant.left)
 
 pub overflow_sub-left : goal.overflow_sub-left
 overflow_sub-left c = omega (arith, c.in-Some.ensures.left)
@@ -58,10 +57,7 @@ copy_page-requires-clause-entry c =
     }
 
 pub copy_page-requires-clause-linked : goal.copy_page-requires-clause-linked
-copy_page-requires-clause-linked c =
-    let up = c.in-Some.ensures.within in
-    let there : c.args.slot ≡ slot_number (1024 * c.args.slot + c.in-Some.listed.index) = omega (arith, up.1) in
-    c.loop-listed.invariant.linked ∙ ap (table_of (frame_bytes c.loop-listed.self.bytes) c.args.target) there
+copy_page-requires-clause-linked c = grind (arith, c.in-Some.ensures.within, c.loop-listed.invariant.linked)
 
 pub copy_page-requires-clause-unmapped : goal.copy_page-requires-clause-unmapped
 copy_page-requires-clause-unmapped c =
@@ -110,6 +106,11 @@ loop-listed-preserved c =
       same = c.copy_page.ensures.directories ∙ c.loop-listed.invariant.same;
       linked = sym c.copy_page.ensures.table ∙ ap (table_of (frame_bytes c.copy_page.new.self.bytes) c.args.target) there;
       left = omega (arith, c.in-Some.ensures.left, moved, kept);
+      used =
+          (let linked = c.loop-listed.invariant.linked ∙ ap (table_of (frame_bytes c.loop-listed.self.bytes) c.args.target) (sym there) in
+          let need = copy_need found same up.1 c.requires.slot c.in-Some.ensures.entry c.loop-listed.linked c.requires.target linked in
+          let cost = copy_cost found same up.1 c.requires.slot c.in-Some.ensures.entry made in
+          omega (arith, need, cost, c.new_frames-used.ensures, c.loop-listed.invariant.used));
       within = omega (arith, up.1);
     }
 
@@ -117,3 +118,19 @@ pub returns-clause-copied : goal.returns-clause-copied
 returns-clause-copied c from source bytes roles begun =
     let same : c.self-in-loop-listed.inside.memory ≡ c.loop-listed.self.bytes = ap (λ (v : View). v.bytes) c.self-in-loop-listed.view_is in
     copy_passed 1024 (c.loop-listed.invariant.so_far from source bytes roles begun) same c.loop-listed.invariant.within (omega arith) c.requires.slot c.in_default.ensures.none
+
+pub overflow_add-used : goal.overflow_add-used
+overflow_add-used c =
+    let q = c.requires.copying in
+    let here = c.loop-listed.invariant.so_far q.from q.source q.bytes q.roles q.begun in
+    let same : c.self-in-loop-listed.inside.memory ≡ c.loop-listed.self.bytes = ap (λ (v : View). v.bytes) c.self-in-loop-listed.view_is in
+    let up = c.in-Some.ensures.within in
+    let found = copy_passed c.in-Some.listed.index here same up.0 (omega (arith, up.1)) c.requires.slot c.in-Some.ensures.least in
+    let there : slot_number (1024 * c.args.slot + c.in-Some.listed.index) ≡ c.args.slot = omega (arith, up.1) in
+    let linked = c.loop-listed.invariant.linked ∙ ap (table_of (frame_bytes c.loop-listed.self.bytes) c.args.target) (sym there) in
+    let need = copy_need found same up.1 c.requires.slot c.in-Some.ensures.entry c.loop-listed.linked c.requires.target linked in
+    let fits = copy_fits found same up.1 c.requires.slot c.in-Some.ensures.entry c.requires.target in
+    omega (arith, need, fits, c.new_frames-used.ensures, c.loop-listed.invariant.used)
+
+pub returns-clause-used : goal.returns-clause-used
+returns-clause-used c = c.loop-listed.invariant.used ∙ ap (λ (l : List (Option ℕ)). cost (spaces_in l c.loop-listed.self.bytes) c.args.to) (sym c.loop-listed.invariant.same)

@@ -1,4 +1,4 @@
-use Rattle.address_space.proofs.Prelude.{◌≡◌, ◌≤◌, ◌-◌, ℕ, List, frame_bytes, Role, table_of, CopyIn, words_left}
+use Rattle.address_space.proofs.Prelude.{◌≡◌, ◌≤◌, ◌-◌, ℕ, List, frame_bytes, Role, table_of, cost, spaces_in, CopyIn, words_left}
 use Rattle.address_space.proofs.Spaces.copy_region.Given as goal
 
 abbrev pub invariant-loop-listed : goal.invariant-loop-listed
@@ -8,6 +8,7 @@ invariant-loop-listed l = record {
   same : l.self.directories ≡ l.fn.self.directories;
   linked : l.linked ≡ table_of (frame_bytes l.self.bytes) l.target l.slot;
   left : l.left ≡ words_left l.self.bytes l.table l.index;
+  used : l.used ≡ cost (spaces_in l.fn.self.directories l.self.bytes) l.to;
   within : l.index ≤ 1024;
 }
 

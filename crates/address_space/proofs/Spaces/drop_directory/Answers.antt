@@ -1,6 +1,4 @@
-use Rattle.address_space.proofs.Prelude.{◌≡◌, ◌∙◌, sym, subst, refl, true, false, Directory, DirectoryDropped}
-use Rattle.address_space.proofs.Prelude.{frame_bytes, directory_of, spaces_in, eq-eqb}
-use Rattle.address_space.specs.Stays.{none_goes, of_process}
+use Rattle.address_space.proofs.Prelude.{arith, sym, subst, refl, Directory, DirectoryDropped, spaces_in, eq-eqb}
 use Rattle.address_space.proofs.entries.Staying.{places_more}
 use Rattle.address_space.proofs.standing.FramesStand.{frames_stay_by}
 use Rattle.address_space.proofs.steps.CountSteps.{counts_kept, alike_released}
@@ -23,11 +21,7 @@ returns c = record {
   none = (dropped c).none;
   others = rw (← c.self.view_is) ((dropped c).others);
   frames = rw (← c.self.view_is) ((dropped c).length);
-  stay = rw (← c.self.view_is)
-      (frames_stay_by (of_process c.args.pid) c.self.inside.directories c.forget.new.directories c.self.inside.memory c.self.inside.memory c.self.inside.frames c.release.new.self c.self.invariant.spaces.sound (dropped c).after.sound
-      (λ q d f stays live. (dropped c).others q.pid (λ e. let k : true ≡ false = sym (eq-eqb q.pid c.args.pid e) ∙ stays in cc) ∙ live)
-      (places_more (of_process c.args.pid) none_goes (directory_of c.self.inside.directories) (frame_bytes c.self.inside.memory)
-      (directory_of c.forget.new.directories) (frame_bytes c.self.inside.memory) (λ q f stays. refl) (dropped c).stay));
+  stay = grind (arith, frames_stay_by, dropped, eq-eqb, places_more, c.self.invariant.spaces.sound);
   loose = rw (← c.self.view_is)
       (loose_released c.self.inside.directories c.forget.new.directories c.self.inside.memory c.self.inside.frames c.release.new.self c.args.directory c.release.ensures.role);
 }

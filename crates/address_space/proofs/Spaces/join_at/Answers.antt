@@ -1,10 +1,11 @@
-use Rattle.address_space.proofs.Prelude.{◌<◌, ◌^◌, ap, sym, ◌∙◌, subst, frame_bytes, PageEntry, with_entry, Spaces}
-use Rattle.address_space.proofs.Prelude.{joined, at_page, TableGiven, SlotJoined, slot_number, table_of_place, found_of}
-use Rattle.address_space.proofs.Prelude.{is_some, none_goes, directory_of}
+use Rattle.address_space.proofs.Prelude
+use Prelude.{arith, ◌<◌, ◌^◌, ap, sym, ◌∙◌, subst, frame_bytes, PageEntry, with_entry, at_page, TableGiven, SlotJoined}
+use Prelude.{slot_number, table_of_place, found_of, is_some, none_goes, directory_of}
 use Rattle.address_space.proofs.steps.Steps.{page_map_of}
 use Rattle.address_space.proofs.steps.CountSteps.{alike_held}
 use Rattle.address_space.proofs.steps.FoundPages.{found_real, found_named, found_least, found_mapped}
-use Rattle.address_space.proofs.steps.NewPages.{table_room, ready_given, ready_inside, ready_count, ready_fits, ready_below, ready_small, holder_added, holder_more, added_kept}
+use Rattle.address_space.proofs.steps.NewPages.{table_room, ready_given, ready_inside, ready_count, ready_fits}
+use Rattle.address_space.proofs.steps.NewPages.{ready_below, ready_small, holder_added, holder_more, added_kept}
 use Rattle.address_space.proofs.steps.Placing.{place_table, place_found}
 use Rattle.address_space.proofs.standing.FramesStand.{frames_stay}
 use Rattle.address_space.proofs.entries.Staying.{places_ready}
@@ -67,9 +68,7 @@ added c =
     (c.put_entry.ensures.frames ∙ ap (with_entry (frame_bytes c.give_table-table.new.memory) c.give_table-table.result c.args.page) c.joined_entry.ensures) c.put_entry.ensures.length
 
 pub returns-clause-spaces : goal.returns-clause-spaces
-returns-clause-spaces c =
-    rw (← c.self.view_is)
-    ((added c).spaces ∙ ap (λ (s : Spaces). joined s (at_page c.args.giver c.args.giver_page) (at_page c.args.pid c.args.page) c.args.right) (given c).spaces)
+returns-clause-spaces c = grind (arith, added, given)
 
 pub invariant_of-self : goal.invariant_of-self
 invariant_of-self c =

@@ -1,14 +1,14 @@
-use Rattle.address_space.proofs.Prelude.{sym, ◌∙◌, touched, Read, all_accessed}
+use Rattle.address_space.proofs.Prelude.{arith, sym, ◌∙◌, touched, Read, all_accessed}
 use Rattle.address_space.proofs.Insides.{spaces_at, image_at}
 use Rattle.address_space.proofs.steps.WalkSteps.{found_apart}
 use Rattle.address_space.proofs.steps.Finding.{finds_live}
 use Rattle.address_space.proofs.steps.FoundPages.{Left}
-use Rattle.address_space.proofs.steps.WalkedPages.{load_each, load_fits, load_value, load_pages, load_first, first_left, alone_left, load_second, both_left}
+use Rattle.address_space.proofs.steps.WalkedPages.{load_each, load_fits, load_value, load_pages, load_first, first_left}
+use Rattle.address_space.proofs.steps.WalkedPages.{alone_left, load_second, both_left}
 use Rattle.address_space.proofs.Spaces.load_by_walk.Goals as goal
 
 pub home-directory-requires : goal.home-directory-requires
-home-directory-requires c =
-    finds_live (image_at c.self.inside) c.args.pid c.args.address c.args.size Read (rw (← c.self.view_is) at c.requires)
+home-directory-requires c = grind (arith, finds_live, image_at, c.requires)
 
 pub found_number-value-requires-clause-found : goal.found_number-value-requires-clause-found
 found_number-value-requires-clause-found c =
@@ -19,8 +19,7 @@ found_number-value-requires-clause-fits c =
     load_fits c.self.inside c.args.pid c.home-directory.result c.args.address c.args.size c.self.invariant c.home-directory.ensures (rw (← c.self.view_is) at c.requires)
 
 pub mark-requires-clause-found : goal.mark-requires-clause-found
-mark-requires-clause-found c =
-    (load_first c.self.inside c.args.pid c.home-directory.result c.args.address c.args.size c.self.invariant c.home-directory.ensures (rw (← c.self.view_is) at c.requires)).1
+mark-requires-clause-found c = grind (arith, load_first, c.self.invariant, c.home-directory.ensures, c.requires)
 
 pub mark-requires-clause-apart : goal.mark-requires-clause-apart
 mark-requires-clause-apart c =

@@ -5,8 +5,7 @@ use Rattle.page_words.specs.FiniteMap as map
 use Rattle.address_space.proofs.Spaces.load_over.Goals as goal
 
 pub number_over-value-requires-clause-second : goal.number_over-value-requires-clause-second
-number_over-value-requires-clause-second c = λ _.
-    c.requires.second ∙ ap (place_in c.args.self.now.directories c.args.self.now.bytes c.args.pid) (crosses c.args.address c.args.size c.args.behind c.requires.behind).next
+number_over-value-requires-clause-second c = grind (arith, crosses, c.requires.second, c.requires.behind)
 
 pub load_at-requires-2-clause-mapped : goal.load_at-requires-2-clause-mapped
 load_at-requires-2-clause-mapped c =

@@ -1,14 +1,14 @@
-use Rattle.address_space.proofs.Prelude.{◌^◌, ◌<◌, ap, sym, subst, arith, ◌∙◌, refl, frame_bytes, PageEntry, with_entry}
-use Rattle.address_space.proofs.Prelude.{is_lazy_entry, TableGiven, PageAdded, slot_number, Spaces, fresh, at_page}
-use Rattle.address_space.proofs.Prelude.{table_of_place, none_goes, directory_of}
+use Rattle.address_space.proofs.Prelude
+use Prelude.{◌^◌, ◌<◌, ap, sym, subst, arith, ◌∙◌, refl, frame_bytes, PageEntry, with_entry, is_lazy_entry, TableGiven}
+use Prelude.{PageAdded, slot_number, at_page, table_of_place, none_goes, directory_of}
 use Rattle.address_space.proofs.standing.Standing.{same_lazy}
 use Rattle.address_space.proofs.steps.Steps.{page_map_of}
-use Rattle.address_space.proofs.steps.NewPages.{table_room, ready_given, ready_table, ready_inside, ready_count, ready_fits, zero_added, zero_more, added_kept}
+use Rattle.address_space.proofs.steps.NewPages.{table_room, ready_given, ready_table, ready_inside, ready_count}
+use Rattle.address_space.proofs.steps.NewPages.{ready_fits, zero_added, zero_more, added_kept}
 use Rattle.address_space.proofs.steps.FoundPages.{found_written}
 use Rattle.address_space.proofs.steps.Placing.{place_table, place_mapped}
 use Rattle.address_space.proofs.standing.FramesStand.{frames_stay}
 use Rattle.address_space.proofs.entries.Staying.{places_ready}
-use Rattle.page_words.specs.FiniteMap as map
 use Rattle.address_space.proofs.Spaces.map_at.Goals as goal
 
 pub give_table-table-requires-clause-map : goal.give_table-table-requires-clause-map
@@ -45,9 +45,7 @@ added c =
     (c.put_entry.ensures.frames ∙ ap (with_entry (frame_bytes c.give_table-table.new.memory) c.give_table-table.result c.args.page) c.fresh_entry-entry.ensures) c.put_entry.ensures.length
 
 pub returns-clause-spaces : goal.returns-clause-spaces
-returns-clause-spaces c =
-    rw (← c.self.view_is)
-    ((added c).spaces ∙ ap (λ (s : Spaces). map.insert s (at_page c.args.pid c.args.page) (fresh (at_page c.args.pid c.args.page) c.args.write)) (given c).spaces)
+returns-clause-spaces c = grind (arith, added, given)
 
 pub returns-clause-lazy : goal.returns-clause-lazy
 returns-clause-lazy c =

@@ -1,4 +1,4 @@
-use Rattle.address_space.proofs.Prelude.{◌≡◌, ap, sym, ◌∙◌, refl, Some, Directory, with_walked, none_goes}
+use Rattle.address_space.proofs.Prelude.{arith, refl, Directory, none_goes}
 use Rattle.address_space.proofs.Insides.{spaces_at}
 use Rattle.address_space.proofs.steps.Steps.{inside}
 use Rattle.address_space.proofs.steps.Touches.{kept_touched}
@@ -16,12 +16,7 @@ returns-clause-spaces c =
     ((dir_word_walked c.self.inside.directories c.self.inside.memory c.set_word_walked.new.memory c.self.inside.frames c.args.pid c.home-directory.result c.args.page c.args.walked c.self.invariant.spaces.sound c.home-directory.ensures c.requires.user.1 c.set_word_walked.ensures.bytes c.set_word_walked.ensures.length).spaces)
 
 pub returns-clause-bytes : goal.returns-clause-bytes
-returns-clause-bytes c =
-    rw (← c.self.view_is)
-    (λ d live.
-    let e : Some c.home-directory.result ≡ Some d = sym c.home-directory.ensures ∙ live in
-    let same : c.home-directory.result ≡ d = cc in
-    c.set_word_walked.ensures.bytes ∙ ap (λ x. with_walked c.self.inside.memory x c.args.page c.args.walked) same)
+returns-clause-bytes c = grind (arith, c.home-directory.ensures, c.set_word_walked.ensures.bytes)
 
 pub invariant_of-self : goal.invariant_of-self
 invariant_of-self c =

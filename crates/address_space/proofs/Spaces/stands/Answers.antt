@@ -1,8 +1,6 @@
 use Rattle.address_space.proofs.Prelude.{◌≡◌, ℕ, ◌+◌, ◌≤◌, subst, arith, refl, true, length, is_some, View, total_cost}
 use Rattle.address_space.proofs.Prelude.{directory_of, entries_in, spaces_in, lazy_count, holders_of, frame_bytes, cost}
-use Rattle.address_space.proofs.Prelude.{WalksAgree, PlacesTell, WaysAgree}
-use Rattle.alloc_table.proofs.RoleLemmas.{in-use-and-reserved}
-use Rattle.address_space.specs.Image.{StandsFor, LeavesRoom, image_of}
+use Rattle.address_space.proofs.Prelude.{WalksAgree, in-use-and-reserved, LeavesRoom, image_of}
 use Rattle.address_space.proofs.steps.Openings.{cost_within}
 use Rattle.address_space.proofs.standing.WaysStand.{walks_agree, ways_agree}
 use Rattle.address_space.proofs.standing.Standing.{image_stands, lazy_slots}
@@ -11,8 +9,7 @@ use Rattle.address_space.proofs.Spaces.stands.Goals as goal
 
 pub returns : goal.returns
 returns c = record {
-  image = subst (λ (v : View). StandsFor (image_of v) v.spaces) c.self.view_is
-      (image_stands c.self.inside.directories c.self.inside.memory c.self.inside.frames c.self.invariant.spaces);
+  image = grind (arith, image_stands, c.self.invariant.spaces);
   costs = subst (λ (v : View). 1 + total_cost v.directories v.spaces ≤ length v.roles) c.self.view_is c.self.invariant.spaces.within;
   each =
       subst (λ (v : View). (p : ℕ) → is_some (directory_of v.directories p) ≡ true → 1 + cost v.spaces p ≤ length v.roles) c.self.view_is
@@ -31,8 +28,6 @@ returns c = record {
         counted = record { members = holders_of E 0; are = lazy_slots c.self.inside.directories c.self.inside.memory c.self.inside.frames kept.sound; count = refl };
         fit = omega (arith, n, w);
       });
-  ways = subst (λ (v : View). WaysAgree (image_of v)) c.self.view_is
-      (ways_agree c.self.inside.directories c.self.inside.memory c.self.inside.frames c.self.invariant.spaces.sound);
-  places = subst (λ (v : View). PlacesTell (image_of v) v.spaces) c.self.view_is
-      (places_tell c.self.inside c.self.invariant);
+  ways = grind (arith, ways_agree, c.self.invariant.spaces.sound);
+  places = grind (arith, places_tell, c.self.invariant);
 }

@@ -1,4 +1,4 @@
-use Rattle.table_walk.specs.declared.Access.TheVariants.{Write}
+use Rattle.address_space.proofs.Prelude.{arith, Write}
 use Rattle.address_space.proofs.Insides.{image_at}
 use Rattle.address_space.proofs.steps.WalkSteps.{found_apart}
 use Rattle.address_space.proofs.steps.Finding.{finds_live_at, found_at}
@@ -6,12 +6,10 @@ use Rattle.address_space.proofs.steps.WalkedPages.{byte_left, ByteLeft}
 use Rattle.address_space.proofs.Spaces.store_byte_by_walk.Goals as goal
 
 pub home-directory-requires : goal.home-directory-requires
-home-directory-requires c =
-    finds_live_at (image_at c.self.inside) c.args.pid c.args.address Write (rw (← c.self.view_is) at c.requires.finds)
+home-directory-requires c = grind (arith, finds_live_at, image_at, c.requires.finds)
 
 pub put_byte_found-requires-clause-found : goal.put_byte_found-requires-clause-found
-put_byte_found-requires-clause-found c =
-    (found_at (image_at c.self.inside) c.args.pid c.home-directory.result c.args.address Write c.home-directory.ensures (rw (← c.self.view_is) at c.requires.finds)).1
+put_byte_found-requires-clause-found c = grind (arith, found_at, image_at, c.home-directory.ensures, c.requires.finds)
 
 pub put_byte_found-requires-clause-apart : goal.put_byte_found-requires-clause-apart
 put_byte_found-requires-clause-apart c =

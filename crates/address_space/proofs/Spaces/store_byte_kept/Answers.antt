@@ -1,17 +1,14 @@
-use Rattle.address_space.proofs.Prelude.{◌≡◌, ◌∙◌, ap, sym, subst, Some, ◌%◌, [], ◌∷◌, offset_number, Write, walk_of}
-use Rattle.address_space.proofs.Prelude.{is_marked, slot_at}
+use Rattle.address_space.proofs.Prelude.{arith, ◌≡◌, ◌∙◌, sym, subst, Some, walk_of}
 use Rattle.address_space.proofs.Insides.{spaces_at, image_at}
 use Rattle.address_space.proofs.steps.Finding.{finds_live_at, found_at}
 use Rattle.address_space.proofs.steps.WalkedPages.{byte_kept, marked_stored, BytePut}
 use Rattle.address_space.proofs.Spaces.store_byte_kept.Goals as goal
 
 pub home-directory-requires : goal.home-directory-requires
-home-directory-requires c =
-    finds_live_at (image_at c.self.inside) c.args.pid c.args.address Write (rw (← c.self.view_is) at c.requires.finds)
+home-directory-requires c = grind (arith, finds_live_at, image_at, c.requires.finds)
 
 pub write_byte_found-requires : goal.write_byte_found-requires
-write_byte_found-requires c =
-    record { found = (found_at (image_at c.self.inside) c.args.pid c.home-directory.result c.args.address Write c.home-directory.ensures (rw (← c.self.view_is) at c.requires.finds)).1 }
+write_byte_found-requires c = grind (arith, found_at, image_at, c.home-directory.ensures, c.requires.finds)
 
 put : (c : goal.After-struct_known-1) → BytePut c.self.inside c.args.pid c.home-directory.result c.args.address c.args.value c.write_byte_found.new.memory
 put c =
@@ -37,12 +34,7 @@ pub returns-clause-finds : goal.returns-clause-finds
 returns-clause-finds c = rw (← c.self.view_is) ((put c).left.finds)
 
 pub returns-clause-marked : goal.returns-clause-marked
-returns-clause-marked c =
-    rw (← c.self.view_is)
-    (λ slot h.
-    let spaces = (put c).left.spaces in
-    ap (λ S. is_marked S slot) spaces
-    ∙ marked_stored (spaces_at c.self.inside) (slot_at c.args.pid c.args.address) (offset_number c.args.address) (c.args.value % 256 ∷ []) slot h)
+returns-clause-marked c = grind (arith, put, marked_stored, spaces_at)
 
 pub invariant_of-self : goal.invariant_of-self
 invariant_of-self c = (put c).left.kept

@@ -1,4 +1,4 @@
-use Rattle.address_space.proofs.Prelude.{◌≡◌, ◌+◌, ap, ◌∙◌, arith, byte_count, Write, finds_at, image_of}
+use Rattle.address_space.proofs.Prelude.{arith}
 use Rattle.address_space.proofs.steps.Bytes.{stored_four}
 use Rattle.address_space.proofs.standing.FramesStand.{stays_then}
 use Rattle.address_space.proofs.Spaces.store_through.Goals as goal
@@ -14,17 +14,7 @@ returns-in-Four-clause-spaces c =
     c.store_byte_by_walk-in-Four.ensures.spaces)
 
 pub store_byte_by_walk-requires-in-Four-clause-finds : goal.store_byte_by_walk-requires-in-Four-clause-finds
-store_byte_by_walk-requires-in-Four-clause-finds c =
-    let second = c.store_byte_by_walk-second-in-Four in
-    let third = c.store_byte_by_walk-third in
-    let fourth = c.store_byte_by_walk-fourth in
-    let count : byte_count c.args.size ≡ 4 = ap byte_count c.in-Four.is in
-    let a = second.ensures.address in
-    let b = third.ensures.address in
-    let d = fourth.ensures.address in
-    let at : fourth.result.0 ≡ c.args.address + 3 = omega (arith, a, b, d) in
-    fourth.ensures.finds Write fourth.result.0 ∙ third.ensures.finds Write fourth.result.0 ∙ second.ensures.finds Write fourth.result.0
-    ∙ ap (finds_at (image_of c.args.self.now) c.args.pid Write) at ∙ c.requires.finds 3 (omega (arith, count))
+store_byte_by_walk-requires-in-Four-clause-finds c = grind (arith, c.in-Four.is, c.requires.finds)
 
 pub returns-in-Two-clause-stay : goal.returns-in-Two-clause-stay
 returns-in-Two-clause-stay c =

@@ -1,6 +1,6 @@
-use Rattle.address_space.proofs.Prelude.{◌≡◌, ◌+◌, ◌<◌, ◌^◌, ℕ, List, Option, ap, sym, ◌∙◌, subst, arith, Ok, true}
-use Rattle.address_space.proofs.Prelude.{directory_of, byte_count, page_number, Write, walk_of, finds_at, image_of}
-use Rattle.address_space.proofs.Prelude.{is_marked, slot_at, suc}
+use Rattle.address_space.proofs.Prelude
+use Prelude.{◌≡◌, ◌+◌, ◌<◌, ◌^◌, ℕ, List, Option, ap, sym, ◌∙◌, subst, arith, true, suc, Ok, directory_of, byte_count}
+use Prelude.{page_number, Write, walk_of, finds_at, image_of, is_marked, slot_at}
 use Rattle.address_space.proofs.steps.Bytes.{stored_four}
 use Rattle.address_space.proofs.steps.WalkedPages.{put_led, two_led, four_led}
 use Rattle.address_space.proofs.standing.FramesStand.{stays_then}
@@ -59,15 +59,7 @@ store_byte_kept-fourth-requires-clause-finds c =
     ∙ ap (finds_at (image_of c.args.self.now) c.args.pid Write) at ∙ c.requires.finds 2 (omega (arith, count))
 
 pub store_byte_kept-fourth-requires-clause-marked : goal.store_byte_kept-fourth-requires-clause-marked
-store_byte_kept-fourth-requires-clause-marked c =
-    let second = c.store_byte_kept-second-in-Four in
-    let third = c.store_byte_kept-third in
-    let count : byte_count c.args.size ≡ 4 = ap byte_count c.in-Four.is in
-    let a = second.ensures.address in
-    let b = third.ensures.address in
-    let at : third.result.0 ≡ c.args.address + 2 = omega (arith, a, b) in
-    third.ensures.marked (slot_at c.args.pid third.result.0) (second.ensures.marked (slot_at c.args.pid third.result.0)
-    (ap (λ n. is_marked c.args.self.now.spaces (slot_at c.args.pid n)) at ∙ c.requires.marked 2 (omega (arith, count))))
+store_byte_kept-fourth-requires-clause-marked c = grind (arith, c.in-Four.is, c.requires.marked)
 
 pub store_byte_kept-requires-in-Four-clause-finds : goal.store_byte_kept-requires-in-Four-clause-finds
 store_byte_kept-requires-in-Four-clause-finds c =

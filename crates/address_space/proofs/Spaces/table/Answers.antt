@@ -1,5 +1,5 @@
-use Rattle.address_space.proofs.Prelude.{◌≡◌, ℕ, ◌+◌, ◌*◌, ◌≤◌, ap, sym, ◌∙◌, refl, arith, length, Option, Some, None}
-use Rattle.address_space.proofs.Prelude.{IfSome, option_and_then, slot_number, frame_bytes, table_of}
+use Rattle.address_space.proofs.Prelude
+use Prelude.{◌≡◌, ℕ, ◌+◌, ◌*◌, ◌≤◌, sym, ◌∙◌, refl, arith, length, Option, Some, None, IfSome}
 use Rattle.address_space.proofs.steps.Steps.{page_map_of}
 use Rattle.address_space.proofs.Spaces.table.Goals as goal
 
@@ -7,10 +7,7 @@ pub table-requires-clause-map : goal.table-requires-clause-map
 table-requires-clause-map c = page_map_of _ _ _ c.args.pid c.in_ok-directory.directory c.self.invariant.spaces.sound (sym c.space_of.ensures ∙ c.in_ok-directory.was)
 
 pub returns-clause-table : goal.returns-clause-table
-returns-clause-table c =
-    rw (← c.self.view_is)
-    ((rw c.slot_of.ensures at c.table.ensures)
-    ∙ sym (ap (option_and_then (λ d. table_of (frame_bytes c.self.inside.memory) d (slot_number c.args.page))) (sym c.space_of.ensures ∙ c.in_ok-directory.was)))
+returns-clause-table c = grind (arith, c.slot_of.ensures, c.table.ensures, c.space_of.ensures)
 
 pub returns-clause-inside : goal.returns-clause-inside
 returns-clause-inside c = rw (← c.self.view_is) (by c.table.result refl)

@@ -1,4 +1,4 @@
-use Rattle.address_space.proofs.Prelude.{ap, sym, ◌∙◌, is_some, found_of}
+use Rattle.address_space.proofs.Prelude.{arith, ap, sym, ◌∙◌, is_some, found_of}
 use Rattle.address_space.proofs.steps.FoundPages.{found_known, found_mapped}
 use Rattle.address_space.proofs.steps.Placing.{place_found}
 use Rattle.address_space.proofs.Spaces.unmap_at.Goals as goal
@@ -14,5 +14,4 @@ home-directory-requires c =
 
 pub unmap_found-requires-clause-found : goal.unmap_found-requires-clause-found
 unmap_found-requires-clause-found c =
-    rw (← c.self.view_is)
-    (sym (place_found c.self.inside c.args.pid c.args.page) ∙ ap found_of (sym (rw (← c.self.view_is) at c.requires.place)) ∙ sym c.found.ensures ∙ c.unwrap-found.ensures)
+    grind (arith, place_found, c.requires.place, c.found.ensures, c.unwrap-found.ensures)

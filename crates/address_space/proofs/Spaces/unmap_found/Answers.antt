@@ -1,6 +1,7 @@
-use Rattle.address_space.proofs.Prelude.{ap, arith, is_some, frame_bytes, of_page, SlotRemoved}
+use Rattle.address_space.proofs.Prelude.{ap, arith, is_some, frame_bytes, SlotRemoved}
 use Rattle.address_space.proofs.steps.Steps.{page_map_of}
-use Rattle.address_space.proofs.steps.GonePages.{home_table, home_entry, home_count, home_positive, home_counts, home_in_use, gone_table, gone_page, gone_kept}
+use Rattle.address_space.proofs.steps.GonePages.{home_table, home_entry, home_count, home_positive, home_counts}
+use Rattle.address_space.proofs.steps.GonePages.{home_in_use, gone_table, gone_page, gone_kept}
 use Rattle.address_space.proofs.steps.RegionDrops.{entry_gone}
 use Rattle.address_space.proofs.standing.FramesStand.{frames_stay}
 use Rattle.address_space.proofs.steps.LooseFrames.{loose_gone}
@@ -57,9 +58,7 @@ pub returns-clause-frames : goal.returns-clause-frames
 returns-clause-frames c = rw (← c.self.view_is) ((gone c).length)
 
 pub returns-clause-stay : goal.returns-clause-stay
-returns-clause-stay c =
-    rw (← c.self.view_is)
-    (frames_stay (of_page c.args.pid c.args.page) c.self.inside.directories c.self.inside.memory c.clear_found_entry-freed.new.memory c.self.inside.frames c.free_table.new.frames c.self.invariant.spaces.sound (gone c).after.sound (gone c).stay)
+returns-clause-stay c = grind (arith, frames_stay, gone, c.self.invariant.spaces.sound)
 
 pub returns-clause-words : goal.returns-clause-words
 returns-clause-words c =

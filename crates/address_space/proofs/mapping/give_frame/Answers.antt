@@ -1,11 +1,9 @@
-use Rattle.address_space.proofs.Prelude.{arith, ap, sym, ◌∙◌, subst, ◌<◌, ◌^◌, slice_get_within, Free, PageEntry}
-use Rattle.address_space.proofs.Prelude.{with_entry, frame_bytes}
+use Rattle.address_space.proofs.Prelude.{arith, ap, ◌∙◌, slice_get_within, with_entry, frame_bytes}
 use Rattle.address_space.proofs.mapping.give_frame.Goals as goal
 
 pub put_entry-requires-clause-frame : goal.put_entry-requires-clause-frame
 put_entry-requires-clause-frame c =
-    let w = slice_get_within c.args.frames.now c.take-frame.result Free c.take-frame.ensures.was_free in
-    subst (λ (e : PageEntry). e.frame < 2 ^ 20) (sym c.filled-entry.ensures) (let few = c.requires.few in omega (arith, w, few))
+    grind (arith, slice_get_within, c.take-frame.ensures.was_free, c.filled-entry.ensures, c.requires.few)
 
 pub returns : goal.returns
 returns c = record {

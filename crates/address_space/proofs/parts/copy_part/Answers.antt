@@ -1,5 +1,4 @@
-use Rattle.std.proofs.Common.{◌≡◌, ◌+◌, ◌-◌, ◌∙◌, length, arith}
-use Rattle.phys_memory.proofs.Frames.{part-frame}
+use Rattle.address_space.proofs.Prelude.{◌≡◌, ◌+◌, ◌-◌, ◌∙◌, length, arith, part-frame}
 use Rattle.address_space.proofs.parts.copy_part.Goals as goal
 
 pub returns : goal.returns

@@ -4,9 +4,7 @@ use Rattle.address_space.proofs.processor.found_place.Goals as goal
 
 pub prove-unreachable-requires : goal.prove-unreachable-requires
 prove-unreachable-requires c =
-    let inside = walk_inside c.args.memory.now c.args.directory c.args.address c.unwrap-frame.result c.args.access (sym c.walk.ensures ∙ c.unwrap-frame.ensures) in
-    let same = c.frame.view_is in
-    omega (arith, inside, same, c.frames-frames.ensures.length, c.if-prove.true)
+    grind (arith, walk_inside, c.walk.ensures, c.unwrap-frame.ensures, c.frames-frames.ensures.length, c.if-prove.true)
 
 pub returns-clause-place : goal.returns-clause-place
 returns-clause-place c =

@@ -1,5 +1,5 @@
-use Rattle.std.proofs.Common.{rules, ◌≡◌, ◌≢◌, Some, sym, ap, ◌∙◌, true, false}
-use Rattle.std.specs.Prelude.{slice_get, slice_set}
+use Rattle.std.proofs.Common.{rules, ◌≡◌, ◌≢◌, Some, sym, ap, ◌∙◌, true, false, arith}
+use Rattle.std.specs.Prelude.{slice_get}
 use Rattle.std.proofs.lemmas.Option.{slice_get_within}
 use Rattle.alloc_table.specs.declared.Role.TheVariants.{Free}
 use Rattle.alloc_table.specs.Roles.{released}
@@ -9,14 +9,11 @@ use Rattle.alloc_table.proofs.FrameTable.release.Goals as goal
 
 pub put_back-requires-clause-in_use : goal.put_back-requires-clause-in_use
 put_back-requires-clause-in_use c =
-    let was = ap (λ l. slice_get l c.args.frame) c.self.view_is ∙ c.requires.is in
-    (put_back-may c.self.inside.ledger c.self.inside.roles.items c.self.invariant c.args.frame c.requires.role was c.requires.in_use).2
+    grind (arith, put_back-may, c.requires.is, c.self.invariant, c.requires.role, c.requires.in_use)
 
 pub invariant_of-self : goal.invariant_of-self
 invariant_of-self c =
-    let was = ap (λ l. slice_get l c.args.frame) c.self.view_is ∙ c.requires.is in
-    let free : c.after_release-role.result ≡ Free = search rules in
-    rw (c.put_back.ensures, c.frame.view_is, free) (table-freed c.self.inside.ledger c.self.inside.roles.items c.self.invariant c.args.frame c.requires.role was c.requires.in_use)
+    grind (arith, table-freed, c.requires.is, c.put_back.ensures, c.self.invariant, c.requires.role, c.requires.in_use)
 
 pub invariant_of-self-else-freed : goal.invariant_of-self-else-freed
 invariant_of-self-else-freed c =
@@ -29,14 +26,8 @@ invariant_of-self-else-freed c =
 
 pub returns-then-freed-clause-freed : goal.returns-then-freed-clause-freed
 returns-then-freed-clause-freed c =
-    let was = ap (λ l. slice_get l c.args.frame) c.self.view_is ∙ c.requires.is in
-    let free : c.after_release-role.result ≡ Free = search rules in
-    let now = get-set_same c.self.inside.roles.items c.args.frame c.after_release-role.result (slice_get_within c.self.inside.roles.items c.args.frame c.requires.role was) in
-    (λ _. rw c.frame.view_is (now ∙ ap Some free), λ _. c.if-freed.true)
+    grind (arith, get-set_same, slice_get_within, c.requires.is, c.requires.role, c.if-freed.true)
 
 pub returns-else-freed-clause-freed : goal.returns-else-freed-clause-freed
 returns-else-freed-clause-freed c =
-    let was = ap (λ l. slice_get l c.args.frame) c.self.view_is ∙ c.requires.is in
-    let other : c.after_release-role.result ≢ Free = search rules in
-    let now = get-set_same c.self.inside.roles.items c.args.frame c.after_release-role.result (slice_get_within c.self.inside.roles.items c.args.frame c.requires.role was) in
-    (λ h. (let e : true ≡ false = sym h ∙ c.if-freed.false in cc), λ h. absurd (other (role_is c.after_release-role.result Free (sym now ∙ ap (λ f. slice_get (slice_set c.self.inside.roles.items f c.after_release-role.result) c.args.frame) (sym c.frame.view_is) ∙ h))))
+    grind (arith, get-set_same, slice_get_within, role_is, c.requires.is, c.requires.role, c.if-freed.false)

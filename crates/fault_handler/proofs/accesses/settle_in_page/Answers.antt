@@ -1,6 +1,7 @@
-use Rattle.fault_handler.proofs.Prelude.{◌≡◌, [], ◌∷◌, ap, sym, subst, ◌∙◌, not, true, false, ◌&&◌, page_number}
+use Rattle.std.proofs.Common.{arith}
+use Rattle.fault_handler.proofs.Prelude.{◌≡◌, ap, sym, subst, ◌∙◌, not, true, false, ◌&&◌, page_number}
 use Rattle.fault_handler.proofs.Prelude.{at_page, is_lazy_at, takes_stores, touched-there, stays_then, stays_most, Read}
-use Rattle.fault_handler.proofs.Prelude.{Write, access_value, after_access, memory_of, State, is_mapped, overdrawn}
+use Rattle.fault_handler.proofs.Prelude.{Write, access_value, after_access, memory_of, State, is_mapped}
 use Rattle.fault_handler.proofs.Prelude.{goes_on, step_at}
 use Rattle.fault_handler.proofs.Filled.{fills_one}
 use Rattle.fault_handler.proofs.Settled.{ready, first_room, mapped_alone, mapped_right, mapped_value, mapped_after}
@@ -81,8 +82,4 @@ returns-in-Write-clause-stay c = rw c.in-Write.is
 
 pub map_by_step-mapped-requires-clause-room : goal.map_by_step-mapped-requires-clause-room
 map_by_step-mapped-requires-clause-room c =
-    let v = c.args.processes.now in
-    let p = c.args.pid in
-    let goes = ready (step_at v p c.args.access) v.state p c.args.address c.args.size c.args.access (sym (ap goes_on c.requires.plan)) in
-    subst (λ n. overdrawn v.state p (n ∷ []) ≡ false) (sym c.page_of-page.ensures.value)
-    (first_room v.state p c.args.address c.args.size goes.room)
+    grind (arith, ready, first_room, c.requires.plan, c.page_of-page.ensures.value)

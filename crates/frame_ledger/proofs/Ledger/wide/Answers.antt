@@ -1,12 +1,10 @@
 use Rattle.std.proofs.Common.{◌≡◌, ◌-◌, ap, ◌∙◌, arith}
-use Rattle.page_words.specs.FiniteSet as set
 use Rattle.frame_ledger.proofs.Chains.{free_from, free_from-opening, contains-free_from}
 use Rattle.frame_ledger.proofs.Ledger.wide.Goals as goal
 
 pub put_back-requires-clause-in_use : goal.put_back-requires-clause-in_use
 put_back-requires-clause-in_use c =
-    ap (λ l. set.contains l.free (c.loop-frame.frame - 1)) c.loop-frame.invariant.free
-    ∙ contains-free_from (c.loop-frame.frame - 1) c.loop-frame.frame c.args.frames (omega (arith, c.loop-frame-test.true))
+    grind (arith, contains-free_from, c.loop-frame.invariant.free, c.loop-frame-test.true)
 
 pub returns-clause-ledger : goal.returns-clause-ledger
 returns-clause-ledger c =

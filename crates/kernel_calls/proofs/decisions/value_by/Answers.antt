@@ -1,24 +1,14 @@
-use Rattle.std.proofs.Common.{ap, sym, ◌∙◌, is_some}
-use Rattle.std.specs.Option.{option_map}
-use Rattle.page_words.specs.Addresses.{page_number, second_page}
+use Rattle.kernel_calls.proofs.Prelude.{ap, sym, ◌∙◌, arith, option_map, page_number, second_page, Read, goes_on}
+use Rattle.kernel_calls.proofs.Prelude.{step_at, ready, all_user, has_place, place_known, placed_second}
 use Rattle.address_space.specs.Places.{place_in}
-use Rattle.table_walk.specs.declared.Access.TheVariants.{Read}
-use Rattle.process_table.proofs.Placed.{has_place, place_known, placed_second}
 use Rattle.process_table.specs.declared.places.Places.{Places}
-use Rattle.fault_handler.specs.Plans.{goes_on, step_at}
-use Rattle.fault_handler.proofs.Settled.{ready, all_user}
 use Rattle.kernel_calls.proofs.decisions.value_by.Goals as goal
 
 pub unwrap-place-requires : goal.unwrap-place-requires
-unwrap-place-requires c =
-    let v = c.args.processes.now in
-    ap (λ (x : Places). is_some x.first) c.requires.places
-    ∙ has_place v c.args.pid (page_number c.args.address) (all_user c.args.address c.args.size (ready (step_at v c.args.pid Read) v.state c.args.pid c.args.address c.args.size Read (sym (ap goes_on c.requires.plan) ∙ ap goes_on c.in-Ready.is)).outside).0
+unwrap-place-requires c = grind (arith, has_place, all_user, ready, c.requires.places, c.requires.plan, c.in-Ready.is)
 
 pub peek_at-requires-clause-user : goal.peek_at-requires-clause-user
-peek_at-requires-clause-user c =
-    let v = c.args.processes.now in
-    all_user c.args.address c.args.size (ready (step_at v c.args.pid Read) v.state c.args.pid c.args.address c.args.size Read (sym (ap goes_on c.requires.plan) ∙ ap goes_on c.in-Ready.is)).outside
+peek_at-requires-clause-user c = grind (arith, all_user, ready, c.requires.plan, c.in-Ready.is)
 
 pub peek_at-requires-clause-first : goal.peek_at-requires-clause-first
 peek_at-requires-clause-first c =

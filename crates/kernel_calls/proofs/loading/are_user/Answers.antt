@@ -1,5 +1,4 @@
-use Rattle.std.proofs.Common.{◌≡◌, ◌+◌, ◌∙◌, ℕ, sym, ap, arith}
-use Rattle.page_words.specs.Addresses.{page_number, is_user_page}
+use Rattle.kernel_calls.proofs.Prelude.{◌≡◌, ◌∙◌, sym, ap, arith, page_number, is_user_page}
 use Rattle.kernel_calls.proofs.LoadedPages.{user_test, fails_first, passes_first}
 use Rattle.kernel_calls.proofs.loading.are_user.Goals as goal
 
@@ -13,20 +12,14 @@ returns-then-not-in_user_range c =
 
 pub loop-done-preserved : goal.loop-done-preserved
 loop-done-preserved c =
-    let at = c.loop-done.at in
-    let i = c.loop-done.invariant in
-    let done : ℕ = c.loop-done.done in
-    let part : ℕ = c.count_in_page-part.result in
-    let e = c.count_in_page-part.ensures in
-    let most = e.most in
-    let within = i.within in
-    let place = i.place in
-    let view = c.at.view_is in
-    let below = c.loop-done-test.true in
-    let next : c.at.inside.0 + part ≡ at + part = omega (arith, view) in
-    let test = ap is_user_page (sym c.page_of.ensures.value) ∙ sym (user_test c.page_of.result c.in_user_range.result c.in_user_range.ensures) in
-    record {
-      place = omega (arith, next, place);
-      within = omega (arith, most, within, below);
-      rest = i.rest ∙ passes_first is_user_page at (c.at.inside.0 + part) c.args.count done part next e.some most e.within e.whole (test ∙ c.if-not-in_user_range.false);
-    }
+    grind (
+      arith,
+      user_test,
+      passes_first,
+      c.loop-done.invariant,
+      c.count_in_page-part.ensures,
+      c.loop-done-test.true,
+      c.page_of.ensures.value,
+      c.in_user_range.ensures,
+      c.if-not-in_user_range.false,
+    )

@@ -1,7 +1,4 @@
-use Rattle.std.proofs.Common.{◌≡◌, ◌+◌, ◌-◌, ◌≤◌}
-use Rattle.std.specs.List.{list_all}
-use Rattle.page_words.specs.Addresses.{is_user_page}
-use Rattle.kernel_calls.specs.Loaded.{pages_under}
+use Rattle.kernel_calls.proofs.Prelude.{◌≡◌, ◌+◌, ◌-◌, ◌≤◌, list_all, is_user_page, pages_under}
 use Rattle.kernel_calls.proofs.loading.are_user.Given as goal
 
 -- the pages so far pass the test, so that those left decide

@@ -1,5 +1,4 @@
-use Rattle.std.proofs.Common.{◌≡◌, ℕ, ◌+◌, ◌*◌, ◌-◌, ◌∙◌, ap, length, take, drop, arith}
-use Rattle.phys_memory.proofs.Frames.{part-frame}
+use Rattle.kernel_calls.proofs.Prelude.{◌≡◌, ℕ, ◌+◌, ◌*◌, ◌-◌, ◌∙◌, ap, length, take, drop, arith, part-frame}
 use Rattle.kernel_calls.proofs.peeking.copy_part.Goals as goal
 
 pub returns : goal.returns

@@ -1,9 +1,5 @@
-use Rattle.std.proofs.Common.{◌≡◌, ap, sym, ◌∙◌, true, false, is_err}
-use Rattle.std.specs.Prelude.{if◌then◌else◌}
-use Rattle.address_space.proofs.standing.FramesStand.{stays_more}
-use Rattle.process_table.specs.View.{View}
-use Rattle.kernel_calls.specs.Gone.{gone_of_call}
-use Rattle.kernel_calls.specs.Machine.{answer, completes}
+use Rattle.kernel_calls.proofs.Prelude.{◌≡◌, ap, sym, ◌∙◌, true, false, is_err, if◌then◌else◌, stays_more, View}
+use Rattle.kernel_calls.proofs.Prelude.{gone_of_call, answer, completes}
 use Rattle.kernel_calls.proofs.Decided.{accept-told, done_by, next-stays}
 use Rattle.kernel_calls.proofs.replies.reply_accept.Goals as goal
 

@@ -1,11 +1,9 @@
-use Rattle.std.proofs.Common.{◌≡◌, ap, sym, ◌∙◌, true, false, Err, is_err}
+use Rattle.kernel_calls.proofs.Prelude.{◌≡◌, ap, sym, ◌∙◌, true, false, Err, is_err, arith, memory_of, View, answer}
+use Rattle.kernel_calls.proofs.Prelude.{completes}
 use Rattle.table_walk.specs.declared.PageFault.{PageFault}
-use Rattle.process_table.specs.Image.{memory_of}
-use Rattle.process_table.specs.View.{View}
-use Rattle.kernel_calls.specs.Machine.{answer, completes}
-use Rattle.kernel_calls.specs.declared.calls.Reply.TheVariants as reply
 use Rattle.kernel_calls.proofs.Decided.{next-stays}
 use Rattle.kernel_calls.proofs.InPage.{answer_is, reply_by, stay_is, value_goes}
+use Rattle.kernel_calls.specs.declared.calls.Reply.TheVariants as reply
 use Rattle.kernel_calls.proofs.replies.reply_access.Goals as goal
 
 pub returns-in-Ok-clause-stay : goal.returns-in-Ok-clause-stay
@@ -33,10 +31,7 @@ returns-in-Err-Refused-clause-state c =
 
 pub returns-in-Ok-clause-reply : goal.returns-in-Ok-clause-reply
 returns-in-Ok-clause-reply c =
-    let v = c.args.processes.now in
-    let e = c.args.event.now in
-    let told = answer_is v e c.args.address c.args.size c.args.access c.args.value c.requires c.access.result c.access.ensures.result in
-    c.value_told.ensures ∙ sym (ap (reply_by c.args.access) c.in-Ok.is) ∙ told
+    grind (arith, answer_is, reply_by, c.requires, c.access.ensures.result, c.value_told.ensures, c.in-Ok.is)
 
 pub returns-in-Err-Fault-clause-reply : goal.returns-in-Err-Fault-clause-reply
 returns-in-Err-Fault-clause-reply c =

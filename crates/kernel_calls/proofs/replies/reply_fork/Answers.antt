@@ -1,12 +1,7 @@
-use Rattle.std.proofs.Common.{refl, ap, sym, ◌∙◌}
-use Rattle.address_space.specs.Stays.{none_goes}
-use Rattle.process_table.specs.Calls.{fork_refusal}
-use Rattle.process_table.specs.State.{child_of}
-use Rattle.kernel_calls.specs.Decisions.{child_told}
-use Rattle.kernel_calls.specs.Machine.{completes}
-use Rattle.kernel_calls.specs.declared.calls.Call.TheVariants as call
+use Rattle.kernel_calls.proofs.Prelude.{refl, ap, sym, ◌∙◌, none_goes, fork_refusal, child_of, child_told, completes}
 use Rattle.kernel_calls.proofs.Lazies.{fork_leaves, was_made}
 use Rattle.kernel_calls.proofs.Tried.{child-told, state_is, stay_is, kept_is}
+use Rattle.kernel_calls.specs.declared.calls.Call.TheVariants as call
 use Rattle.kernel_calls.proofs.replies.reply_fork.Goals as goal
 
 pub returns : goal.returns

@@ -1,11 +1,7 @@
-use Rattle.std.proofs.Common.{refl, ap, sym, ◌∙◌}
-use Rattle.address_space.specs.Stays.{none_goes}
-use Rattle.process_table.specs.Calls.{map_refusal}
-use Rattle.kernel_calls.specs.Decisions.{done_told}
-use Rattle.kernel_calls.specs.Machine.{completes}
-use Rattle.kernel_calls.specs.declared.calls.Call.TheVariants as call
+use Rattle.kernel_calls.proofs.Prelude.{refl, ap, sym, ◌∙◌, none_goes, map_refusal, done_told, completes}
 use Rattle.kernel_calls.proofs.Lazies.{map_leaves, was_done}
 use Rattle.kernel_calls.proofs.Tried.{done-told, state_is, stay_is, kept_is}
+use Rattle.kernel_calls.specs.declared.calls.Call.TheVariants as call
 use Rattle.kernel_calls.proofs.replies.reply_map.Goals as goal
 
 pub returns : goal.returns

@@ -1,11 +1,6 @@
-use Rattle.std.proofs.Common.{refl, ap, sym, ◌∙◌}
-use Rattle.address_space.specs.Stays.{none_goes}
-use Rattle.process_table.specs.Calls.{spawn_refusal}
-use Rattle.process_table.specs.State.{child_of}
-use Rattle.kernel_calls.specs.Decisions.{child_told}
-use Rattle.kernel_calls.specs.Machine.{completes}
-use Rattle.kernel_calls.specs.declared.calls.Call.TheVariants as call
+use Rattle.kernel_calls.proofs.Prelude.{refl, ap, sym, ◌∙◌, none_goes, spawn_refusal, child_of, child_told, completes}
 use Rattle.kernel_calls.proofs.Tried.{child-told, state_is, stay_is, kept_is}
+use Rattle.kernel_calls.specs.declared.calls.Call.TheVariants as call
 use Rattle.kernel_calls.proofs.replies.reply_spawn.Goals as goal
 
 pub returns : goal.returns

@@ -1,10 +1,6 @@
-use Rattle.std.proofs.Common.{refl, ap, sym, ◌∙◌}
-use Rattle.address_space.specs.Stays.{none_goes}
-use Rattle.process_table.specs.Calls.{withdraw_refusal}
-use Rattle.kernel_calls.specs.Decisions.{done_told}
-use Rattle.kernel_calls.specs.Machine.{completes}
-use Rattle.kernel_calls.specs.declared.calls.Call.TheVariants as call
+use Rattle.kernel_calls.proofs.Prelude.{refl, ap, sym, ◌∙◌, none_goes, withdraw_refusal, done_told, completes}
 use Rattle.kernel_calls.proofs.Tried.{done-told, state_is, stay_is, kept_is}
+use Rattle.kernel_calls.specs.declared.calls.Call.TheVariants as call
 use Rattle.kernel_calls.proofs.replies.reply_withdraw.Goals as goal
 
 pub returns : goal.returns

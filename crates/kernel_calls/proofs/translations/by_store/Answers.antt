@@ -1,5 +1,4 @@
-use Rattle.std.proofs.Common.{sym, ap, ◌∙◌}
-use Rattle.kernel_calls.specs.Translations.{of_plan}
+use Rattle.kernel_calls.proofs.Prelude.{sym, ap, ◌∙◌, of_plan}
 use Rattle.kernel_calls.proofs.Allowed.{store_ended}
 use Rattle.kernel_calls.proofs.translations.by_store.Goals as goal
 

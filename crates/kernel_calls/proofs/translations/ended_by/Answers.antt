@@ -1,24 +1,13 @@
-use Rattle.std.proofs.Common.{refl, ap, ◌∙◌}
-use Rattle.process_table.specs.Calls.{unmap_refusal, exit_refusal}
-use Rattle.kernel_calls.specs.Translations.{if_allowed}
-use Rattle.kernel_calls.specs.declared.calls.Call.TheVariants as call
-use Rattle.kernel_calls.specs.declared.translations.Ended.TheVariants as end
+use Rattle.kernel_calls.proofs.Prelude.{refl, ap, ◌∙◌, arith, if_allowed}
 use Rattle.kernel_calls.proofs.Allowed.{allowed, protect_ended, accept_ended, nothing_ended}
+use Rattle.kernel_calls.specs.declared.calls.Call.TheVariants as call
 use Rattle.kernel_calls.proofs.translations.ended_by.Goals as goal
 
 pub returns-in-Unmap : goal.returns-in-Unmap
-returns-in-Unmap c =
-    let v = c.args.processes.now in
-    let p = c.args.event.now.pid in
-    c.if_allowed.ensures ∙ ap (λ t. if_allowed t (end.Page p c.in-Unmap.page)) c.can_unmap.ensures
-    ∙ allowed v c.args.event.now (call.Unmap c.in-Unmap.page) (unmap_refusal v.state p c.in-Unmap.page) _ (end.Page p c.in-Unmap.page) c.in-Unmap.is refl (λ none. refl)
+returns-in-Unmap c = grind (arith, allowed, c.if_allowed.ensures, c.can_unmap.ensures, c.in-Unmap.is)
 
 pub returns-in-Exit : goal.returns-in-Exit
-returns-in-Exit c =
-    let v = c.args.processes.now in
-    let p = c.args.event.now.pid in
-    c.if_allowed-in-Exit.ensures ∙ ap (λ t. if_allowed t (end.Space p)) c.can_exit.ensures
-    ∙ allowed v c.args.event.now call.Exit (exit_refusal v.state p) 0 (end.Space p) c.in-Exit.is refl (λ none. refl)
+returns-in-Exit c = grind (arith, allowed, c.if_allowed-in-Exit.ensures, c.can_exit.ensures, c.in-Exit.is)
 
 pub returns-in-Protect : goal.returns-in-Protect
 returns-in-Protect c =

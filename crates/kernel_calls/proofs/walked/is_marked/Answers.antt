@@ -1,13 +1,12 @@
-use Rattle.std.proofs.Common.{◌≡◌, true, false, ◌&&◌, Option, Some, None, refl, unwrap_or}
+use Rattle.kernel_calls.proofs.Prelude.{◌≡◌, true, false, ◌&&◌, Option, Some, unwrap_or, arith, Slot, Cell, fresh}
+use Rattle.kernel_calls.proofs.Prelude.{at_page}
 use Rattle.page_words.specs.FiniteMap as map
-use Rattle.address_space.specs.Spaces.{Slot, Cell, fresh, at_page}
 use Rattle.kernel_calls.proofs.walked.is_marked.Goals as goal
 
 -- a slot where nothing can be is not marked
 unmapped : (slot : Slot) (found : Option Cell) → ((cell : Cell) → found ≡ Some cell → ⊥)
     → false ≡ ((unwrap_or found (fresh slot true)).accessed && (unwrap_or found (fresh slot true)).dirty)
-unmapped slot None never = refl
-unmapped slot (Some cell) never = absurd (never cell refl)
+unmapped slot x1 never = grind arith
 
 -- a page that is mapped lies in the user range
 pub returns-then-not-in_user_range : goal.returns-then-not-in_user_range

@@ -1,5 +1,4 @@
-use Rattle.page_words.specs.Addresses.{page_number}
-use Rattle.table_walk.specs.declared.Access.TheVariants.{Write}
+use Rattle.kernel_calls.proofs.Prelude.{page_number, Write}
 use Rattle.kernel_calls.proofs.KeptAccesses.{live, all_lead}
 use Rattle.kernel_calls.proofs.walked.store_kept.Goals as goal
 

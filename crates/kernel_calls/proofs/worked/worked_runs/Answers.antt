@@ -1,4 +1,4 @@
-use Rattle.std.proofs.Common.{refl}
+use Rattle.kernel_calls.proofs.Prelude.{refl}
 use Rattle.kernel_calls.proofs.worked.worked_runs.Goals as goal
 
 pub returns-clause-empty : goal.returns-clause-empty

@@ -1,4 +1,4 @@
-use Rattle.std.proofs.Common.{refl}
+use Rattle.kernel_calls.proofs.Prelude.{refl}
 use Rattle.kernel_calls.proofs.worked.worked_runs_of_authority.Goals as goal
 
 pub returns-clause-passed_on : goal.returns-clause-passed_on

@@ -1,15 +1,11 @@
-use Rattle.std.proofs.Common.{◌≡◌, filter, not, ◌==◌, ap, ◌∙◌, sym, arith}
+use Rattle.std.proofs.Common.{filter, not, ◌==◌, ap, ◌∙◌, arith}
 use Rattle.page_sharing.specs.Offers.{without_process}
-use Rattle.page_sharing.specs.Listed.{offers_by, all_pending}
+use Rattle.page_sharing.specs.Listed.{offers_by}
 use Rattle.page_sharing.proofs.ListSteps.{kept-clear, kept-remove_target, offers_in-remove_process, offers_in-no_process}
 use Rattle.page_sharing.proofs.Offers.drop_process.Goals as goal
 
 pub returns-then-self-eq0 : goal.returns-then-self-eq0
-returns-then-self-eq0 c =
-    let none : all_pending c.self.inside.lists ≡ 0 = omega (arith, c.self.invariant.counted, c.if-self-eq0.true) in
-    sym c.self.view_is
-    ∙ offers_in-no_process c.self.inside.lists c.args.pid none
-    ∙ ap (λ view. without_process view c.args.pid) c.self.view_is
+returns-then-self-eq0 c = grind (arith, offers_in-no_process, c.self.invariant.counted, c.if-self-eq0.true)
 
 pub remove_all_to-requires : goal.remove_all_to-requires
 remove_all_to-requires c = omega (arith, c.self.invariant.counted, c.remove_all_by.ensures.gone)

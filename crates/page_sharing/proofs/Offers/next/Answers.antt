@@ -1,18 +1,14 @@
-use Rattle.std.proofs.Common.{◌≡◌, ℕ, ◌≤◌, ◌∙◌, sym, ap, subst}
+use Rattle.std.proofs.Common.{◌≡◌, ℕ, sym, subst, arith}
 use Rattle.page_words.specs.FiniteMap as map
-use Rattle.page_sharing.specs.Offers.{Offers, offer_key, offer_number}
-use Rattle.page_sharing.specs.Listed.{number_in, offers_by, IsDistinct, IsFirstFrom}
+use Rattle.page_sharing.specs.Offers.{offer_key, offer_number}
+use Rattle.page_sharing.specs.Listed.{IsDistinct, IsFirstFrom}
 use Rattle.page_sharing.proofs.ListSteps.{right_in, get-offers_in}
 use Rattle.page_sharing.proofs.FirstOffers.{first_pending, first_later, first_least, first_none}
 use Rattle.page_sharing.proofs.Offers.next.Goals as goal
 
 -- the map, by the list of the offerer
 listed : (c : goal.After-first_from) (p t : ℕ) → map.get c.args.self.now (offer_key c.args.giver p t) ≡ right_in c.list_by.result.now p t
-listed c p t =
-    let key = offer_key c.args.giver p t in
-    sym (ap (λ (m : Offers). map.get m key) c.self.view_is)
-    ∙ get-offers_in c.self.inside.lists key
-    ∙ sym (ap (λ xs. right_in xs p t) c.list_by.ensures)
+listed c p t = grind (arith, get-offers_in, right_in, c.list_by.ensures)
 
 here : (c : goal.After-first_from) → IsFirstFrom (offer_number c.args.page c.args.target) c.list_by.result.now c.first_from.result
 here c = subst (λ (n : ℕ). IsFirstFrom n c.list_by.result.now c.first_from.result) c.number_of.ensures c.first_from.ensures

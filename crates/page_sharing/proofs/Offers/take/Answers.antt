@@ -1,4 +1,4 @@
-use Rattle.std.proofs.Common.{◌≡◌, true, false, Some, None, ap, sym, ◌∙◌, is_some, refl, arith, subst}
+use Rattle.std.proofs.Common.{◌≡◌, Some, ap, sym, ◌∙◌, arith, subst}
 use Rattle.std.specs.Prelude.{position}
 use Rattle.std.specs.Option.{option_map}
 use Rattle.page_words.specs.FiniteMap as map
@@ -10,12 +10,7 @@ use Rattle.page_sharing.proofs.Offers.take.Goals as goal
 
 pub returns-in_default-clause-absent : goal.returns-in_default-clause-absent
 returns-in_default-clause-absent c =
-    let lists = c.self.inside.lists in
-    let key = offer_key c.args.giver c.args.page c.args.target in
-    let at : position (is_of c.args.page c.args.target) (offers_by lists c.args.giver) ≡ None = ap (position (is_of c.args.page c.args.target)) (sym c.list_by.ensures) ∙ sym c.place_of.ensures ∙ c.in_default.is in
-    let none = ap (λ view. map.contains_key view key) (sym c.self.view_is)
-    ∙ ap is_some (get-offers_in lists key ∙ ap (option_map (λ (o : Offer). o.write)) (none_at c.args.page c.args.target (offers_by lists c.args.giver) at)) in
-    (λ e. none, λ e. refl)
+    grind (arith, get-offers_in, none_at, c.list_by.ensures, c.place_of.ensures, c.in_default.is)
 
 pub invariant_of-self : goal.invariant_of-self
 invariant_of-self c =
@@ -47,6 +42,4 @@ returns-clause-taken c =
     ∙ ap (λ view. map.remove view (offer_key c.args.giver c.args.page c.args.target)) c.self.view_is
 
 pub returns-clause-absent : goal.returns-clause-absent
-returns-clause-absent c =
-    let there = ap is_some (sym (returns-clause-right c)) in
-    (λ e. cc, λ none. (let f : true ≡ false = there ∙ none in cc))
+returns-clause-absent c = grind (arith, returns-clause-right)

@@ -1,5 +1,11 @@
-use Rattle.process_table.proofs.Apart.{mapped_alike, cost_alike, given_alike, no_room_alike, lacks_room_alike, cell_alike, group_alike, loaded_alike, map_refusal_alike, unmap_refusal_alike, protect_refusal_alike, withdraw_refusal_alike, exit_refusal_alike, map_alike, protect_alike, load_alike, store_alike, unmap_alike, withdraw_alike}
-use Rattle.process_table.proofs.ApartOthers.{load_leaves, store_leaves, map_leaves, unmap_leaves, protect_leaves, offer_leaves, withdraw_leaves, accept_leaves, spawn_leaves, fork_leaves, exit_leaves, spawn_alike, fork_alike}
+use Rattle.process_table.proofs.Prelude.{arith}
+use Rattle.process_table.proofs.Apart.{mapped_alike, cost_alike, given_alike, no_room_alike, lacks_room_alike}
+use Rattle.process_table.proofs.Apart.{cell_alike, group_alike, loaded_alike, map_refusal_alike, unmap_refusal_alike}
+use Rattle.process_table.proofs.Apart.{protect_refusal_alike, withdraw_refusal_alike, exit_refusal_alike, map_alike}
+use Rattle.process_table.proofs.Apart.{protect_alike, load_alike, store_alike, unmap_alike, withdraw_alike}
+use Rattle.process_table.proofs.ApartOthers.{load_leaves, store_leaves, map_leaves, unmap_leaves, protect_leaves}
+use Rattle.process_table.proofs.ApartOthers.{offer_leaves, withdraw_leaves, accept_leaves, spawn_leaves, fork_leaves}
+use Rattle.process_table.proofs.ApartOthers.{exit_leaves, spawn_alike, fork_alike}
 use Rattle.process_table.proofs.laws.processes_apart_stand_alone.Goals as goal
 
 pub returns : goal.returns
@@ -14,13 +20,7 @@ returns c = record {
     λ page s t p q a. no_room_alike s t p q a page,
     λ addr size s t p q a. lacks_room_alike s t p q a addr size,
   );
-  values = (
-    λ page s t p q a. cell_alike s t p q a page,
-    λ page s t p q a. group_alike s t p q a page,
-    λ addr size s t p q a. loaded_alike s t p q a addr size,
-    λ s t p q a. cost_alike s t p q a,
-    λ s t p q a. given_alike s t p q a,
-  );
+  values = grind (arith, cell_alike, group_alike, loaded_alike, cost_alike, given_alike);
   calls = (
     λ addr size s t p q a. load_alike s t p q addr size a,
     λ addr size value s t p q a. store_alike s t p q addr size value a,

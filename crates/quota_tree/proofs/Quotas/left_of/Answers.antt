@@ -1,4 +1,5 @@
-use Rattle.quota_tree.proofs.Prelude.{sym, ap, ◌∙◌, container_of, room_of}
+use Rattle.std.proofs.Common.{arith}
+use Rattle.quota_tree.proofs.Prelude.{sym, ap, ◌∙◌, container_of}
 use Rattle.quota_tree.proofs.Views.{container_of-kept, room_of-container}
 use Rattle.quota_tree.proofs.Quotas.left_of.Goals as goal
 
@@ -8,8 +9,4 @@ left_of-requires c =
     (c.self.invariant.each c.args.pid c.args.container.now at).within
 
 pub returns : goal.returns
-returns c =
-    let at = sym (container_of-kept c.self.inside.containers c.self.invariant c.args.pid) ∙ ap (λ view. container_of view c.args.pid) c.self.view_is ∙ c.requires in
-    c.left_of.ensures
-    ∙ sym (room_of-container c.self.inside.containers c.self.invariant c.args.pid c.args.container.now at)
-    ∙ ap (λ view. room_of view c.args.pid) c.self.view_is
+returns c = grind (arith, container_of-kept, room_of-container, c.self.invariant, c.requires, c.left_of.ensures)

@@ -9,9 +9,7 @@ pub live-container-requires : goal.live-container-requires
 live-container-requires c = is_some-live c.self.inside.containers c.args.pid (ap (λ view. map.contains_key view.book c.args.pid) c.self.view_is ∙ c.requires.live)
 
 pub refunded-requires : goal.refunded-requires
-refunded-requires c =
-    let used = sym (used_of-container c.self.inside.containers c.args.pid c.live-container.result c.live-container.ensures.container) ∙ ap (λ view. used_of view c.args.pid) c.self.view_is in
-    omega (arith, used, c.requires.used)
+refunded-requires c = grind (arith, used_of-container, c.live-container.ensures.container, c.requires.used)
 
 pub invariant_of-self : goal.invariant_of-self
 invariant_of-self c =

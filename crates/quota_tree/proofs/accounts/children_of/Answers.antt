@@ -1,4 +1,4 @@
-use Rattle.std.proofs.Common.{◌≡◌, length, drop, ap, sym, ◌∙◌, arith}
+use Rattle.std.proofs.Common.{◌≡◌, length, sym, arith}
 use Rattle.quota_tree.proofs.AccountLemmas.{children_from, children-end, number-all}
 use Rattle.quota_tree.proofs.accounts.children_of.Goals as goal
 
@@ -8,6 +8,4 @@ loop-place-init c =
     (sym (children-end c.args.parent 64 c.args.accounts.now (omega (arith, long))), omega arith)
 
 pub returns : goal.returns
-returns c =
-    let first : c.loop-place.place ≡ 0 = omega (arith, c.loop-place-test.false) in
-    c.loop-place.invariant.0 ∙ ap (λ k. children_from c.args.parent k (drop k c.args.accounts.now)) first ∙ sym (number-all c.args.parent c.args.accounts.now)
+returns c = grind (arith, children_from, number-all, c.loop-place-test.false, c.loop-place.invariant.0)

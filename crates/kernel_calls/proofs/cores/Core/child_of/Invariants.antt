@@ -1,5 +1,4 @@
-use Rattle.std.proofs.Common.{◌≡◌, ◌<◌, ℕ, false}
-use Rattle.kernel_calls.specs.Authority.{is_child_of}
+use Rattle.kernel_calls.proofs.Prelude.{◌≡◌, ◌<◌, ℕ, false, is_child_of}
 use Rattle.kernel_calls.proofs.cores.Core.child_of.Given as goal
 
 -- no process so far is a child

@@ -1,6 +1,4 @@
-use Rattle.std.proofs.Common.{◌≡◌, ◌≤◌, take, drop, filter}
-use Rattle.std.specs.List.{range_with_len}
-use Rattle.kernel_calls.specs.Authority.{is_child_of}
+use Rattle.kernel_calls.proofs.Prelude.{◌≡◌, ◌≤◌, take, drop, filter, range_with_len, is_child_of}
 use Rattle.kernel_calls.proofs.cores.Core.children.Given as goal
 
 abbrev pub invariant-loop-number : goal.invariant-loop-number

@@ -1,9 +1,4 @@
-use Rattle.std.proofs.Common.{◌≡◌, subst}
-use Rattle.address_space.specs.Spaces.{at_page}
-use Rattle.address_space.specs.Stays.{FramesStay, none_goes}
-use Rattle.process_table.specs.Image.{memory_of}
-use Rattle.process_table.specs.View.{View}
-use Rattle.kernel_calls.specs.Cleaned.{cleaned}
+use Rattle.kernel_calls.proofs.Prelude.{◌≡◌, subst, at_page, FramesStay, none_goes, memory_of, View, cleaned}
 use Rattle.kernel_calls.proofs.Cleanings.{cleaning_ends}
 use Rattle.kernel_calls.proofs.Leaving.{standing}
 use Rattle.kernel_calls.proofs.cores.Core.clean.Goals as goal

@@ -1,14 +1,11 @@
-use Rattle.std.proofs.Common.{rules, ◌≢◌, ℕ, ◌+◌, ◌<◌, length, slice_set, refl, sym, subst, ◌∙◌, arith}
-use Rattle.std.proofs.lemmas.Bool.{eqb-false}
-use Rattle.page_words.specs.FiniteMap as map
-use Rattle.page_words.proofs.OptionLemmas.{some_value}
-use Rattle.kernel_calls.specs.Acts.{itself}
+use Rattle.kernel_calls.proofs.Prelude.{rules, ◌≢◌, ℕ, ◌+◌, ◌<◌, length, slice_set, refl, sym, subst, ◌∙◌, arith}
+use Rattle.kernel_calls.proofs.Prelude.{eqb-false, some_value, itself, eqb-true}
 use Rattle.kernel_calls.proofs.FamilyEnds.{ending_none, descends_then, descends_live, descends_not_root}
 use Rattle.kernel_calls.proofs.FamilySteps.{Going, Leaves, going_room, going_on, going_out, going_down}
 use Rattle.kernel_calls.proofs.Lists.{set_rest}
 use Rattle.kernel_calls.proofs.Members.{few_live}
+use Rattle.page_words.specs.FiniteMap as map
 use Rattle.kernel_calls.proofs.cores.Core.end_members.Goals as goal
-use borrow.Author.Tests.{eqb-true}
 
 pub leaves-init : goal.leaves-init
 leaves-init c =

@@ -1,6 +1,6 @@
-use Rattle.std.proofs.Common.{◌≡◌, drop}
-use Rattle.page_words.specs.FiniteMap as map
+use Rattle.kernel_calls.proofs.Prelude.{◌≡◌, drop}
 use Rattle.kernel_calls.proofs.FamilySteps.{Going}
+use Rattle.page_words.specs.FiniteMap as map
 use Rattle.kernel_calls.proofs.cores.Core.end_members.Given as goal
 
 abbrev pub invariant-leaves : goal.invariant-leaves

@@ -1,20 +1,14 @@
-use Rattle.std.proofs.Common.{◌∙◌, ap, sym, subst}
-use Rattle.kernel_calls.specs.Machine.{next}
-use Rattle.kernel_calls.specs.Translations.{ended_by, Ends}
-use Rattle.kernel_calls.specs.declared.translations.Ended.{Ended}
+use Rattle.kernel_calls.proofs.Prelude.{◌∙◌, ap, sym, subst, arith, next, ended_by, Ends, Ended}
 use Rattle.kernel_calls.proofs.FamilyEnds.{exit_done, exit_ends}
 use Rattle.kernel_calls.proofs.Members.{childless}
 use Rattle.kernel_calls.proofs.cores.Core.exit_leaf.Goals as goal
 
 pub returns-clause-done : goal.returns-clause-done
-returns-clause-done c =
-    let s = c.args.self.now.state in
-    exit_done s c.args.pid c.requires.live c.requires.not_root (childless s c.args.pid c.requires.childless)
+returns-clause-done c = grind (arith, exit_done, childless, c.requires.live, c.requires.not_root, c.requires.childless)
 
 pub returns-clause-ended : goal.returns-clause-ended
 returns-clause-ended c =
-    let s = c.args.self.now.state in
-    exit_ends c.args.self.now c.args.pid (exit_done s c.args.pid c.requires.live c.requires.not_root (childless s c.args.pid c.requires.childless))
+    grind (arith, exit_ends, exit_done, childless, c.requires.live, c.requires.not_root, c.requires.childless)
 
 pub returns-clause-ends : goal.returns-clause-ends
 returns-clause-ends c =

@@ -1,6 +1,4 @@
-use Rattle.std.proofs.Common.{◌∙◌, ap, sym}
-use Rattle.table_walk.specs.Walk.{walk_of}
-use Rattle.table_walk.specs.declared.Access.TheVariants.{Read}
+use Rattle.kernel_calls.proofs.Prelude.{◌∙◌, ap, sym, walk_of, Read}
 use Rattle.kernel_calls.proofs.Beside.{page_way, page_leads, page_bare}
 use Rattle.kernel_calls.proofs.cores.Core.frame_at.Goals as goal
 

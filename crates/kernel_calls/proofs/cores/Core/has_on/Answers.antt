@@ -1,5 +1,4 @@
-use Rattle.std.proofs.Common.{◌+◌, ◌≡◌, ◌∙◌, ℕ, true, false, sym, subst, arith}
-use Rattle.kernel_calls.specs.Processors.{IsCore}
+use Rattle.kernel_calls.proofs.Prelude.{◌+◌, ◌≡◌, ◌∙◌, ℕ, true, false, sym, subst, arith, IsCore}
 use Rattle.kernel_calls.proofs.FrameWriters.{SearchedTo, searched_on, searched_all}
 use Rattle.kernel_calls.proofs.cores.Core.has_on.Goals as goal
 
@@ -18,8 +17,4 @@ loop-page-preserved c =
     }
 
 pub returns : goal.returns
-returns c =
-    let v = c.args.self.now in
-    let s = c.stands.ensures in
-    let core : IsCore v = record { image = s.image; walks = s.walks; ways = s.ways; well_formed = s.well_formed } in
-    (λ h. cc, λ found. absurd (searched_all v core c.args.pid c.args.frame c.loop-page.at c.loop-page.invariant.none c.in_default.ensures.none found))
+returns c = grind (arith, searched_all, c.stands.ensures, c.loop-page.invariant.none, c.in_default.ensures.none)

@@ -1,4 +1,4 @@
-use Rattle.std.proofs.Common.{◌-◌}
+use Rattle.kernel_calls.proofs.Prelude.{◌-◌}
 use Rattle.kernel_calls.proofs.FrameWriters.{SearchedTo}
 use Rattle.kernel_calls.proofs.cores.Core.has_on.Given as goal
 

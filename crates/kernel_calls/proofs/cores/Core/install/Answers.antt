@@ -1,13 +1,8 @@
-use Rattle.std.proofs.Common.{◌≡◌, ◌∙◌, ℕ, ap, subst, refl}
-use Rattle.page_words.specs.Addresses.{page_number}
-use Rattle.address_space.specs.Spaces.{slot_at}
-use Rattle.process_table.specs.Parts.{after_stores}
-use Rattle.process_table.specs.State.{State, is_mapped}
-use Rattle.kernel_calls.specs.Cleaned.{EndsMarks}
-use Rattle.kernel_calls.specs.Installed.{is_writable_at, opening, store_run, closed, IsOpened}
-use Rattle.kernel_calls.specs.declared.translations.Ended.TheVariants as end
+use Rattle.kernel_calls.proofs.Prelude.{◌≡◌, ◌∙◌, ℕ, ap, subst, refl, page_number, slot_at, after_stores, State}
+use Rattle.kernel_calls.proofs.Prelude.{is_mapped, EndsMarks, is_writable_at, opening, store_run, closed, IsOpened}
 use Rattle.kernel_calls.proofs.Installs.{open_there, open_writes, run_then}
 use Rattle.kernel_calls.proofs.StoresEnd.{marks_then}
+use Rattle.kernel_calls.specs.declared.translations.Ended.TheVariants as end
 use Rattle.kernel_calls.proofs.cores.Core.install.Goals as goal
 
 -- the page is open

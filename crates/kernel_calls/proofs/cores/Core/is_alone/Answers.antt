@@ -1,7 +1,6 @@
-use Rattle.std.proofs.Common.{sym}
+use Rattle.kernel_calls.proofs.Prelude.{sym, eqb-true}
 use Rattle.kernel_calls.proofs.Unmaps.{alone_one}
 use Rattle.kernel_calls.proofs.cores.Core.is_alone.Goals as goal
-use borrow.Author.Tests.{eqb-true}
 
 pub returns-in-Some : goal.returns-in-Some
 returns-in-Some c = λ h.

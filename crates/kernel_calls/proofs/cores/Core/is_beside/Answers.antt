@@ -1,5 +1,4 @@
-use Rattle.std.proofs.Common.{◌∙◌, sym}
-use Rattle.address_space.specs.Spaces.{at_page}
+use Rattle.kernel_calls.proofs.Prelude.{◌∙◌, sym, at_page}
 use Rattle.kernel_calls.proofs.Beside.{beside_there, beside_ways}
 use Rattle.kernel_calls.proofs.cores.Core.is_beside.Goals as goal
 

@@ -1,9 +1,4 @@
-use Rattle.std.proofs.Common.{sym, subst}
-use Rattle.std.specs.Prelude.{◌↔◌, IsTrue}
-use Rattle.address_space.specs.Image.{page_frame}
-use Rattle.address_space.specs.Spaces.{at_page}
-use Rattle.process_table.specs.Image.{memory_of}
-use Rattle.std.proofs.Common.{◌≡◌, Bool, Some}
+use Rattle.kernel_calls.proofs.Prelude.{sym, subst, ◌≡◌, Bool, Some, ◌↔◌, IsTrue, page_frame, at_page, memory_of}
 use Rattle.kernel_calls.proofs.FrameWriters.{on_frame}
 use Rattle.kernel_calls.proofs.cores.Core.is_on.Goals as goal
 

@@ -1,4 +1,4 @@
-use Rattle.kernel_calls.specs.Acts.{child, itself}
+use Rattle.kernel_calls.proofs.Prelude.{child, itself}
 use Rattle.kernel_calls.proofs.Members.{quota_below}
 use Rattle.kernel_calls.proofs.cores.Core.leaf_below.Goals as goal
 

@@ -1,5 +1,4 @@
-use Rattle.quota_tree.specs.Book.{quota_of}
-use Rattle.kernel_calls.specs.Acts.{Descends}
+use Rattle.kernel_calls.proofs.Prelude.{quota_of, Descends}
 use Rattle.kernel_calls.proofs.cores.Core.leaf_below.Given as goal
 
 abbrev pub invariant-loop-child : goal.invariant-loop-child

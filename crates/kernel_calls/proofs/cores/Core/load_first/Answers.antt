@@ -1,9 +1,5 @@
-use Rattle.std.proofs.Common.{◌≡◌, ◌∙◌, ap, sym, length, true}
-use Rattle.kernel_calls.specs.Machine.{answer, next, completes}
-use Rattle.kernel_calls.specs.Transfers.{load_byte}
-use Rattle.address_space.proofs.standing.FramesStand.{stays_then, stays_more}
-use Rattle.kernel_calls.specs.Gone.{gone_by}
-use Rattle.kernel_calls.specs.declared.calls.Event.{Event}
+use Rattle.kernel_calls.proofs.Prelude.{◌≡◌, ◌∙◌, ap, sym, length, true, answer, next, completes, load_byte, stays_then}
+use Rattle.kernel_calls.proofs.Prelude.{stays_more, gone_by, Event}
 use Rattle.kernel_calls.proofs.TransferSteps.{first_loads, load_goes}
 use Rattle.kernel_calls.proofs.cores.Core.load_first.Goals as goal
 

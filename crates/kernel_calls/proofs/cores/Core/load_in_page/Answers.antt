@@ -1,4 +1,4 @@
-use Rattle.std.proofs.Common.{◌∙◌, sym, length}
+use Rattle.kernel_calls.proofs.Prelude.{◌∙◌, sym, length}
 use Rattle.kernel_calls.proofs.TransferSteps.{mapped_loads}
 use Rattle.kernel_calls.proofs.cores.Core.load_in_page.Goals as goal
 

@@ -1,9 +1,5 @@
-use Rattle.std.proofs.Common.{◌+◌, ◌-◌, ◌≤◌, ◌++◌, ◌∙◌, ap, sym, arith, length, drop, refl}
-use Rattle.address_space.proofs.standing.FramesStand.{stays_then}
-use Rattle.process_table.specs.View.{View}
-use Rattle.kernel_calls.specs.Machine.{answer, answers}
-use Rattle.kernel_calls.specs.Transfers.{load_byte, loads, carried, values}
-use Rattle.kernel_calls.specs.declared.transfers.Transfer.{Transfer}
+use Rattle.kernel_calls.proofs.Prelude.{◌+◌, ◌-◌, ◌≤◌, ◌++◌, ◌∙◌, ap, sym, arith, length, drop, refl, stays_then, View}
+use Rattle.kernel_calls.proofs.Prelude.{answer, answers, load_byte, loads, carried, values, Transfer}
 use Rattle.kernel_calls.proofs.TransferLemmas.{read_whole, read_stopped, read_on, mid_same}
 use Rattle.kernel_calls.proofs.cores.Core.load_pages.Goals as goal
 

@@ -1,7 +1,5 @@
-use Rattle.std.proofs.Common.{◌≡◌, ◌+◌, ◌-◌, ◌≤◌, length, take, drop}
-use Rattle.address_space.specs.Stays.{FramesStay, none_goes}
-use Rattle.process_table.specs.Image.{memory_of}
-use Rattle.kernel_calls.specs.Transfers.{AreLoaded}
+use Rattle.kernel_calls.proofs.Prelude.{◌≡◌, ◌+◌, ◌-◌, ◌≤◌, length, take, drop, FramesStay, none_goes, memory_of}
+use Rattle.kernel_calls.proofs.Prelude.{AreLoaded}
 use Rattle.kernel_calls.proofs.cores.Core.load_pages.Given as goal
 
 -- the bytes so far were loaded, and the others are as they were

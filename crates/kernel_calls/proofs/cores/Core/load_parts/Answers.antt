@@ -1,5 +1,5 @@
-use Rattle.std.proofs.Common.{◌≡◌, ◌+◌, ◌-◌, ◌≤◌, ◌∙◌, ℕ, refl, sym, ap, length, arith}
-use Rattle.kernel_calls.specs.Loaded.{pages_under, load_refusal}
+use Rattle.kernel_calls.proofs.Prelude.{◌≡◌, ◌+◌, ◌-◌, ◌≤◌, ◌∙◌, ℕ, refl, sym, ap, length, arith, pages_under}
+use Rattle.kernel_calls.proofs.Prelude.{load_refusal}
 use Rattle.kernel_calls.proofs.LoadedPages.{part_unrefused, rest_of_load}
 use Rattle.kernel_calls.proofs.LoadSteps.{loading_none, loading_on}
 use Rattle.kernel_calls.proofs.cores.Core.load_parts.Goals as goal

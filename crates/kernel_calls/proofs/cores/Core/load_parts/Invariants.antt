@@ -1,5 +1,4 @@
-use Rattle.std.proofs.Common.{◌≡◌, ◌+◌, ◌-◌, ◌≤◌, None, length}
-use Rattle.kernel_calls.specs.Loaded.{pages_under, load_refusal}
+use Rattle.kernel_calls.proofs.Prelude.{◌≡◌, ◌+◌, ◌-◌, ◌≤◌, None, length, pages_under, load_refusal}
 use Rattle.kernel_calls.proofs.LoadSteps.{Loading}
 use Rattle.kernel_calls.proofs.cores.Core.load_parts.Given as goal
 

@@ -1,7 +1,5 @@
-use Rattle.std.proofs.Common.{rules, ◌≡◌, true, not, refl, ap, sym, ◌∙◌, is_some, Some, None, inl, inr}
-use Rattle.page_words.specs.Addresses.{IsUserPage}
-use Rattle.process_table.specs.State.{is_live}
-use Rattle.kernel_calls.specs.Processors.{marked, first, none}
+use Rattle.kernel_calls.proofs.Prelude.{rules, ◌≡◌, true, not, refl, ap, sym, ◌∙◌, is_some, arith, IsUserPage, is_live}
+use Rattle.kernel_calls.proofs.Prelude.{marked, first, none}
 use Rattle.kernel_calls.proofs.TurnSteps.{is_core, home_live, dead_no_home, contained_live}
 use Rattle.kernel_calls.proofs.cores.Core.marked.Goals as goal
 
@@ -44,18 +42,8 @@ returns c =
         user = user;
         directory = d.0;
         live = d.1;
-        left = λ _. record {
-          bytes = told.bytes d.0 d.1;
-          directories = told.directories;
-          roles = told.roles;
-          state = told.state;
-          ends = told.ends;
-          core = is_core now.image now.walks now.ways now.well_formed;
-        };
+        left = grind (arith, is_core);
       })) none;
       bytes = λ directory _ home. told.bytes directory home;
-      none = λ h. elim h [
-        | inl outside ↦ absurd (outside user)
-        | inr gone ↦ absurd (let k : Some d.0 ≡ None = sym d.1 ∙ gone in cc)
-      ];
+      none = grind arith;
     }

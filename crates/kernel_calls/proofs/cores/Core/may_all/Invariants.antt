@@ -1,7 +1,4 @@
-use Rattle.std.proofs.Common.{◌≡◌, ◌+◌, ◌-◌, ◌≤◌, true}
-use Rattle.std.specs.List.{list_all}
-use Rattle.page_words.specs.Addresses.{is_user_page}
-use Rattle.kernel_calls.specs.Loaded.{pages_under, may_at}
+use Rattle.kernel_calls.proofs.Prelude.{◌≡◌, ◌+◌, ◌-◌, ◌≤◌, true, list_all, is_user_page, pages_under, may_at}
 use Rattle.kernel_calls.proofs.cores.Core.may_all.Given as goal
 
 -- the pages so far pass the test, so that those left decide

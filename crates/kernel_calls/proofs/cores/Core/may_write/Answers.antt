@@ -1,5 +1,4 @@
-use Rattle.std.proofs.Common.{◌∙◌, ap, Some}
-use Rattle.alloc_table.specs.declared.Role.TheVariants.{Directory, Table}
+use Rattle.kernel_calls.proofs.Prelude.{◌∙◌, ap, Some, Directory, Table}
 use Rattle.kernel_calls.proofs.FrameWriters.{by_role}
 use Rattle.kernel_calls.proofs.cores.Core.may_write.Goals as goal
 

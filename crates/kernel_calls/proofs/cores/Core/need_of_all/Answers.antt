@@ -1,7 +1,5 @@
-use Rattle.std.proofs.Common.{◌≡◌, ◌+◌, ◌==◌, ◌∙◌, ℕ, sym, ap, subst, arith}
-use Rattle.std.proofs.lemmas.Bool.{eq-eqb}
-use Rattle.page_words.specs.Addresses.{IsUserPage}
-use Rattle.kernel_calls.proofs.LoadNeeds.{behind, Counting, counting_on, counting_all, later}
+use Rattle.kernel_calls.proofs.Prelude.{◌≡◌, ◌+◌, ◌==◌, ◌∙◌, ℕ, sym, ap, subst, arith, eq-eqb, IsUserPage}
+use Rattle.kernel_calls.proofs.LoadNeeds.{behind, counting_on, counting_all, later}
 use Rattle.kernel_calls.proofs.LoadedPages.{user_first, user_rest}
 use Rattle.kernel_calls.proofs.cores.Core.need_of_all.Goals as goal
 
@@ -11,11 +9,7 @@ need_behind-need-requires c =
 
 pub overflow_add-at : goal.overflow_add-at
 overflow_add-at c =
-    let user = user_first c.loop-done.at c.args.count c.loop-done.done c.loop-done-test.true c.loop-done.invariant.user in
-    let high = user.1 in
-    let within = c.count_in_page-part.ensures.within in
-    let view = c.at.view_is in
-    omega (arith, high, within, view)
+    grind (arith, user_first, c.loop-done-test.true, c.loop-done.invariant.user, c.count_in_page-part.ensures.within)
 
 pub loop-done-preserved : goal.loop-done-preserved
 loop-done-preserved c =
@@ -42,9 +36,7 @@ loop-done-preserved c =
       place = omega (arith, next, place);
       within = omega (arith, most, within, below);
       user = user_rest at (c.at.inside.0 + part) c.args.count done part next some most e.within e.whole i.user;
-      counted = subst (λ x. Counting s.spaces p c.args.address c.args.count x (done + part) (need + more)) (sym next)
-          (counting_on s.spaces p c.args.address c.args.count at done need part more (done == 0) i.counted below some most e.within e.whole
-          (eq-eqb done 0) (later done) told);
+      counted = grind (arith, counting_on, eq-eqb, later);
       few = omega (arith, few, two, some);
     }
 

@@ -1,6 +1,4 @@
-use Rattle.std.proofs.Common.{◌+◌, ◌∙◌, ◌<◌, ℕ, sym, inl, inr, arith}
-use Rattle.std.proofs.lemmas.Bool.{cases_lt}
-use Rattle.address_space.specs.Spaces.{at_page}
+use Rattle.kernel_calls.proofs.Prelude.{◌+◌, ◌∙◌, ◌<◌, ℕ, sym, inl, inr, arith, cases_lt, at_page}
 use Rattle.kernel_calls.proofs.Beside.{beside_none, beside_there, beside_up}
 use Rattle.kernel_calls.proofs.cores.Core.next_beside.Goals as goal
 

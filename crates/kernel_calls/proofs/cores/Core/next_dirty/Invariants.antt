@@ -1,6 +1,4 @@
-use Rattle.std.proofs.Common.{◌≡◌, ◌-◌, ◌<◌, ◌≤◌, ℕ, false}
-use Rattle.address_space.specs.Spaces.{at_page}
-use Rattle.kernel_calls.specs.Cleaned.{is_dirty_at}
+use Rattle.kernel_calls.proofs.Prelude.{◌≡◌, ◌-◌, ◌<◌, ◌≤◌, ℕ, false, at_page, is_dirty_at}
 use Rattle.kernel_calls.proofs.cores.Core.next_dirty.Given as goal
 
 -- no page so far is dirty

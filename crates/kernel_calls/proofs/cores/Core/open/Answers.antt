@@ -1,10 +1,7 @@
-use Rattle.std.proofs.Common.{refl, subst}
-use Rattle.kernel_calls.specs.Cleaned.{EndsMarks}
-use Rattle.kernel_calls.specs.Translations.{ended_by}
-use Rattle.kernel_calls.specs.declared.translations.Ended.{Ended}
-use Rattle.kernel_calls.specs.declared.translations.Ended.TheVariants as end
+use Rattle.kernel_calls.proofs.Prelude.{refl, subst, EndsMarks, ended_by, Ended}
 use Rattle.kernel_calls.proofs.Cleanings.{events_end_marks}
 use Rattle.kernel_calls.proofs.StoresEnd.{marks_same, marks_of_page}
+use Rattle.kernel_calls.specs.declared.translations.Ended.TheVariants as end
 use Rattle.kernel_calls.proofs.cores.Core.open.Goals as goal
 
 pub returns-in_default-clause-marks : goal.returns-in_default-clause-marks

@@ -1,4 +1,4 @@
-use Rattle.std.proofs.Common.{◌∙◌}
+use Rattle.kernel_calls.proofs.Prelude.{◌∙◌}
 use Rattle.kernel_calls.proofs.Installs.{opened_before}
 use Rattle.kernel_calls.proofs.cores.Core.opening.Goals as goal
 

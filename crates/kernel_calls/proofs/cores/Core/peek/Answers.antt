@@ -1,4 +1,4 @@
-use Rattle.std.proofs.Common.{◌+◌, ◌-◌, ◌≤◌, ℕ, refl, sym, length, arith}
+use Rattle.kernel_calls.proofs.Prelude.{◌+◌, ◌-◌, ◌≤◌, ℕ, refl, sym, length, arith}
 use Rattle.kernel_calls.proofs.Peeked.{peeked_on, mapped_more}
 use Rattle.kernel_calls.proofs.cores.Core.peek.Goals as goal
 

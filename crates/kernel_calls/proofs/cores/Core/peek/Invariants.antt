@@ -1,7 +1,5 @@
-use Rattle.std.proofs.Common.{◌≡◌, ℕ, ◌+◌, ◌-◌, ◌<◌, ◌≤◌, true, length, take, drop, map}
-use Rattle.std.specs.List.{range_with_len}
-use Rattle.address_space.specs.Spaces.{slot_at, byte_at}
-use Rattle.process_table.specs.State.{is_mapped}
+use Rattle.kernel_calls.proofs.Prelude.{◌≡◌, ℕ, ◌+◌, ◌-◌, ◌<◌, ◌≤◌, true, length, take, drop, map, range_with_len}
+use Rattle.kernel_calls.proofs.Prelude.{slot_at, byte_at, is_mapped}
 use Rattle.kernel_calls.proofs.cores.Core.peek.Given as goal
 
 -- the bytes so far are those that stand there, and the others are as they were

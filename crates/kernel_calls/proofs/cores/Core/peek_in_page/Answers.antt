@@ -1,8 +1,5 @@
-use Rattle.std.proofs.Common.{◌∙◌, ap, sym, length, List, ℕ}
-use Rattle.page_words.specs.Addresses.{offset_number}
-use Rattle.phys_memory.specs.Bytes.{frame_bytes}
-use Rattle.address_space.specs.Spaces.{at_page, bytes_at, cell_or_fresh}
-use Rattle.process_table.specs.State.{is_mapped}
+use Rattle.kernel_calls.proofs.Prelude.{◌∙◌, ap, sym, length, List, ℕ, offset_number, frame_bytes, at_page, bytes_at}
+use Rattle.kernel_calls.proofs.Prelude.{cell_or_fresh, is_mapped}
 use Rattle.kernel_calls.proofs.Peeked.{part_peeked}
 use Rattle.kernel_calls.proofs.cores.Core.peek_in_page.Goals as goal
 

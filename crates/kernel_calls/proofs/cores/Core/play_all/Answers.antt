@@ -1,9 +1,6 @@
-use Rattle.std.proofs.Common.{rules, ◌≡◌, ◌+◌, ◌<◌, ◌≤◌, ◌++◌, ℕ, List, [], ◌∷◌, length, take, drop, ap, sym, ◌∙◌, subst, refl, get_or, set, append_assoc, append-nil, Option}
-use Rattle.std.proofs.lemmas.List.{take_more_set, drop_more, drop_all, take_all}
-use Rattle.kernel_calls.specs.Turns.{AreTurns}
-use Rattle.kernel_calls.specs.declared.calls.Reply.{Reply}
-use Rattle.kernel_calls.specs.declared.translations.Ended.{Ended}
-use Rattle.kernel_calls.specs.declared.turns.Turn.{Turn}
+use Rattle.kernel_calls.proofs.Prelude.{rules, ◌≡◌, ◌+◌, ◌<◌, ◌≤◌, ◌++◌, ℕ, List, [], ◌∷◌, length, take, drop, ap, sym}
+use Rattle.kernel_calls.proofs.Prelude.{◌∙◌, subst, refl, get_or, set, append_assoc, Option, append-nil, take_more_set}
+use Rattle.kernel_calls.proofs.Prelude.{drop_more, drop_all, take_all, AreTurns, Reply, Ended, Turn}
 use Rattle.kernel_calls.proofs.cores.Core.play_all.Goals as goal
 
 pub loop-i-preserved : goal.loop-i-preserved

@@ -1,8 +1,4 @@
-use Rattle.std.proofs.Common.{◌++◌, List, take, drop, Option}
-use Rattle.process_table.specs.View.{View}
-use Rattle.kernel_calls.specs.Turns.{AreTurns}
-use Rattle.kernel_calls.specs.declared.calls.Reply.{Reply}
-use Rattle.kernel_calls.specs.declared.translations.Ended.{Ended}
+use Rattle.kernel_calls.proofs.Prelude.{◌++◌, List, take, drop, Option, View, AreTurns, Reply, Ended}
 use Rattle.kernel_calls.proofs.cores.Core.play_all.Given as goal
 
 -- the turns so far and those of what is left are all

@@ -1,9 +1,4 @@
-use Rattle.std.proofs.Common.{◌≡◌, true, subst}
-use Rattle.address_space.specs.Stays.{FramesStay, LooseStay}
-use Rattle.process_table.specs.Image.{memory_of}
-use Rattle.process_table.specs.View.{View}
-use Rattle.kernel_calls.specs.Gone.{gone_by, gives_back}
-use Rattle.kernel_calls.specs.Machine.{next}
+use Rattle.kernel_calls.proofs.Prelude.{◌≡◌, subst, arith, FramesStay, memory_of, View, gone_by, next}
 use Rattle.kernel_calls.proofs.Leaving.{event_ends, standing}
 use Rattle.kernel_calls.proofs.cores.Core.reply_to.Goals as goal
 
@@ -19,13 +14,7 @@ returns-clause-ends c =
     (subst (λ (v : View). FramesStay (gone_by v.state e) (memory_of v) (memory_of new)) c.self.view_is c.reply_once-reply.ensures.stay)
 
 pub returns-clause-stay : goal.returns-clause-stay
-returns-clause-stay c =
-    let new = c.reply_once-reply.new.processes in
-    let e = c.args.event.now in
-    subst (λ (v : View). FramesStay (gone_by v.state e) (memory_of v) (memory_of new)) c.self.view_is c.reply_once-reply.ensures.stay
+returns-clause-stay c = grind (arith, c.reply_once-reply.ensures.stay)
 
 pub returns-clause-loose : goal.returns-clause-loose
-returns-clause-loose c =
-    let new = c.reply_once-reply.new.processes in
-    let e = c.args.event.now in
-    subst (λ (v : View). gives_back e.call ≡ true → LooseStay (memory_of v) (memory_of new)) c.self.view_is c.reply_once-reply.ensures.loose
+returns-clause-loose c = grind (arith, c.reply_once-reply.ensures.loose)

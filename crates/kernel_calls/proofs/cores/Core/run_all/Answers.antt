@@ -1,12 +1,6 @@
-use Rattle.std.proofs.Common.{rules, ◌≡◌, ◌+◌, ◌<◌, ◌≤◌, ◌++◌, ℕ, not, List, [], ◌∷◌, length, take, drop, ap, sym, ◌∙◌, subst, refl, get_or, append_assoc}
-use Rattle.std.proofs.lemmas.Bool.{and_parts, not-true}
-use Rattle.std.proofs.lemmas.List.{take_more_set, drop_more, drop_all}
-use Rattle.process_table.specs.State.{State}
-use Rattle.process_table.specs.View.{View}
-use Rattle.kernel_calls.specs.Machine.{answers, end_of, completes, none_completes}
-use Rattle.kernel_calls.specs.Translations.{EndsInOrder}
-use Rattle.kernel_calls.specs.declared.calls.Event.{Event}
-use Rattle.kernel_calls.specs.declared.calls.Reply.{Reply}
+use Rattle.kernel_calls.proofs.Prelude.{rules, ◌≡◌, ◌+◌, ◌<◌, ◌++◌, ℕ, List, [], ◌∷◌, length, take, drop, ap, sym, ◌∙◌}
+use Rattle.kernel_calls.proofs.Prelude.{subst, get_or, append_assoc, arith, and_parts, not-true, take_more_set}
+use Rattle.kernel_calls.proofs.Prelude.{drop_more, drop_all, State, View, answers, end_of, EndsInOrder, Event, Reply}
 use Rattle.kernel_calls.proofs.cores.Core.run_all.Goals as goal
 
 pub loop-i-preserved : goal.loop-i-preserved
@@ -31,20 +25,11 @@ loop-i-preserved c =
           ∙ ap (λ l. take i c.loop-i.replies ++ l) (sym replies_here)
           ∙ c.loop-i.invariant.told;
       rest = ap (λ (t : State). end_of t rest) step.state ∙ ap (end_of v.state) (sym here) ∙ c.loop-i.invariant.rest;
-      still = λ none.
-          let parts = and_parts (not (completes r)) (none_completes (answers s rest))
-          (ap none_completes (sym replies_here) ∙ c.loop-i.invariant.refused none) in
-          step.kept (not-true (completes r) parts.0) ∙ c.loop-i.invariant.still none;
+      still = grind (arith, and_parts, not-true, c.loop-i.invariant.refused, c.loop-i.invariant.still);
       along = λ w more. c.loop-i.invariant.along w
           (subst (λ (es : List Event). EndsInOrder es v w) (sym here) (c.step.new.self, step.stands, step.state, step.ends, more));
-      refused = λ none.
-          (and_parts (not (completes r)) (none_completes (answers s rest))
-          (ap none_completes (sym replies_here) ∙ c.loop-i.invariant.refused none)).1;
+      refused = grind (arith, and_parts, c.loop-i.invariant.refused);
     }
 
 pub returns-clause-ends : goal.returns-clause-ends
-returns-clause-ends c =
-    let past : length c.args.events.now ≤ c.loop-i.i = search rules in
-    let none : drop c.loop-i.i c.args.events.now ≡ [] = drop_all c.loop-i.i c.args.events.now past in
-    c.loop-i.invariant.along c.loop-i.self
-    (subst (λ (es : List Event). EndsInOrder es c.loop-i.self c.loop-i.self) (sym none) refl)
+returns-clause-ends c = grind (arith, drop_all, c.loop-i.invariant.along)

@@ -1,7 +1,4 @@
-use Rattle.std.proofs.Common.{◌≡◌, ◌++◌, take, drop, true}
-use Rattle.process_table.specs.View.{View}
-use Rattle.kernel_calls.specs.Machine.{answers, end_of, none_completes}
-use Rattle.kernel_calls.specs.Translations.{EndsInOrder}
+use Rattle.kernel_calls.proofs.Prelude.{◌≡◌, ◌++◌, take, drop, true, View, answers, end_of, none_completes, EndsInOrder}
 use Rattle.kernel_calls.proofs.cores.Core.run_all.Given as goal
 
 -- the replies so far and those to what is left are those to all

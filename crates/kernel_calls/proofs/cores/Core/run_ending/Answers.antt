@@ -1,12 +1,7 @@
-use Rattle.std.proofs.Common.{rules, ◌≡◌, ◌+◌, ◌<◌, ◌≤◌, ◌++◌, ℕ, not, List, [], ◌∷◌, length, take, drop, ap, sym, ◌∙◌, subst, refl, get_or, append_assoc, append-nil}
-use Rattle.std.proofs.lemmas.Bool.{and_parts, not-true}
-use Rattle.std.proofs.lemmas.List.{take_more_set, drop_more, drop_all, take_all}
-use Rattle.process_table.specs.State.{State}
-use Rattle.kernel_calls.specs.Machine.{answers, end_of, completes, none_completes}
-use Rattle.kernel_calls.specs.Translations.{EndAlong}
-use Rattle.kernel_calls.specs.declared.calls.Event.{Event}
-use Rattle.kernel_calls.specs.declared.calls.Reply.{Reply}
-use Rattle.kernel_calls.specs.declared.translations.Ended.{Ended}
+use Rattle.kernel_calls.proofs.Prelude.{rules, ◌≡◌, ◌+◌, ◌<◌, ◌≤◌, ◌++◌, ℕ, List, [], ◌∷◌, length, take, drop, ap, sym}
+use Rattle.kernel_calls.proofs.Prelude.{◌∙◌, subst, refl, get_or, append_assoc, arith, append-nil, take_more_set}
+use Rattle.kernel_calls.proofs.Prelude.{drop_more, drop_all, take_all, and_parts, not-true, State, answers, end_of}
+use Rattle.kernel_calls.proofs.Prelude.{EndAlong, Event, Reply, Ended}
 use Rattle.kernel_calls.proofs.cores.Core.run_ending.Goals as goal
 
 pub loop-i-preserved : goal.loop-i-preserved
@@ -39,13 +34,8 @@ loop-i-preserved c =
           (c.loop-i.invariant.along (x ∷ later) w
           (subst (λ (es : List Event). EndAlong es (x ∷ later) c.loop-i.self w) (sym here)
           (c.step_ending-told.new.self, step.ended, step.state, step.ends, more)));
-      still = λ none.
-          let parts = and_parts (not (completes r)) (none_completes (answers s rest))
-          (ap none_completes (sym replies_here) ∙ c.loop-i.invariant.refused none) in
-          step.kept (not-true (completes r) parts.0) ∙ c.loop-i.invariant.still none;
-      refused = λ none.
-          (and_parts (not (completes r)) (none_completes (answers s rest))
-          (ap none_completes (sym replies_here) ∙ c.loop-i.invariant.refused none)).1;
+      still = grind (arith, and_parts, not-true, c.loop-i.invariant.refused, c.loop-i.invariant.still);
+      refused = grind (arith, and_parts, c.loop-i.invariant.refused);
     }
 
 pub returns-clause-ended : goal.returns-clause-ended

@@ -1,8 +1,5 @@
-use Rattle.std.proofs.Common.{◌≡◌, ◌++◌, List, take, drop, true}
-use Rattle.process_table.specs.View.{View}
-use Rattle.kernel_calls.specs.Machine.{answers, end_of, none_completes}
-use Rattle.kernel_calls.specs.Translations.{EndAlong}
-use Rattle.kernel_calls.specs.declared.translations.Ended.{Ended}
+use Rattle.kernel_calls.proofs.Prelude.{◌≡◌, ◌++◌, List, take, drop, true, View, answers, end_of, none_completes}
+use Rattle.kernel_calls.proofs.Prelude.{EndAlong, Ended}
 use Rattle.kernel_calls.proofs.cores.Core.run_ending.Given as goal
 
 -- the replies so far and those to what is left are those to all, and so is what was ended

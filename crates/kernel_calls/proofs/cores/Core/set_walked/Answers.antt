@@ -1,7 +1,4 @@
-use Rattle.std.proofs.Common.{◌≡◌, subst}
-use Rattle.address_space.specs.Stays.{FramesStay, none_goes}
-use Rattle.process_table.specs.Image.{memory_of}
-use Rattle.process_table.specs.View.{View}
+use Rattle.kernel_calls.proofs.Prelude.{◌≡◌, subst, FramesStay, none_goes, memory_of, View}
 use Rattle.kernel_calls.proofs.Leaving.{nothing_ends, standing}
 use Rattle.kernel_calls.proofs.cores.Core.set_walked.Goals as goal
 

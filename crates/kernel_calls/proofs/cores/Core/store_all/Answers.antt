@@ -1,9 +1,5 @@
-use Rattle.std.proofs.Common.{◌∙◌, ℕ, ap, sym, subst, length}
-use Rattle.address_space.specs.Stays.{FramesStay}
-use Rattle.process_table.specs.Image.{memory_of}
-use Rattle.process_table.specs.State.{State}
-use Rattle.kernel_calls.specs.Machine.{end_of}
-use Rattle.kernel_calls.specs.Transfers.{AreStored, of_lazy_pages}
+use Rattle.kernel_calls.proofs.Prelude.{◌∙◌, ℕ, ap, sym, subst, length, FramesStay, memory_of, State, end_of, AreStored}
+use Rattle.kernel_calls.proofs.Prelude.{of_lazy_pages}
 use Rattle.kernel_calls.proofs.Installs.{all_stored_there}
 use Rattle.kernel_calls.proofs.Leaving.{standing}
 use Rattle.kernel_calls.proofs.TransferLemmas.{length-stores}

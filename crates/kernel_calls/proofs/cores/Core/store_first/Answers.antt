@@ -1,15 +1,7 @@
-use Rattle.std.proofs.Common.{◌≡◌, ◌+◌, ◌-◌, ◌∙◌, ℕ, List, ap, sym, subst, arith, length, take, drop, length-drop, true}
-use Rattle.std.specs.Prelude.{slice_index}
-use Rattle.std.proofs.lemmas.List.{take_all}
-use Rattle.page_words.specs.Addresses.{page_number, IsUserPage}
-use Rattle.address_space.specs.Image.{takes_stores}
-use Rattle.address_space.specs.Spaces.{slot_at}
-use Rattle.process_table.specs.Image.{memory_of}
-use Rattle.address_space.proofs.standing.FramesStand.{stays_then, stays_more, stays_most}
-use Rattle.kernel_calls.specs.Gone.{gone_by}
-use Rattle.kernel_calls.specs.declared.calls.Event.{Event}
-use Rattle.kernel_calls.specs.Machine.{answer, next, completes}
-use Rattle.kernel_calls.specs.Transfers.{store_byte}
+use Rattle.kernel_calls.proofs.Prelude.{◌≡◌, ◌+◌, ◌-◌, ◌∙◌, ℕ, List, ap, sym, subst, arith, length, take, drop}
+use Rattle.kernel_calls.proofs.Prelude.{length-drop, true, slice_index, take_all, page_number, IsUserPage, takes_stores}
+use Rattle.kernel_calls.proofs.Prelude.{slot_at, memory_of, stays_then, stays_more, stays_most, gone_by, Event, answer}
+use Rattle.kernel_calls.proofs.Prelude.{next, completes, store_byte}
 use Rattle.kernel_calls.proofs.TransferSteps.{first_stored, rest_taken, rest_stores, store_goes}
 use Rattle.kernel_calls.proofs.cores.Core.store_first.Goals as goal
 

@@ -1,4 +1,4 @@
-use Rattle.address_space.proofs.standing.FramesStand.{stays_most}
+use Rattle.kernel_calls.proofs.Prelude.{stays_most}
 use Rattle.kernel_calls.proofs.TransferSteps.{taken_stores}
 use Rattle.kernel_calls.proofs.cores.Core.store_in_page.Goals as goal
 

@@ -1,13 +1,5 @@
-use Rattle.std.proofs.Common.{◌≡◌, true, subst}
-use Rattle.address_space.specs.Stays.{FramesStay, none_goes}
-use Rattle.process_table.specs.Image.{memory_of}
-use Rattle.process_table.specs.View.{View}
-use Rattle.fault_handler.specs.Plans.{takes_no_frame}
-use Rattle.kernel_calls.specs.Decisions.{plan_of_event}
-use Rattle.kernel_calls.specs.Machine.{next}
-use Rattle.kernel_calls.specs.Translations.{Ends}
-use Rattle.kernel_calls.specs.declared.translations.Ended.{Ended}
-use Rattle.address_space.proofs.standing.FramesStand.{stays_most}
+use Rattle.kernel_calls.proofs.Prelude.{◌≡◌, true, subst, FramesStay, none_goes, memory_of, View, takes_no_frame}
+use Rattle.kernel_calls.proofs.Prelude.{plan_of_event, next, Ends, Ended, stays_most}
 use Rattle.kernel_calls.proofs.Leaving.{event_ends, standing}
 use Rattle.kernel_calls.proofs.Translated.{accessed_ends_none}
 use Rattle.kernel_calls.proofs.cores.Core.store_kept.Goals as goal

@@ -1,11 +1,5 @@
-use Rattle.std.proofs.Common.{◌≡◌, ◌+◌, ◌-◌, ◌≤◌, ◌∙◌, ap, arith, length, take, drop, refl}
-use Rattle.std.specs.Prelude.{slice_index}
-use Rattle.page_words.specs.Addresses.{page_number}
-use Rattle.address_space.proofs.standing.FramesStand.{stays_then, stays_more}
-use Rattle.process_table.specs.View.{View}
-use Rattle.kernel_calls.specs.Machine.{answer}
-use Rattle.kernel_calls.specs.Transfers.{store_byte}
-use Rattle.kernel_calls.specs.declared.transfers.Transfer.{Transfer}
+use Rattle.kernel_calls.proofs.Prelude.{◌≡◌, ◌+◌, ◌-◌, ◌≤◌, ◌∙◌, ap, arith, length, take, drop, refl, slice_index}
+use Rattle.kernel_calls.proofs.Prelude.{page_number, stays_then, stays_more, View, answer, store_byte, Transfer}
 use Rattle.kernel_calls.proofs.TransferSteps.{part_goes, more_goes}
 use Rattle.kernel_calls.proofs.TransferLemmas.{written_whole, written_stopped, written_on}
 use Rattle.kernel_calls.proofs.cores.Core.store_pages.Goals as goal

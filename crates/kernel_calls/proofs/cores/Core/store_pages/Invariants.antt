@@ -1,7 +1,5 @@
-use Rattle.std.proofs.Common.{◌≡◌, ◌+◌, ◌-◌, ◌≤◌, length, take}
-use Rattle.address_space.specs.Stays.{FramesStay}
-use Rattle.process_table.specs.Image.{memory_of}
-use Rattle.kernel_calls.specs.Transfers.{of_lazy_pages, AreStored}
+use Rattle.kernel_calls.proofs.Prelude.{◌≡◌, ◌+◌, ◌-◌, ◌≤◌, length, take, FramesStay, memory_of, of_lazy_pages}
+use Rattle.kernel_calls.proofs.Prelude.{AreStored}
 use Rattle.kernel_calls.proofs.cores.Core.store_pages.Given as goal
 
 -- the bytes so far were stored

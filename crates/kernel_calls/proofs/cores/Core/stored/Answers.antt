@@ -1,5 +1,4 @@
-use Rattle.std.proofs.Common.{rules, ◌≡◌, ◌∙◌, sym, true, false, refl}
-use Rattle.kernel_calls.specs.Kept.{StoresMarked}
+use Rattle.kernel_calls.proofs.Prelude.{rules, ◌≡◌, sym, true, arith, StoresMarked}
 use Rattle.kernel_calls.specs.Processors.{stored}
 use Rattle.kernel_calls.proofs.KeptAccesses.{kept_find, kept_stores}
 use Rattle.kernel_calls.proofs.MixedRuns.{serves_call}
@@ -7,15 +6,7 @@ use Rattle.kernel_calls.proofs.TurnSteps.{is_core, marked_store, store_done}
 use Rattle.kernel_calls.proofs.cores.Core.stored.Goals as goal
 
 pub returns-then-not-finds_marked : goal.returns-then-not-finds_marked
-returns-then-not-finds_marked c = (
-  λ store frames served.
-      let v = c.args.self.now in
-      let e = c.args.event.now in
-      let none : c.finds_marked.result ≡ false = search rules in
-      let k : false ≡ true = sym none ∙ c.finds_marked.ensures.all (kept_find v frames e served) (kept_stores v frames e served store) in
-      absurd (cc),
-  refl,
-)
+returns-then-not-finds_marked c = grind (arith, kept_find, kept_stores, c.finds_marked.ensures.all)
 
 pub returns : goal.returns
 returns c =
@@ -36,13 +27,6 @@ returns c =
         frames = frames;
         through = through;
         found = store_done frames v.bytes e.call store;
-        left = λ finds marked. record {
-          bytes = told.bytes frames (serves_call v (keeps i) e.pid frames e.call read through);
-          directories = told.directories;
-          roles = told.roles;
-          state = told.state;
-          ends = told.ends;
-          core = core;
-        };
+        left = grind (arith, serves_call);
       });
     }

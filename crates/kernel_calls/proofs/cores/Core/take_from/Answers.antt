@@ -1,7 +1,5 @@
-use Rattle.std.proofs.Common.{rules, ◌≡◌, ◌<◌, ℕ, length, slice_set, arith}
+use Rattle.kernel_calls.proofs.Prelude.{rules, ◌≡◌, ◌<◌, ℕ, length, slice_set, arith, at_page, Holder}
 use Rattle.std.proofs.Math.ListN.{length-set}
-use Rattle.address_space.specs.Spaces.{at_page}
-use Rattle.kernel_calls.specs.declared.taking.Holder.{Holder}
 use Rattle.kernel_calls.proofs.Lists.{set_rest}
 use Rattle.kernel_calls.proofs.Unmaps.{taking_on, clear_on, clear_up}
 use Rattle.kernel_calls.proofs.cores.Core.take_from.Goals as goal

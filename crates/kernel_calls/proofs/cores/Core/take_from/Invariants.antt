@@ -1,7 +1,5 @@
-use Rattle.std.proofs.Common.{◌≡◌, ◌-◌, ◌<◌, ◌≤◌, ℕ, false, length, take, drop}
-use Rattle.address_space.specs.Spaces.{Slot, at_page}
-use Rattle.process_table.specs.View.{View}
-use Rattle.kernel_calls.specs.TakenBack.{is_beside, Taking}
+use Rattle.kernel_calls.proofs.Prelude.{◌≡◌, ◌-◌, ◌<◌, ◌≤◌, ℕ, false, length, take, drop, Slot, at_page, View}
+use Rattle.kernel_calls.proofs.Prelude.{is_beside, Taking}
 use Rattle.kernel_calls.proofs.cores.Core.take_from.Given as goal
 
 -- those so far have lost the page, and no page so far is beside the slot

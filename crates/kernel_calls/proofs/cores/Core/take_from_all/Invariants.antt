@@ -1,6 +1,4 @@
-use Rattle.std.proofs.Common.{◌≡◌, ◌<◌, ◌≤◌, ℕ, false, length, take, drop}
-use Rattle.address_space.specs.Spaces.{at_page}
-use Rattle.kernel_calls.specs.TakenBack.{is_beside, Taking}
+use Rattle.kernel_calls.proofs.Prelude.{◌≡◌, ◌<◌, ◌≤◌, ℕ, false, length, take, drop, at_page, is_beside, Taking}
 use Rattle.kernel_calls.proofs.cores.Core.take_from_all.Given as goal
 
 -- those so far have lost the page, and while there are places no page of a process so far is beside the slot

@@ -1,5 +1,4 @@
-use Rattle.std.proofs.Common.{◌∙◌, sym}
-use Rattle.std.proofs.lemmas.Bool.{eqb-true}
+use Rattle.kernel_calls.proofs.Prelude.{◌∙◌, sym, eqb-true}
 use Rattle.kernel_calls.proofs.FrameWriters.{takes}
 use Rattle.kernel_calls.proofs.cores.Core.takes_lazy.Goals as goal
 

@@ -1,12 +1,7 @@
-use Rattle.std.proofs.Common.{◌≡◌, ◌∙◌, ap, sym, subst}
-use Rattle.address_space.specs.Spaces.{at_page}
-use Rattle.kernel_calls.specs.Machine.{answer, next}
-use Rattle.kernel_calls.specs.TakenBack.{unmap_of}
-use Rattle.kernel_calls.specs.Translations.{ended_by, Ends}
-use Rattle.kernel_calls.specs.declared.calls.Reply.TheVariants as reply
-use Rattle.kernel_calls.specs.declared.taking.Holder.{Holder}
-use Rattle.kernel_calls.specs.declared.translations.Ended.{Ended}
+use Rattle.kernel_calls.proofs.Prelude.{◌≡◌, ◌∙◌, ap, sym, subst, at_page, answer, next, unmap_of, ended_by, Ends}
+use Rattle.kernel_calls.proofs.Prelude.{Holder, Ended}
 use Rattle.kernel_calls.proofs.Unmaps.{unmap_done, unmap_ends}
+use Rattle.kernel_calls.specs.declared.calls.Reply.TheVariants as reply
 use Rattle.kernel_calls.proofs.cores.Core.unmap_beside.Goals as goal
 
 pub returns : goal.returns

@@ -1,6 +1,4 @@
-use Rattle.std.proofs.Common.{rules, ◌≡◌, true}
-use Rattle.kernel_calls.specs.Processors.{walked}
-use Rattle.kernel_calls.specs.Walked.{finds_event}
+use Rattle.kernel_calls.proofs.Prelude.{rules, ◌≡◌, true, walked, finds_event}
 use Rattle.kernel_calls.proofs.TurnSteps.{is_core, home_found}
 use Rattle.kernel_calls.proofs.cores.Core.walked.Goals as goal
 

@@ -1,9 +1,8 @@
-use Rattle.process_table.proofs.Prelude.{◌≡◌, ◌≢◌, ℕ, ◌+◌, true, false, [], ◌∷◌, arith, refl, Some, None, rules, sym}
-use Rattle.process_table.proofs.Prelude.{ap, subst, ◌∙◌, Ok, Err, is_some, IsOk, if◌then◌else◌, Mapped, Quota}
-use Rattle.process_table.proofs.Prelude.{IsUserPage, offer_key, is_live, is_mapped, overdrawn, State, no_value}
-use Rattle.process_table.proofs.Prelude.{place_in, Slot, cost, need, joined, at_page, cost-joined, cost-joined_other}
-use Rattle.process_table.proofs.Prelude.{used_of, accept_answer, accept_refusal, after_accept, View, IsProcesses}
-use Rattle.process_table.proofs.Prelude.{state_of, IsWellFormed, image_of, FramesStay, of_lazy, memory_of}
+use Rattle.process_table.proofs.Prelude
+use Prelude.{◌≡◌, ◌≢◌, ℕ, ◌+◌, true, false, [], ◌∷◌, arith, refl, Some, None, rules, sym, ap, subst, ◌∙◌, Ok, Err}
+use Prelude.{is_some, IsOk, if◌then◌else◌, Mapped, Quota, IsUserPage, offer_key, is_live, is_mapped, overdrawn, State}
+use Prelude.{no_value, place_in, Slot, cost, need, joined, at_page, cost-joined, cost-joined_other, used_of}
+use Prelude.{accept_answer, accept_refusal, after_accept, View, IsProcesses, state_of, IsWellFormed}
 use Rattle.process_table.proofs.Placed.{page_is_user}
 use Rattle.address_space.proofs.standing.FramesStand.{stays_then, stays_most}
 use Rattle.process_table.proofs.Charged.{charged-one}
@@ -77,8 +76,7 @@ invariant_of-self-2 c =
     (keeps-accept s p from from_page page c.self.invariant.well_formed ok)
 
 pub returns-clause-stay : goal.returns-clause-stay
-returns-clause-stay c = subst (λ (v : View). FramesStay (of_lazy c.args.giver c.args.giver_page) (memory_of v)
-    (image_of c.join_at.new.self)) c.self.view_is (stays_then c.fill_at-given.ensures.stay (stays_most c.join_at.ensures.stay))
+returns-clause-stay c = grind (arith, stays_then, stays_most, c.fill_at-given.ensures.stay, c.join_at.ensures.stay)
 
 pub take_room-requires-clause-room : goal.take_room-requires-clause-room
 take_room-requires-clause-room c =

@@ -1,4 +1,4 @@
-use Rattle.std.proofs.Common.{sym, ◌∙◌}
+use Rattle.process_table.proofs.Prelude.{sym, ◌∙◌}
 use Rattle.process_table.proofs.StoreCharge.{load_charge, store_charge}
 use Rattle.process_table.proofs.processes.Processes.access_charge.Goals as goal
 

@@ -1,13 +1,9 @@
-use Rattle.process_table.proofs.Prelude.{◌≡◌, true, ap, sym, ◌∙◌, subst, is_live, container_of, spawn_answer, View}
+use Rattle.process_table.proofs.Prelude.{arith, ◌≡◌, true, ap, sym, ◌∙◌, subst, is_live, spawn_answer, View}
 use Rattle.process_table.proofs.Spawns.{spawn-split, container-same}
 use Rattle.process_table.proofs.processes.Processes.child_test.Goals as goal
 
 pub child_number-requires : goal.child_number-requires
-child_number-requires c = record {
-  container = container-same c.self.inside.spaces c.self.inside.quotas c.self.inside.offers c.args.pid c.self.invariant.kept
-      ∙ ap (λ (v : View). container_of v.state c.args.pid) c.self.view_is
-      ∙ c.requires.container;
-}
+child_number-requires c = grind (arith, container-same, c.self.invariant.kept, c.requires.container)
 
 pub returns : goal.returns
 returns c =

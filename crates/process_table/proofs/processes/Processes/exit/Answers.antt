@@ -1,8 +1,7 @@
-use Rattle.process_table.proofs.Prelude.{rules, sym, subst, IsOk, State, exit_answer, after_exit, View, IsProcesses}
-use Rattle.process_table.proofs.Prelude.{state_of, image_of, memory_of}
+use Rattle.process_table.proofs.Prelude.{arith, rules, sym, subst, IsOk, State, exit_answer, after_exit, View}
+use Rattle.process_table.proofs.Prelude.{IsProcesses, state_of, image_of, memory_of, LooseStay}
 use Rattle.process_table.proofs.Charged.{charged-exit}
 use Rattle.process_table.proofs.Keeping.{whole, keeps-exit}
-use Rattle.address_space.specs.Stays.{FramesStay, LooseStay, of_process}
 use Rattle.process_table.proofs.processes.Processes.exit.Goals as goal
 
 pub invariant_of-self : goal.invariant_of-self
@@ -18,8 +17,7 @@ invariant_of-self c =
     (keeps-exit s p c.self.invariant.well_formed ok)
 
 pub returns-clause-stay : goal.returns-clause-stay
-returns-clause-stay c = subst (λ (v : View). FramesStay (of_process c.args.pid) (memory_of v)
-    (image_of c.drop_space.new.self)) c.self.view_is c.drop_space.ensures.stay
+returns-clause-stay c = grind (arith, c.drop_space.ensures.stay)
 
 pub returns-clause-loose : goal.returns-clause-loose
 returns-clause-loose c = subst (λ (v : View). LooseStay (memory_of v) (image_of c.drop_space.new.self)) c.self.view_is c.drop_space.ensures.loose

@@ -1,19 +1,14 @@
-use Rattle.process_table.proofs.Prelude.{◌≡◌, true, sym, subst, refl, ap, State, is_mapped, View, state_of, cost}
-use Rattle.process_table.proofs.Prelude.{at_page, image_of, FramesStay, of_lazy, memory_of}
+use Rattle.process_table.proofs.Prelude.{arith, refl, ap, State, state_of, cost}
 use Rattle.process_table.proofs.Charged.{charged-same}
 use Rattle.process_table.proofs.Keeping.{whole}
 use Rattle.process_table.proofs.SharingLaws.{mapped_user}
 use Rattle.process_table.proofs.processes.Processes.fill_at.Goals as goal
 
 pub fill_at-requires-clause-user : goal.fill_at-requires-clause-user
-fill_at-requires-clause-user c =
-    let s : State = state_of c.self.inside.spaces c.self.inside.quotas c.self.inside.offers in
-    let slot = at_page c.args.pid c.args.page in
-    mapped_user s slot c.self.invariant.well_formed (subst (λ (v : View). is_mapped v.state slot ≡ true) (sym c.self.view_is) c.requires.mapped)
+fill_at-requires-clause-user c = grind (arith, mapped_user, c.self.invariant.well_formed, c.requires.mapped)
 
 pub returns-clause-stay : goal.returns-clause-stay
-returns-clause-stay c = subst (λ (v : View). FramesStay (of_lazy c.args.pid c.args.page) (memory_of v)
-    (image_of c.fill_at.new.self)) c.self.view_is c.fill_at.ensures.stay
+returns-clause-stay c = grind (arith, c.fill_at.ensures.stay)
 
 pub invariant_of-self : goal.invariant_of-self
 invariant_of-self c =

@@ -1,11 +1,13 @@
 use Rattle.process_table.proofs.Prelude
 use Prelude.{◌≡◌, ◌≢◌, ◌≤◌, ◌<◌, ◌+◌, ℕ, Ok, refl, ap, sym, subst, ◌∙◌, is_some, length, arith, no_value, image_of}
-use Prelude.{is_lazy_at, cost, at_page, copied, FramesStay, none_goes, directory_of, total_cost, cost-copied}
-use Prelude.{cost-copied_other, stays_then, quota_of, Containers, IsLive, total_used, used_of, split_answer}
-use Prelude.{after_split, with_used, after_fork, memory_of, State, fork_answer, View, IsProcesses, state_of}
+use Prelude.{is_lazy_at, cost, at_page, copied, directory_of, total_cost, cost-copied, cost-copied_other, quota_of}
+use Prelude.{Containers, IsLive, total_used, used_of, split_answer, after_split, with_used, after_fork, memory_of}
+use Prelude.{State, fork_answer, View, IsProcesses, state_of}
+use Rattle.address_space.proofs.standing.FramesStand.{stays_then}
 use Rattle.process_table.proofs.Forks.{may_fork, fork-ok, fork-spawns, well_formed-fork}
 use Rattle.process_table.proofs.Keeping.{whole}
-use Rattle.process_table.proofs.Spawns.{spawn-may, child-is, child-absent, child-has_none, nothing-mapped, room-child, charged-child, used-before}
+use Rattle.process_table.proofs.Spawns.{spawn-may, child-is, child-absent, child-has_none, nothing-mapped, room-child}
+use Rattle.process_table.proofs.Spawns.{charged-child, used-before}
 use Rattle.page_words.specs.FiniteMap as map
 use Rattle.address_space.specs.View as frames
 use Rattle.process_table.proofs.processes.Processes.fork_as.Goals as goal
@@ -19,10 +21,7 @@ room v q after p quota copy kept root split is numbers total =
     (subst (λ (x : Containers). total_used x ≤ quota_of x.book 0) is total)
 
 pub fork_as-requires-clause-live : goal.fork_as-requires-clause-live
-fork_as-requires-clause-live c =
-    let s : State = state_of c.self.inside.spaces c.self.inside.quotas c.self.inside.offers in
-    let is = ap (λ (v : View). fork_answer v.state c.args.pid c.args.quota) c.self.view_is ∙ c.requires in
-    (fork-ok s c.args.pid c.args.quota c.args.copy is).0
+fork_as-requires-clause-live c = grind (arith, fork-ok, c.requires)
 
 pub fork_as-requires-clause-can : goal.fork_as-requires-clause-can
 fork_as-requires-clause-can c =
@@ -128,8 +127,7 @@ invariant_of-self c =
     (well_formed-fork s p c.args.quota c.self.invariant.well_formed ok.0 ok.1)
 
 pub returns-clause-stay : goal.returns-clause-stay
-returns-clause-stay c = subst (λ (v : View). FramesStay none_goes (memory_of v) (image_of c.copy_space.new.self))
-    c.self.view_is (stays_then c.fresh.ensures.stay c.copy_space.ensures.stay)
+returns-clause-stay c = grind (arith, stays_then, c.fresh.ensures.stay, c.copy_space.ensures.stay)
 
 pub returns-clause-lazy : goal.returns-clause-lazy
 returns-clause-lazy c = λ page. c.copy_space.ensures.lazy page ∙ c.fresh.ensures.lazy (at_page c.args.pid page)

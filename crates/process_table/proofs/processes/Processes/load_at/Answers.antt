@@ -1,6 +1,5 @@
-use Rattle.process_table.proofs.Prelude.{◌≡◌, ◌∙◌, ap, sym, subst, length, true, page_number, Spaces, cost, slot_at}
-use Rattle.process_table.proofs.Prelude.{cost-accessed_of, after_load, State, is_mapped, View, state_of, IsWellFormed}
-use Rattle.address_space.proofs.costs.MapFirst.{load_in_page}
+use Rattle.process_table.proofs.Prelude.{arith, ◌≡◌, ◌∙◌, ap, sym, subst, length, true, cost, slot_at, cost-accessed_of}
+use Rattle.process_table.proofs.Prelude.{State, is_mapped, View, state_of, load_in_page}
 use Rattle.process_table.proofs.Charged.{charged-same}
 use Rattle.process_table.proofs.SpaceLaws.{well_formed-read_at}
 use Rattle.process_table.proofs.processes.Processes.load_at.Goals as goal
@@ -13,15 +12,8 @@ invariant_of-self c =
     record {
       kept = charged-same c.self.inside.spaces c.load_at.new.self c.self.inside.quotas c.self.invariant.kept c.load_at.ensures.directories (ap length c.load_at.ensures.roles)
           (λ q. ap (λ S. cost S q) after ∙ cost-accessed_of c.self.inside.spaces.spaces (slot_at c.args.pid c.args.address) q mapped);
-      well_formed = subst IsWellFormed (λ i. record s { spaces = sym after i })
-          (well_formed-read_at s c.args.pid (page_number c.args.address) c.self.invariant.well_formed mapped);
+      well_formed = grind (arith, well_formed-read_at, c.self.invariant.well_formed);
     }
 
 pub returns-clause-state : goal.returns-clause-state
-returns-clause-state c =
-    let S = c.self.inside.spaces.spaces in
-    let s : State = state_of c.self.inside.spaces c.self.inside.quotas c.self.inside.offers in
-    let mapped = subst (λ (v : View). is_mapped v.state (slot_at c.args.pid c.args.address) ≡ true) (sym c.self.view_is) c.requires.mapped in
-    ap (λ (T : Spaces). record s { spaces = T })
-    (c.load_at.ensures.spaces ∙ sym (load_in_page S c.args.pid c.args.address c.args.size c.requires.within mapped))
-    ∙ ap (λ (v : View). after_load v.state c.args.pid c.args.address c.args.size) c.self.view_is
+returns-clause-state c = grind (arith, load_in_page, c.requires.mapped, c.load_at.ensures.spaces, c.requires.within)

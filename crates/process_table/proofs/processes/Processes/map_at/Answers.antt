@@ -1,7 +1,6 @@
-use Rattle.process_table.proofs.Prelude.{rules, arith, refl, sym, subst, ap, ◌+◌, ◌∙◌, IsOk, Slot, cost, fresh, at_page}
-use Rattle.process_table.proofs.Prelude.{cost-insert, used_of, State, map_answer, after_map, map_refusal, View}
-use Rattle.process_table.proofs.Prelude.{IsProcesses, state_of, image_of, FramesStay, none_goes, memory_of}
-use Rattle.address_space.proofs.costs.Totals.{cost-insert_other}
+use Rattle.process_table.proofs.Prelude
+use Prelude.{rules, arith, refl, sym, subst, ap, ◌+◌, ◌∙◌, IsOk, Slot, cost, fresh, at_page, cost-insert, used_of}
+use Prelude.{State, map_answer, after_map, map_refusal, View, IsProcesses, state_of, cost-insert_other}
 use Rattle.process_table.proofs.Charged.{charged-one}
 use Rattle.process_table.proofs.Keeping.{whole, keeps-map}
 use Rattle.process_table.proofs.SpaceLaws.{new_fits}
@@ -28,8 +27,7 @@ invariant_of-self c =
     (keeps-map s p page c.args.write c.self.invariant.well_formed ok)
 
 pub returns-clause-stay : goal.returns-clause-stay
-returns-clause-stay c = subst (λ (v : View). FramesStay none_goes (memory_of v) (image_of c.map_at.new.self))
-    c.self.view_is c.map_at.ensures.stay
+returns-clause-stay c = grind (arith, c.map_at.ensures.stay)
 
 pub returns-clause-lazy : goal.returns-clause-lazy
 returns-clause-lazy c = c.map_at.ensures.lazy

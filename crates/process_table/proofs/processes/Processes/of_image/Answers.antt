@@ -1,4 +1,5 @@
-use Rattle.process_table.proofs.Prelude.{◌≡◌, sym, subst, StandsFor, image_in}
+use Rattle.process_table.proofs.Prelude.{◌≡◌, sym, subst, StandsFor}
+use Rattle.process_table.specs.Restored.{image_in}
 use Rattle.process_table.proofs.Restored.{agree, room, parts_whole, state, state_stands}
 use Rattle.process_table.proofs.processes.Processes.of_image.Goals as goal
 

@@ -1,6 +1,5 @@
 use Rattle.process_table.proofs.Prelude.{refl, sym, subst, ap, ◌∙◌, length, IsOk, State, protect_answer, cost, at_page}
-use Rattle.process_table.proofs.Prelude.{after_protect, protect_refusal, View, state_of}
-use Rattle.address_space.proofs.costs.Totals.{cost-protected_of}
+use Rattle.process_table.proofs.Prelude.{after_protect, protect_refusal, View, state_of, cost-protected_of}
 use Rattle.process_table.proofs.Charged.{charged-same}
 use Rattle.process_table.proofs.Keeping.{whole, keeps-protect}
 use Rattle.process_table.proofs.Refusals.{no_cause, may_protect}

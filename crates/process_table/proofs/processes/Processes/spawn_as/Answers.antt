@@ -1,15 +1,13 @@
-use Rattle.process_table.proofs.Prelude.{◌≡◌, ◌≤◌, refl, ap, sym, subst, ◌∙◌, arith, Ok, IsOk, cost, quota_of}
-use Rattle.process_table.proofs.Prelude.{Containers, total_used, after_split, spawn_answer, after_spawn, View}
-use Rattle.process_table.proofs.Prelude.{IsProcesses, state_of, State, image_of, FramesStay, none_goes, memory_of}
+use Rattle.process_table.proofs.Prelude
+use Prelude.{◌≡◌, ◌≤◌, refl, ap, sym, subst, ◌∙◌, arith, Ok, IsOk, cost, quota_of, Containers, total_used, after_split}
+use Prelude.{spawn_answer, after_spawn, View, IsProcesses, state_of, State}
 use Rattle.process_table.proofs.Spawns.{spawn-may, child-is, child-has_none, room-child, charged-child, cost-child}
 use Rattle.process_table.proofs.Keeping.{whole, keeps-spawn}
 use Rattle.page_words.specs.FiniteMap as map
 use Rattle.process_table.proofs.processes.Processes.spawn_as.Goals as goal
 
 pub split_as-requires-clause-live : goal.split_as-requires-clause-live
-split_as-requires-clause-live c =
-    (spawn-may c.self.inside.spaces c.self.inside.quotas c.self.inside.offers c.args.pid c.args.quota c.args.child c.self.invariant.kept
-    (ap (λ (v : View). spawn_answer v.state c.args.pid c.args.quota) c.self.view_is ∙ c.requires)).0
+split_as-requires-clause-live c = grind (arith, spawn-may, c.self.invariant.kept, c.requires)
 
 pub split_as-requires-clause-can : goal.split_as-requires-clause-can
 split_as-requires-clause-can c =
@@ -68,5 +66,4 @@ invariant_of-self c =
     (keeps-spawn s p c.args.quota c.self.invariant.well_formed (subst IsOk (sym may_spawn) refl))
 
 pub returns-clause-stay : goal.returns-clause-stay
-returns-clause-stay c = subst (λ (v : View). FramesStay none_goes (memory_of v) (image_of c.fresh.new.self))
-    c.self.view_is c.fresh.ensures.stay
+returns-clause-stay c = grind (arith, c.fresh.ensures.stay)

@@ -1,12 +1,9 @@
-use Rattle.process_table.proofs.Prelude.{◌+◌, ◌≤◌, ap, subst, length, is_some, given, quota_of, IsWellFormed, total}
-use Rattle.address_space.specs.Image.{LeavesRoom}
+use Rattle.process_table.proofs.Prelude
+use Prelude.{arith, ◌+◌, ◌≤◌, ap, subst, is_some, given, quota_of, IsWellFormed, StandsFor, memory_of, View, view_of}
 use Rattle.address_space.specs.Walks.{WalksAgree}
-use Rattle.process_table.specs.Image.{StandsFor, image_of, memory_of}
-use Rattle.process_table.specs.View.{View, view_of}
+use Rattle.process_table.specs.Image.{image_of}
 use Rattle.process_table.proofs.ImageStanding.{image_stands}
 use Rattle.process_table.proofs.Ranges.{total-book}
-use Rattle.address_space.specs.Places.{PlacesTell}
-use Rattle.address_space.specs.Stays.{WaysAgree}
 use Rattle.process_table.proofs.processes.Processes.stands.Goals as goal
 
 pub returns-clause-image : goal.returns-clause-image
@@ -22,23 +19,17 @@ returns-clause-walks c = subst (λ (v : View). WalksAgree (memory_of v) v.state.
 
 pub returns-clause-total : goal.returns-clause-total
 returns-clause-total c =
-    let v : View = view_of c.self.inside.spaces c.self.inside.quotas c.self.inside.offers in
-    subst (λ (v : View). 1 + total v.state ≤ length v.roles) c.self.view_is
-    (subst (λ n. 1 + n ≤ length v.roles) (total-book v.directories v.state c.self.invariant.kept.live c.within.ensures.numbers) c.stands.ensures.costs)
+    grind (arith, total-book, c.self.invariant.kept.live, c.within.ensures.numbers, c.stands.ensures.costs)
 
 pub returns-clause-well_formed : goal.returns-clause-well_formed
 returns-clause-well_formed c = subst (λ (v : View). IsWellFormed v.state) c.self.view_is c.self.invariant.well_formed
 
 pub returns-clause-used : goal.returns-clause-used
 returns-clause-used c =
-    let v : View = view_of c.self.inside.spaces c.self.inside.quotas c.self.inside.offers in
-    subst (λ (v : View). LeavesRoom (memory_of v) (total v.state)) c.self.view_is
-    (subst (LeavesRoom (memory_of v)) (total-book v.directories v.state c.self.invariant.kept.live c.within.ensures.numbers) c.stands.ensures.used)
+    grind (arith, total-book, c.self.invariant.kept.live, c.within.ensures.numbers, c.stands.ensures.used)
 
 pub returns-clause-ways : goal.returns-clause-ways
-returns-clause-ways c = subst (λ (v : View). WaysAgree
-    (memory_of v)) c.self.view_is c.stands.ensures.ways
+returns-clause-ways c = grind (arith, c.stands.ensures.ways)
 
 pub returns-clause-places : goal.returns-clause-places
-returns-clause-places c = subst (λ (v : View). PlacesTell
-    (memory_of v) v.state.spaces) c.self.view_is c.stands.ensures.places
+returns-clause-places c = grind (arith, c.stands.ensures.places)

@@ -1,21 +1,16 @@
-use Rattle.process_table.proofs.Prelude.{◌≡◌, ◌∙◌, ap, sym, subst, length, true, offset_number, byte_count, image_of}
-use Rattle.process_table.proofs.Prelude.{takes_stores, Spaces, cost, slot_at, bytes_of, FramesStay, none_goes}
-use Rattle.process_table.proofs.Prelude.{cost-stored_of, after_store, memory_of, State, View, state_of, IsWellFormed}
-use Rattle.address_space.proofs.costs.MapFirst.{store_in_page}
+use Rattle.process_table.proofs.Prelude
+use Prelude.{arith, ◌≡◌, ◌∙◌, ap, sym, subst, length, true, offset_number, byte_count, image_of, takes_stores, cost}
+use Prelude.{slot_at, bytes_of, cost-stored_of, memory_of, State, View, state_of, IsWellFormed, store_in_page}
 use Rattle.process_table.proofs.Charged.{charged-same}
 use Rattle.process_table.proofs.Keeping.{keeps-store_in_page}
 use Rattle.process_table.proofs.Placed.{takes_mapped, takes_real}
 use Rattle.process_table.proofs.processes.Processes.store_at.Goals as goal
 
 pub store_at-requires-clause-mapped : goal.store_at-requires-clause-mapped
-store_at-requires-clause-mapped c =
-    takes_mapped c.self.inside.spaces.spaces (image_of c.self.inside.spaces) (slot_at c.args.pid c.args.address)
-    (subst (λ (v : View). takes_stores v.state.spaces (memory_of v) (slot_at c.args.pid c.args.address) ≡ true) (sym c.self.view_is) c.requires.takes)
+store_at-requires-clause-mapped c = grind (arith, takes_mapped, c.requires.takes)
 
 pub store_at-requires-clause-real : goal.store_at-requires-clause-real
-store_at-requires-clause-real c =
-    takes_real c.self.inside.spaces.spaces (image_of c.self.inside.spaces) (slot_at c.args.pid c.args.address)
-    (subst (λ (v : View). takes_stores v.state.spaces (memory_of v) (slot_at c.args.pid c.args.address) ≡ true) (sym c.self.view_is) c.requires.takes)
+store_at-requires-clause-real c = grind (arith, takes_real, c.requires.takes)
 
 pub invariant_of-self : goal.invariant_of-self
 invariant_of-self c =
@@ -32,14 +27,7 @@ invariant_of-self c =
 
 pub returns-clause-state : goal.returns-clause-state
 returns-clause-state c =
-    let S = c.self.inside.spaces.spaces in
-    let s : State = state_of c.self.inside.spaces c.self.inside.quotas c.self.inside.offers in
-    let mapped = takes_mapped S (image_of c.self.inside.spaces) (slot_at c.args.pid c.args.address)
-    (subst (λ (v : View). takes_stores v.state.spaces (memory_of v) (slot_at c.args.pid c.args.address) ≡ true) (sym c.self.view_is) c.requires.takes) in
-    ap (λ (T : Spaces). record s { spaces = T })
-    (c.store_at.ensures.spaces ∙ sym (store_in_page S c.args.pid c.args.address c.args.size c.args.value c.requires.within mapped))
-    ∙ ap (λ (v : View). after_store v.state c.args.pid c.args.address c.args.size c.args.value) c.self.view_is
+    grind (arith, takes_mapped, store_in_page, c.requires.takes, c.store_at.ensures.spaces, c.requires.within)
 
 pub returns-clause-stay : goal.returns-clause-stay
-returns-clause-stay c = subst (λ (v : View). FramesStay none_goes (memory_of v) (image_of c.store_at.new.self))
-    c.self.view_is c.store_at.ensures.stay
+returns-clause-stay c = grind (arith, c.store_at.ensures.stay)

@@ -1,8 +1,6 @@
-use Rattle.process_table.proofs.Prelude.{◌≡◌, ◌∙◌, ap, sym, subst, refl, Bool, true, false, length, arith, and_parts}
-use Rattle.process_table.proofs.Prelude.{offset_number, Spaces, cost, slot_at, cost-stored_of, State, is_mapped, View}
-use Rattle.process_table.proofs.Prelude.{IsWhole, state_of, IsWellFormed, image_of, FramesStay, none_goes, memory_of}
-use Rattle.std.proofs.lemmas.List.{get_or_default}
-use Rattle.process_table.specs.Parts.{after_stores}
+use Rattle.process_table.proofs.Prelude
+use Prelude.{◌≡◌, ◌∙◌, ap, sym, subst, refl, Bool, true, false, length, arith, and_parts, offset_number, cost, slot_at}
+use Prelude.{cost-stored_of, State, is_mapped, View, IsWhole, state_of, IsWellFormed, get_or_default}
 use Rattle.process_table.proofs.Charged.{charged-same}
 use Rattle.process_table.proofs.SpaceLaws.{well_formed-part}
 use Rattle.address_space.specs.View as frames
@@ -27,11 +25,7 @@ invariant_of-self c = by c.try_write_part.result refl
         }
 
 pub returns-clause-state : goal.returns-clause-state
-returns-clause-state c = λ done.
-    let s : State = state_of c.self.inside.spaces c.self.inside.quotas c.self.inside.offers in
-    ap (λ (T : Spaces). record s { spaces = T }) (c.try_write_part.ensures.spaces done)
-    ∙ ap (λ (v : View). after_stores v.state c.args.pid c.args.address c.args.part.now) c.self.view_is
+returns-clause-state c = grind (arith, c.try_write_part.ensures.spaces)
 
 pub returns-clause-stay : goal.returns-clause-stay
-returns-clause-stay c = subst (λ (v : View). FramesStay none_goes (memory_of v) (image_of c.try_write_part.new.self))
-    c.self.view_is c.try_write_part.ensures.stay
+returns-clause-stay c = grind (arith, c.try_write_part.ensures.stay)

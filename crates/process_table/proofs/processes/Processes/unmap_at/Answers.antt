@@ -1,13 +1,11 @@
-use Rattle.process_table.proofs.Prelude.{rules, ◌≡◌, ℕ, ◌+◌, ◌-◌, sym, subst, ap, ◌∙◌, arith, ne_eqb, IsOk, cost}
-use Rattle.process_table.proofs.Prelude.{without, is_slot, at_page, cost-without_other, used_of, State, after_unmap}
-use Rattle.process_table.proofs.Prelude.{unmap_refusal, View, IsProcesses, state_of, image_of, memory_of}
-use Rattle.address_space.proofs.steps.Departures.{slot_of_process}
-use Rattle.process_table.specs.TestAnswers.{unmap_answer}
+use Rattle.process_table.proofs.Prelude
+use Prelude.{rules, ◌≡◌, ℕ, ◌+◌, ◌-◌, sym, subst, ap, ◌∙◌, arith, ne_eqb, IsOk, cost, without, is_slot, at_page}
+use Prelude.{cost-without_other, used_of, State, after_unmap, unmap_refusal, View, IsProcesses, state_of, image_of}
+use Prelude.{memory_of, slot_of_process, unmap_answer, LooseStay}
 use Rattle.process_table.proofs.BookLaws.{well_formed-unmap}
 use Rattle.process_table.proofs.Charged.{charged-one}
 use Rattle.process_table.proofs.Keeping.{whole}
 use Rattle.process_table.proofs.Refusals.{no_cause}
-use Rattle.address_space.specs.Stays.{FramesStay, LooseStay, of_page}
 use Rattle.process_table.proofs.processes.Processes.unmap_at.Goals as goal
 
 less : (u k n m : ℕ) → u ≡ n → m + k ≡ n → u - k ≡ m
@@ -30,8 +28,7 @@ invariant_of-self c =
     (well_formed-unmap s p page c.self.invariant.well_formed)
 
 pub returns-clause-stay : goal.returns-clause-stay
-returns-clause-stay c = subst (λ (v : View). FramesStay (of_page c.args.pid c.args.page) (memory_of v)
-    (image_of c.unmap_at.new.self)) c.self.view_is c.unmap_at.ensures.stay
+returns-clause-stay c = grind (arith, c.unmap_at.ensures.stay)
 
 pub returns-clause-loose : goal.returns-clause-loose
 returns-clause-loose c = subst (λ (v : View). LooseStay (memory_of v) (image_of c.unmap_at.new.self)) c.self.view_is c.unmap_at.ensures.loose
