@@ -90,13 +90,6 @@ makes frames before after pid call reply event log new of fits legal grown told 
       },
     )
 
--- what keeps a judged call from being carried out refuses its CPU, which fits the log
-pub prevents_refuses : (frames : ℕ) (log : List LogEntry) (cpu : Maker) (f : Fault) → Legal frames log → StartsWith log cpu.seen × (calls_of cpu.number log ≡ calls_of cpu.number cpu.seen) → Prevents f
-    → IsRefused frames log cpu f
-prevents_refuses frames log cpu NoMemory legal fits h = (legal, fits.0, fits.1)
-prevents_refuses frames log cpu Unread legal fits h = absurd h
-prevents_refuses frames log cpu Disagree legal fits h = absurd h
-
 -- the core is in the state after the log, which is a legal history
 abbrev pub Stands : ℕ → UnderLock → Type 0
 Stands frames h = Legal frames h.log × (h.core.state ≡ state_after frames h.log)

@@ -3,13 +3,17 @@ use Rattle.std.proofs.Common.{◌≡◌, ℕ, ◌+◌, ◌<◌, ◌≤◌, ◌�
 use Rattle.std.specs.Prelude.{MatchBool}
 use lib.Dec.{leb}
 use Rattle.std.proofs.lemmas.Bool.Decides.{nat_tests}
-use Rattle.kernel_calls.specs.Translations.{ended_by, Ends}
+use Rattle.kernel_calls.specs.Processors.{IsCore}
+use Rattle.kernel_calls.specs.Translations.{ended_by}
+use Rattle.kernel_calls.specs.declared.calls.Event.{Event}
 use Rattle.memory_report.specs.Histories.{StartsWith, event_of, events_of}
+use Rattle.memory_report.specs.declared.entries.LogEntry.{LogEntry}
 use Rattle.process_table.specs.State.{State, open_with}
 use Rattle.process_table.specs.View.{View}
 use Rattle.kernel_calls.specs.Machine.{end_of, next}
+use Rattle.shootdowns.specs.Windows as window
 use Rattle.locked_core.specs.Endings.{ToldOnce, ToldToAll}
-use Rattle.locked_core.specs.Moments.{EndsAlong, FollowsFrom, StatesFollow, Begins, Follows, core_after, ended_along, entries_in}
+use Rattle.locked_core.specs.Moments.{EndsAlong, FollowsFrom, StatesFollow, Begins, Follows, core_after, ended_along, entries_in, moment}
 use Rattle.locked_core.specs.declared.moment.Moment.{Moment}
 
 pub entries_long : (log : List Moment) → length (entries_in log) ≡ length log
@@ -89,22 +93,25 @@ place_of (y ∷ log) x (b ∷ before) m rest is =
       | inr h ↦ inr (h.0, (λ i. head i ∷ h.1 i))
     ]
 
-pub follows_none : (opening : View) → Follows opening []
-follows_none opening = record { moved = λ before m rest is. absurd (not_empty before m rest is); ends = λ before m rest is. absurd (not_empty before m rest is) }
+pub follows_none : (opening : View) → IsCore opening → Follows opening []
+follows_none opening core = record { opened = core; each = λ before m rest is. absurd (not_empty before m rest is) }
 
 -- with the moment of one call more
-pub follows_push : (opening : View) (log : List Moment) (x : Moment) → Follows opening log → x.core.state ≡ next (core_after opening log).state (event_of x.entry)
-    → Ends (ended_by (core_after opening log) (event_of x.entry)) (core_after opening log) x.core → Follows opening (log ++ x ∷ [])
-follows_push opening log x h moved ends = record {
-  moved = λ before m rest is. elim (place_of log x before m rest is) [
-    | inl t ↦ subst (λ (z : List Moment × Moment). z.1.core.state ≡ next (core_after opening z.0).state (event_of z.1.entry)) (λ i. (t.0 i, t.1 i)) moved
-    | inr t ↦ h.moved before m t.0 t.1
-  ];
-  ends = λ before m rest is. elim (place_of log x before m rest is) [
-    | inl t ↦ subst (λ (z : List Moment × Moment). Ends (ended_by (core_after opening z.0) (event_of z.1.entry)) (core_after opening z.0) z.1.core) (λ i. (t.0 i, t.1 i)) ends
-    | inr t ↦ h.ends before m t.0 t.1
+pub follows_push : (opening : View) (log : List Moment) (x : Moment) → Follows opening log
+    → window.Begins (core_after opening log) (event_of x.entry) x.entry.reply x.core → Follows opening (log ++ x ∷ [])
+follows_push opening log x h begins = record {
+  opened = h.opened;
+  each = λ before m rest is. elim (place_of log x before m rest is) [
+    | inl t ↦ subst (λ (z : List Moment × Moment). window.Begins (core_after opening z.0) (event_of z.1.entry) z.1.entry.reply z.1.core) (λ i. (t.0 i, t.1 i)) begins
+    | inr t ↦ h.each before m t.0 t.1
   ];
 }
+
+-- with the entry of a call that began in the last core, and the core that the call left
+pub follows_more : (opening : View) (log : List Moment) (old core : View) (event : Event) (e : LogEntry) → Follows opening log → core_after opening log ≡ old
+    → event_of e ≡ event → window.Begins old event e.reply core → Follows opening (log ++ moment e core ∷ [])
+follows_more opening log old core event e h left mine begins = follows_push opening log (moment e core) h
+    (subst (λ (t : View × Event). window.Begins t.0 t.1 e.reply core) (λ i. (sym left i, sym mine i)) begins)
 
 pub core_push : (opening : View) (log : List Moment) (x : Moment) → core_after opening (log ++ x ∷ []) ≡ x.core
 core_push opening [] x = refl
@@ -117,12 +124,27 @@ next_core : (opening : View) (before later : List Moment) → core_after opening
 next_core opening [] later = refl
 next_core opening (m ∷ before) later = next_core m.core before later
 
+-- a beginning of moments that follow one another
+follows_part : (opening : View) (before later : List Moment) → Follows opening (before ++ later) → Follows opening before
+follows_part opening before later h = record {
+  opened = h.opened;
+  each = λ b m rest is. h.each b m (rest ++ later) (ap (λ l. l ++ later) is ∙ append_assoc b (m ∷ rest) later);
+}
+
+-- the moments after the first follow one another from its core
+from_next : (opening : View) (m : Moment) (log : List Moment) → Follows opening (m ∷ log) → IsCore m.core → Follows m.core log
+from_next opening m log h core = record { opened = core; each = λ b x rest is. h.each (m ∷ b) x rest (ap (λ l. m ∷ l) is) }
+
+-- each core of the history is one
+cores_along : (opening : View) (log : List Moment) → Follows opening log → IsCore (core_after opening log)
+cores_along opening [] h = h.opened
+cores_along opening (m ∷ log) h = cores_along m.core log (from_next opening m log h (h.each [] m log refl).carried.core)
+
 pub follows_from : FollowsFrom
 follows_from opening before later h = record {
-  moved = λ b m rest is. subst (λ (v : View). m.core.state ≡ next v.state (event_of m.entry)) (next_core opening before b)
-      (h.moved (before ++ b) m rest (ap (λ l. before ++ l) is ∙ sym (append_assoc before b (m ∷ rest))));
-  ends = λ b m rest is. subst (λ (v : View). Ends (ended_by v (event_of m.entry)) v m.core) (next_core opening before b)
-      (h.ends (before ++ b) m rest (ap (λ l. before ++ l) is ∙ sym (append_assoc before b (m ∷ rest))));
+  opened = cores_along opening before (follows_part opening before later h);
+  each = λ b m rest is. subst (λ (v : View). window.Begins v (event_of m.entry) m.entry.reply m.core) (next_core opening before b)
+      (h.each (before ++ b) m rest (ap (λ l. before ++ l) is ∙ sym (append_assoc before b (m ∷ rest))));
 }
 
 pub ends_along : EndsAlong
@@ -130,8 +152,8 @@ ends_along opening [] h = refl
 ends_along opening (m ∷ log) h = (
   m.core,
   refl,
-  h.moved [] m log refl,
-  h.ends [] m log refl,
+  (h.each [] m log refl).carried.state,
+  (h.each [] m log refl).carried.ends,
   ends_along m.core log (follows_from opening (m ∷ []) log h),
 )
 
@@ -169,18 +191,11 @@ told_to_all frames opening cpu ended log h begins =
           omega (arith, length-append h.before (h.last ∷ [])));
     }
 
--- a beginning of moments that follow one another
-follows_part : (opening : View) (before later : List Moment) → Follows opening (before ++ later) → Follows opening before
-follows_part opening before later h = record {
-  moved = λ b m rest is. h.moved b m (rest ++ later) (ap (λ l. l ++ later) is ∙ append_assoc b (m ∷ rest) later);
-  ends = λ b m rest is. h.ends b m (rest ++ later) (ap (λ l. l ++ later) is ∙ append_assoc b (m ∷ rest) later);
-}
-
 -- from a core in some state on, each event leads to the next state
 states_from : (core : View) (from : State) (log : List Moment) → core.state ≡ from → Follows core log → (core_after core log).state ≡ end_of from (events_of (entries_in log))
 states_from core from [] is h = is
 states_from core from (m ∷ log) is h =
-    states_from m.core (next from (event_of m.entry)) log (h.moved [] m log refl ∙ ap (λ s. next s (event_of m.entry)) is) (follows_from core (m ∷ []) log h)
+    states_from m.core (next from (event_of m.entry)) log ((h.each [] m log refl).carried.state ∙ ap (λ s. next s (event_of m.entry)) is) (follows_from core (m ∷ []) log h)
 
 pub states_follow : StatesFollow
 states_follow frames opening before later is h = states_from opening (open_with frames) before is (follows_part opening before later h)

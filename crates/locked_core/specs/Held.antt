@@ -1,15 +1,16 @@
 -- What lies under the lock, as a contract sees it.
-use Rattle.std.specs.Prelude.{ℕ, List}
+use Rattle.std.specs.Prelude.{ℕ, Bool, List}
 use Rattle.locked_core.specs.Names.{Names}
 use Rattle.locked_core.specs.declared.moment.Moment.{Moment}
 use Rattle.memory_report.specs.declared.entries.LogEntry.{LogEntry}
 use Rattle.process_table.specs.View.{View}
 
--- the core, the log of all calls, and the history that it is
+-- the core, the log of all calls, the history that it is, and whether a monitor reads what is published
 pub record UnderLock : Type 0 where
   pub core : View
   pub log : List LogEntry
   pub moments : List Moment
+  pub is_watched : Bool
 
 -- a kernel that has no name yet: how many frames its memory has, for how many CPUs and monitors it is, and its names
 pub record Unnamed : Type 0 where

@@ -1,3 +1,4 @@
+pub mod Beside
 pub mod Counts
 pub mod Endings
 pub mod Faults

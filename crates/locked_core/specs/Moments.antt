@@ -1,12 +1,13 @@
 -- The moments of a kernel's history: each entry, with the core as its call left it.
 use Rattle.std.specs.Prelude.{◌≡◌, ℕ, List, [], ◌∷◌, ◌++◌, map}
-use Rattle.kernel_calls.specs.Machine.{next}
-use Rattle.kernel_calls.specs.Translations.{EndAlong, ended_by, Ends}
+use Rattle.kernel_calls.specs.Processors.{IsCore}
+use Rattle.kernel_calls.specs.Translations.{EndAlong, ended_by}
 use Rattle.kernel_calls.specs.declared.translations.Ended.{Ended}
 use Rattle.memory_report.specs.Histories.{event_of, events_of, state_after}
 use Rattle.memory_report.specs.declared.entries.LogEntry.{LogEntry}
 use Rattle.process_table.specs.State.{open_with}
 use Rattle.process_table.specs.View.{View}
+use Rattle.shootdowns.specs.Windows as window
 use Rattle.locked_core.specs.declared.moment.Moment.{Moment}
 
 -- an entry, and the core after it
@@ -26,13 +27,12 @@ core_after opening (m ∷ rest) = core_after m.core rest
 abbrev pub Begins : List Moment → List Moment → Type 0
 Begins log seen = (rest : List Moment) × (log ≡ seen ++ rest)
 
--- each call had the core that the call before it left, went on to the next state, and left of all that a processor may
--- keep what its event leaves of it, in that core
+-- The kernel opened with a core. Each call began in the core that the call before it left, and left its own: the next
+-- state, and each way that its event doesn't end leads where it led.
 pub record Follows (opening : View) (log : List Moment) : Type 0 where
-  pub moved : (before : List Moment) (m : Moment) (rest : List Moment) → log ≡ before ++ m ∷ rest
-      → m.core.state ≡ next (core_after opening before).state (event_of m.entry)
-  pub ends : (before : List Moment) (m : Moment) (rest : List Moment) → log ≡ before ++ m ∷ rest
-      → Ends (ended_by (core_after opening before) (event_of m.entry)) (core_after opening before) m.core
+  pub opened : IsCore opening
+  pub each : (before : List Moment) (m : Moment) (rest : List Moment) → log ≡ before ++ m ∷ rest
+      → window.Begins (core_after opening before) (event_of m.entry) m.entry.reply m.core
 
 -- what each of these calls ended, in the core that it had
 abbrev pub ended_along : View → List Moment → List Ended

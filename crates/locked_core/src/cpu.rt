@@ -15,6 +15,7 @@ use crate::faults::Fault;
 use crate::gate::{Gate, Point};
 use crate::invalidate::Invalidate;
 use crate::kernel::Kernel;
+use crate::locked::Asked;
 use crate::tally::{Own, Tally};
 use kernel_calls::{Call, Ended, Reply};
 use page_words::Pid;
@@ -244,24 +245,14 @@ impl<N: Name> Cpu<N> {
         ensures refused { IfErr result (λ f. (log : List LogEntry) × IsRefused N.frames log self.old f) }
         ensures err { OnErr result (self.new ≡ self.old) }
     {
+        let ends = false;
         let mut guard = kernel.taken(rt);
-        let ready = match guard.judge(self, pid, call) {
-            Ok(ready) => ready,
-            Err(fault) => {
-                MutexGuard::unlock(guard);
-                return Err(fault);
-            }
-        };
-        kernel.gate.reach(Point::Locked);
-        let reply = match guard.carry_out(rt, ready, self) {
-            Ok(reply) => reply,
-            Err(fault) => {
-                MutexGuard::unlock(guard);
-                return Err(fault);
-            }
-        };
-        kernel.gate.reach(Point::Published);
+        let made = guard.make(rt, &kernel.gate, self, Asked { pid, call, ends });
+        if made.is_ok() {
+            kernel.gate.reach(Point::Published);
+        }
         MutexGuard::unlock(guard);
+        let (reply, _) = made?;
         Ok(reply)
     }
 
@@ -293,27 +284,14 @@ impl<N: Name> Cpu<N> {
         ensures refused { IfErr result (λ f. (log : List LogEntry) × IsRefused N.frames log self.old f) }
         ensures err { OnErr result (self.new ≡ self.old) }
     {
-        let gate = &kernel.gate;
+        let ends = true;
         let mut guard = kernel.taken(rt);
-        let ready = match guard.judge(self, pid, call) {
-            Ok(ready) => ready,
-            Err(fault) => {
-                MutexGuard::unlock(guard);
-                return Err(fault);
-            }
-        };
-        gate.reach(Point::Locked);
-        let ended = guard.ends(&ready);
-        let reply = match guard.carry_out(rt, ready, self) {
-            Ok(reply) => reply,
-            Err(fault) => {
-                MutexGuard::unlock(guard);
-                return Err(fault);
-            }
-        };
-        processors.invalidate(&ended);
-        gate.reach(Point::Published);
+        let made = guard.make(rt, &kernel.gate, self, Asked { pid, call, ends });
+        if let Ok((_, ended)) = &made {
+            processors.invalidate(ended);
+            kernel.gate.reach(Point::Published);
+        }
         MutexGuard::unlock(guard);
-        Ok((reply, ended))
+        made
     }
 }

@@ -34,7 +34,7 @@ pub use gate::{Gate, OpenGate, Point};
 pub use invalidate::Invalidate;
 pub use kernel::{Blank, Boot, Kernel};
 pub use kernel_calls::{Call, Ended, Reply};
-pub use laws::calls_follow_one_another;
+pub use laws::{calls_and_processors_make_events, calls_follow_one_another};
 pub use memory_image::Image;
 pub use memory_report::{LogEntry, Report};
 pub use moment::Moment;

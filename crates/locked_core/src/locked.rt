@@ -3,13 +3,14 @@
 ghost use Rattle.std.specs.Prelude.{◌≡◌, ◌≤◌, ◌<◌, ◌+◌, ◌==◌, ◌^◌, ◌++◌, [], ◌∷◌, replicate, IfOk, IfErr, IfSome, OnErr, List, length, true};
 ghost use Rattle.kernel_calls.specs.Translations.{ended_by, Ends};
 ghost use Rattle.left_right.specs.Sides.{view};
-ghost use Rattle.locked_core.specs.Makers.{AreAll, Closes, IsLeft, IsRefused, Prevents, calls_of_all, maker_of};
+ghost use Rattle.locked_core.specs.Endings.{EndsAtLast};
+ghost use Rattle.locked_core.specs.Makers.{AreAll, Closes, IsFollowed, IsLeft, IsRefused, Makes, Prevents, calls_of_all, maker_of};
 ghost use Rattle.locked_core.specs.Moments.{Begins, Follows, core_after, entries_in, moment};
 ghost use Rattle.locked_core.specs.Pages.{page};
 ghost use Rattle.locked_core.specs.Published.{view_of};
 ghost use Rattle.memory_image.specs.Machine.{IsImageOf};
 ghost use Rattle.memory_image.specs.Sound.{StandsFor};
-ghost use Rattle.memory_report.specs.Histories.{Legal, StartsWith, state_after, calls_of, entry_after};
+ghost use Rattle.memory_report.specs.Histories.{AreGuarded, AreIsolated, Legal, StartsWith, state_after, calls_of, entry_after};
 ghost use Rattle.locked_core.specs.Rules.{head_of, turn_after};
 ghost use Rattle.memory_report.specs.declared.entries.LogEntry.{LogEntry};
 ghost use Rattle.process_table.specs.State.{open_with};
@@ -19,6 +20,7 @@ use crate::call_log::{CallLog, entry_of};
 use crate::closing::{History, are_all, merged};
 use crate::cpu::Cpu;
 use crate::faults::Fault;
+use crate::gate::{Gate, Point};
 use crate::head::Head;
 use crate::publish::keep_up;
 use crate::rule::LogWriter;
@@ -38,6 +40,14 @@ pub struct Ready<N: Name> {
     nth: usize,
     event: Event,
     turn: Turn<N>,
+}
+
+/// A call of a process, and whether it is asked which translations the call ends.
+#[derive(Drop)]
+pub(crate) struct Asked {
+    pub(crate) pid: Pid,
+    pub(crate) call: Call,
+    pub(crate) ends: bool,
 }
 
 /// The core, the log of all calls, the history that it is, and what publishes it. Contracts see the core and the log,
@@ -63,7 +73,12 @@ impl<N: Name> Model for Locked<N> {
 
     ghost Value = { UnderLock };
 
-    ghost view = { λ l. record { core = l.core; log = l.log.entries; moments = l.head } };
+    ghost view = { λ l. record {
+      core = l.core;
+      log = l.log.entries;
+      moments = l.head;
+      is_watched = l.is_watched;
+    } };
 
     ghost invariant = { λ l. IsUnderLock N.frames N.book.history N.book.opening l.core l.log.entries l.head
         l.counted.total l.tally l.is_watched l.writer.desk.shown.value l.writer.desk.spare.value
@@ -93,6 +108,7 @@ impl<N: Name> Locked<N> {
         ensures log { result.log ≡ [] }
         ensures core { result.core.state ≡ open_with N.frames }
     {
+        core.stands();
         Locked {
             core,
             log,
@@ -179,14 +195,6 @@ impl<N: Name> Locked<N> {
         Ok(Ready { nth, event, turn })
     }
 
-    /// Returns which translations a call that was checked will end, on the memory as it is.
-    pub(crate) fn ends(&self, ready: &Ready<N>) -> Ended
-        ensures ended { result ≡ ended_by self.now.core ready.now.event }
-        ensures state { self.now.core.state ≡ state_after N.frames self.now.log }
-    {
-        self.core.ends(&ready.event)
-    }
-
     /// Carries out a call of this CPU that was checked on this very log. It reserves space in the log, decides and
     /// carries the call out in one step, and adds its entry and the core that it left to the history. Then it logs,
     /// counts and publishes it. Returns its reply; the CPU has then seen the log with its entry. It may wait only to
@@ -221,6 +229,7 @@ impl<N: Name> Locked<N> {
             ≡ calls_of ready.event.cpu self.old.log + 1) }
         ensures state { IfOk result (λ _. self.new.core.state ≡ state_after N.frames self.new.log) }
         ensures ends { IfOk result (λ _. Ends (ended_by self.old.core ready.event) self.old.core self.new.core) }
+        ensures watched { self.new.is_watched ≡ self.old.is_watched }
         ensures prevented { IfErr result Prevents }
         ensures err { OnErr result ((self.new ≡ self.old) × (cpu.new ≡ cpu.old)) }
     {
@@ -239,12 +248,50 @@ impl<N: Name> Locked<N> {
             return Err(Fault::NoMemory);
         }
         let outcome = core.perform(&event);
+        core.stands();
         let entry = entry_of(&event, nth, &outcome);
         head.add(turn, log, &entry, core);
         log.push(&entry);
         keep_up(rt, writer, *is_watched, log.entries(), &head.all());
         cpu.made(front_of(log, head), counted, tally);
         Ok(entry.reply)
+    }
+
+    /// Makes a call of this CPU: checks it, reaches the gate, and carries it out. Returns its reply. If it is asked to,
+    /// it also returns which translations the call ended, and otherwise Nothing.
+    ///
+    /// Refused as `judge` and `carry_out` are; nothing has changed then.
+    pub(crate) fn make<G: Gate + Drop, R: Wait>(
+        &mut self,
+        rt: &R,
+        gate: &G,
+        cpu: &mut Cpu<N>,
+        asked: Asked,
+    ) -> Result<(Reply, Ended), Fault>
+        ensures made { IfOk result (λ r. Makes N.frames cpu.old asked.pid asked.call cpu.new r.0) }
+        ensures ended { asked.ends ≡ true → IfOk result (λ r. EndsAtLast N.frames N.book.opening cpu.new r.1) }
+        ensures followed { IfOk result (λ _. IsFollowed N.book.opening cpu.old cpu.new) }
+        ensures learned { IfOk result (λ _. Begins cpu.new.moments cpu.old.told) }
+        ensures isolated { IfOk result (λ _. AreIsolated N.frames cpu.new.seen) }
+        ensures guarded { IfOk result (λ _. AreGuarded N.frames cpu.new.seen) }
+        ensures opened { N.book.opening.state ≡ open_with N.frames }
+        ensures number { cpu.new.number ≡ cpu.old.number }
+        ensures calls { IfOk result (λ _. calls_of cpu.new.number cpu.new.seen
+            ≡ calls_of cpu.old.number cpu.old.seen + 1) }
+        ensures all { IfOk result (λ _. cpu.new.moments ≡ self.new.moments) }
+        ensures watched { self.new.is_watched ≡ self.old.is_watched }
+        ensures refused { IfErr result (IsRefused N.frames self.old.log cpu.old) }
+        ensures err { OnErr result ((self.new ≡ self.old) × (cpu.new ≡ cpu.old)) }
+    {
+        let ready = self.judge(cpu, asked.pid, asked.call)?;
+        gate.reach(Point::Locked);
+        let ended = if asked.ends {
+            self.core.ends(&ready.event)
+        } else {
+            Ended::Nothing
+        };
+        let reply = self.carry_out(rt, ready, cpu)?;
+        Ok((reply, ended))
     }
 
     /// Returns the history, if these CPUs are all of so many, and agree with the log.

@@ -7,11 +7,12 @@ use Rattle.kernel_calls.specs.declared.calls.Event.{Event}
 use Rattle.locked_core.proofs.CatchingUp.{lags_more}
 use Rattle.locked_core.proofs.Counting.{counted_push}
 use Rattle.locked_core.proofs.Entries.{Stands, judged, logged}
-use Rattle.locked_core.proofs.Moments.{core_push, entries_append, follows_push}
+use Rattle.locked_core.proofs.Moments.{core_push, entries_append, follows_more}
 use Rattle.locked_core.specs.Held.{UnderLock}
 use Rattle.locked_core.specs.Moments.{Follows, core_after, entries_in, moment}
 use Rattle.locked_core.specs.declared.moment.Moment.{Moment}
-use Rattle.kernel_calls.specs.Translations.{ended_by, Ends}
+use Rattle.kernel_calls.proofs.TurnSteps.{is_core}
+use Rattle.shootdowns.specs.Windows.{Begins}
 use Rattle.process_table.specs.View.{View}
 use Rattle.locked_core.specs.Pages.{LagsBehind, page}
 use Rattle.memory_report.specs.Histories.{Legal, event_of}
@@ -59,11 +60,21 @@ invariant_of-self-2 g c =
     let longer2 : c.push.new.self.entries ≡ c.self.inside.log.entries ++ e ∷ [] = c.push.ensures.entries ∙ ap (λ l. l ++ e ∷ []) c.reserve.ensures.entries in
     let told : entries_in c.add.new.self ≡ c.push.new.self.entries = ap entries_in c.add.ensures ∙ (entries_append had (moment e core ∷ []) ∙ (ap (λ l. l ++ e ∷ []) c.self.invariant.told ∙ sym longer2)) in
     let mine : event_of e ≡ event = ap event_of c.entry_of-entry.ensures in
-    let went : core.state ≡ next (core_after g.N.Name.book.opening had).state (event_of e) =
-    subst (λ (t : View × Event). core.state ≡ next t.0.state t.1) (λ i. (sym c.self.invariant.left i, sym mine i)) c.perform-outcome.ensures.state in
-    let ends2 : Ends (ended_by (core_after g.N.Name.book.opening had) (event_of e)) (core_after g.N.Name.book.opening had) core =
-    subst (λ (t : View × Event). Ends (ended_by t.0 t.1) t.0 core) (λ i. (sym c.self.invariant.left i, sym mine i)) c.perform-outcome.ensures.ends in
-    let follows : Follows g.N.Name.book.opening c.add.new.self = subst (Follows g.N.Name.book.opening) (sym c.add.ensures) (follows_push g.N.Name.book.opening had (moment e core) c.self.invariant.follows went ends2) in record {
+    let later = c.stands.ensures in
+    let done = c.perform-outcome.ensures in
+    let replied : e.reply ≡ answer c.self.inside.core.state event = ap (λ (x : LogEntry). x.reply) c.entry_of-entry.ensures ∙ done.reply in
+    let begins : Begins c.self.inside.core event e.reply core = record {
+      carried = record {
+        reply = replied;
+        state = done.state;
+        ends = done.ends;
+        core = is_core later.image later.walks later.ways later.well_formed;
+      };
+      stay = done.stay;
+      loose = done.loose;
+    } in
+    let follows : Follows g.N.Name.book.opening c.add.new.self = subst (Follows g.N.Name.book.opening) (sym c.add.ensures)
+    (follows_more g.N.Name.book.opening had c.self.inside.core core event e c.self.invariant.follows c.self.invariant.left mine begins) in record {
       legal = all.legal;
       stands = all.stands;
       told = told;
@@ -160,9 +171,19 @@ returns-clause-follows g c =
     let core : View = c.perform-outcome.new.self in
     let had : List Moment = c.self.inside.head in
     let mine : event_of e ≡ event = ap event_of c.entry_of-entry.ensures in
-    let went : core.state ≡ next (core_after g.N.Name.book.opening had).state (event_of e) =
-    subst (λ (t : View × Event). core.state ≡ next t.0.state t.1) (λ i. (sym c.self.invariant.left i, sym mine i)) c.perform-outcome.ensures.state in
-    let ends : Ends (ended_by (core_after g.N.Name.book.opening had) (event_of e)) (core_after g.N.Name.book.opening had) core =
-    subst (λ (t : View × Event). Ends (ended_by t.0 t.1) t.0 core) (λ i. (sym c.self.invariant.left i, sym mine i)) c.perform-outcome.ensures.ends in
-    let follows : Follows g.N.Name.book.opening c.add.new.self = subst (Follows g.N.Name.book.opening) (sym c.add.ensures) (follows_push g.N.Name.book.opening had (moment e core) c.self.invariant.follows went ends) in
+    let later = c.stands.ensures in
+    let done = c.perform-outcome.ensures in
+    let replied : e.reply ≡ answer c.self.inside.core.state event = ap (λ (x : LogEntry). x.reply) c.entry_of-entry.ensures ∙ done.reply in
+    let begins : Begins c.self.inside.core event e.reply core = record {
+      carried = record {
+        reply = replied;
+        state = done.state;
+        ends = done.ends;
+        core = is_core later.image later.walks later.ways later.well_formed;
+      };
+      stay = done.stay;
+      loose = done.loose;
+    } in
+    let follows : Follows g.N.Name.book.opening c.add.new.self = subst (Follows g.N.Name.book.opening) (sym c.add.ensures)
+    (follows_more g.N.Name.book.opening had c.self.inside.core core event e c.self.invariant.follows c.self.invariant.left mine begins) in
     follows

@@ -1,4 +1,6 @@
 use Rattle.std.proofs.Common.{[], length, refl, sym, ap, ◌∙◌, subst}
+use Rattle.kernel_calls.proofs.TurnSteps.{is_core}
+use Rattle.kernel_calls.specs.Processors.{IsCore}
 use Rattle.locked_core.proofs.Entries.{legal_opening}
 use Rattle.locked_core.proofs.Counting.{counted_none}
 use Rattle.locked_core.proofs.Moments.{follows_none}
@@ -12,13 +14,16 @@ invariant_of-result g c =
     let none = c.requires.log in
     let begun = legal_opening g.N.Name.frames c.args.log.entries c.args.core.state c.requires.size.0 c.requires.size.1 none c.requires.core in
     let w = c.requires.writer in
+    let stands = c.stands.ensures in
+    let core : IsCore g.N.Name.book.opening =
+    subst IsCore c.requires.opening (is_core stands.image stands.walks stands.ways stands.well_formed) in
     let whole : Page = page g.N.Name.frames g.N.Name.book.history c.args.log.entries in
     let empty : LagsBehind (page g.N.Name.frames g.N.Name.book.history []) whole = record { frames = refl; book = refl; begins = (c.args.log.entries, refl) } in record {
       legal = begun.0;
       stands = begun.1;
       told = ap entries_in c.new.ensures ∙ sym none;
       left = ap (core_after g.N.Name.book.opening) c.new.ensures ∙ sym c.requires.opening;
-      follows = subst (Follows g.N.Name.book.opening) (sym c.new.ensures) (follows_none g.N.Name.book.opening);
+      follows = subst (Follows g.N.Name.book.opening) (sym c.new.ensures) (follows_none g.N.Name.book.opening core);
       opened = sym (ap (λ v. v.state) c.requires.opening) ∙ c.requires.core;
       counted = c.requires.counted.0 ∙ ap length (sym none);
       tallied = c.requires.counted.1 ∙ sym (ap counts_of none ∙ counted_none);
