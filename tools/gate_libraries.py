@@ -8,7 +8,7 @@ import os
 import pathlib
 import shutil
 
-from scripts import module_of
+from modules import module_of
 
 ROOT = pathlib.Path(__file__).resolve().parent.parent
 
