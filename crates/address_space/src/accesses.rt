@@ -1,9 +1,9 @@
 //! Loads and stores through pages that were found, one page or two.
 
-ghost use Rattle.std.specs.Prelude.{◌≡◌, ◌+◌, ◌<◌, ◌≤◌, ◌^◌, [], ◌∷◌, length, slice_index, true, Some, ◌*◌, ◌≢◌, false, is_some, map};
+ghost use Rattle.std.specs.Prelude.{◌≡◌, ◌+◌, ◌-◌, ◌<◌, ◌≤◌, ◌^◌, [], ◌∷◌, ◌++◌, length, slice_index, true, Some, ◌*◌, false, is_some};
 ghost use Rattle.page_words.specs.Addresses.{byte_count, page_number, offset_number, covered, second_page, touched, EachTouched, IsUserPage};
 ghost use Rattle.phys_memory.specs.Bytes.{frame_bytes, with_frame};
-ghost use Rattle.address_space.specs.Spaces.{write_at, bytes_of, value_of, bytes_at, at_page, byte_at, number_of, all_accessed, all_stored, accessed};
+ghost use Rattle.address_space.specs.Spaces.{write_at, bytes_of, value_of, bytes_at, at_page, cell_or_fresh, number_of, all_accessed, all_stored};
 ghost use Rattle.address_space.specs.Sound.{Inside};
 ghost use Rattle.address_space.specs.Finds.{LiesIn, EntryIs, BytesStored};
 ghost use Rattle.std.specs.Option.{option_map};
@@ -50,6 +50,57 @@ pub fn byte_of(memory: &Memory, frame: Frame, at: u32) -> u8
     memory.read_byte(place_of(frame, at))
 }
 
+/// The number in one to three bytes of a frame, from a place on.
+fn few_at(memory: &Memory, frame: Frame, at: u32, count: u32) -> u32
+    requires frame { Inside memory.now frame }
+    requires some { 0 < count }
+    requires few { count < 4 }
+    requires inside { at + count ≤ 4096 }
+    ensures value { result ≡ value_of (bytes_at (frame_bytes memory.now frame) at count) }
+    ensures bound { result < 256 ^ count }
+{
+    let first = byte_of(memory, frame, at);
+    match count {
+        1 => u32::from(first),
+        2 => of_two(first, byte_of(memory, frame, at + 1)),
+        _ => {
+            let low = of_two(first, byte_of(memory, frame, at + 1));
+            low + 65_536 * u32::from(byte_of(memory, frame, at + 2))
+        }
+    }
+}
+
+/// A number of one to three bytes, behind which those of another come.
+fn joined(low: u32, count: u32, high: u32) -> u32
+    requires some { 0 < count }
+    requires few { count < 4 }
+    requires low { low < 256 ^ count }
+    requires high { high < 256 ^ (4 - count) }
+    ensures { result ≡ low + 256 ^ count * high }
+{
+    match count {
+        1 => low + 256 * high,
+        2 => low + 65_536 * high,
+        _ => low + 16_777_216 * high,
+    }
+}
+
+/// The number in bytes of which the first lie at the end of a frame, and the others at the start of another one.
+#[inline(always)]
+fn number_across(memory: &Memory, first: Frame, second: Frame, at: u32, size: Size) -> u32
+    requires first { Inside memory.now first }
+    requires second { Inside memory.now second }
+    requires at { at < 4096 }
+    requires over { 4096 < at + byte_count size }
+    ensures { result ≡ value_of (bytes_at (frame_bytes memory.now first) at (4096 - at)
+        ++ bytes_at (frame_bytes memory.now second) 0 (at + byte_count size - 4096)) }
+{
+    let cut = 4096 - at;
+    let low = few_at(memory, first, at, cut);
+    let high = few_at(memory, second, 0, size.bytes() - cut);
+    joined(low, cut, high)
+}
+
 /// Sets three flags of a page's entry. A word that stays as it is isn't written.
 pub fn set_flags(memory: &mut Memory, found: &Found, write: bool, accessed: bool, dirty: bool)
     requires lies { LiesIn memory.old found.now }
@@ -84,7 +135,7 @@ pub fn load(memory: &mut Memory, found: &Found, at: u32, size: Size) -> u32
 }
 
 /// Writes the lowest byte of a number.
-fn put_byte(memory: &mut Memory, frame: Frame, at: u32, value: u32)
+pub fn put_byte(memory: &mut Memory, frame: Frame, at: u32, value: u32)
     requires frame { Inside memory.old frame }
     requires inside { at < 4096 }
     ensures frames { frame_bytes memory.new ≡ with_frame (frame_bytes memory.old) frame
@@ -171,67 +222,41 @@ fn four_bytes(value: u32) -> [u8; 4]
 }
 
 impl Spaces {
-    /// Returns the byte at an address that lies in a page or in the next one. Each page has its place.
-    fn byte_over(&self, pid: Pid, address: Vaddr, page: Page, first: &Place, second: &Place) -> u8
-        requires user { IsUserPage (page_number address) }
-        requires least { page ≤ page_number address }
-        requires most { page_number address ≤ page + 1 }
-        requires first { first.now ≡ place_in self.now.directories self.now.bytes pid page }
-        requires second { page_number address ≢ page → second.now
-            ≡ place_in self.now.directories self.now.bytes pid (page + 1) }
-        ensures { result ≡ byte_at self.now.spaces pid address }
+    /// The frame that has the bytes of a page, whose place this is: where it isn't mapped, frame 0, which is all zero.
+    #[inline(always)]
+    fn frame_at(&self, pid: Pid, page: Page, place: &Place) -> Frame
+        requires user { IsUserPage page }
+        requires place { place.now ≡ place_in self.now.directories self.now.bytes pid page }
+        ensures inside { Inside self.now.bytes result }
+        ensures bytes { (cell_or_fresh self.now.spaces (at_page pid page)).bytes ≡ frame_bytes self.now.bytes result }
     {
-        if page_of(address) == page {
-            self.byte_at(pid, address, first)
-        } else {
-            self.byte_at(pid, address, second)
+        let _ = &self.memory;
+        match place.found() {
+            Some(found) => found.entry.frame,
+            None => Frame(0),
         }
     }
 
-    /// The number in the two bytes from an address on.
-    fn two_over(&self, pid: Pid, address: Vaddr, page: Page, first: &Place, second: &Place) -> u32
-        requires user { IsUserPage (page_number address) }
-        requires behind { IsUserPage (page_number (address + 1)) }
-        requires least { page ≤ page_number address }
-        requires most { page_number (address + 1) ≤ page + 1 }
-        requires first { first.now ≡ place_in self.now.directories self.now.bytes pid page }
-        requires second { page_number (address + 1) ≢ page
-            → second.now ≡ place_in self.now.directories self.now.bytes pid (page + 1) }
-        ensures value { result ≡ byte_at self.now.spaces pid address + 256 * byte_at self.now.spaces pid (address + 1) }
-        ensures bound { result < 2 ^ 16 }
-    {
-        of_two(
-            self.byte_over(pid, address, page, first, second),
-            self.byte_over(pid, Vaddr(address.0 + 1), page, first, second),
-        )
-    }
-
-    /// Returns the number at an address, byte by byte: 0 for each byte whose page is not mapped. The places are those
-    /// of the address's page and, if the bytes reach into it, of the next one.
+    /// The number in bytes that lie in two pages, whose places these are.
+    #[inline(always)]
     fn number_over(
         &self,
         pid: Pid,
         address: Vaddr,
         size: Size,
+        behind: Page,
         first: &Place,
         second: &Place,
     ) -> u32
         requires user { EachTouched address size IsUserPage }
+        requires behind { second_page address size ≡ Some behind }
         requires first { first.now ≡ place_in self.now.directories self.now.bytes pid (page_number address) }
-        requires second { 4096 < offset_number address + byte_count size
-            → second.now ≡ place_in self.now.directories self.now.bytes pid (page_number address + 1) }
+        requires second { second.now ≡ place_in self.now.directories self.now.bytes pid behind }
         ensures { result ≡ number_of self.now.spaces pid (covered address size) }
     {
-        let page = page_of(address);
-        match size {
-            Size::One => u32::from(self.byte_over(pid, address, page, first, second)),
-            Size::Two => self.two_over(pid, address, page, first, second),
-            Size::Four => {
-                let low = self.two_over(pid, address, page, first, second);
-                let high = self.two_over(pid, Vaddr(address.0 + 2), page, first, second);
-                low + 65536 * high
-            }
-        }
+        let one = self.frame_at(pid, page_of(address), first);
+        let other = self.frame_at(pid, behind, second);
+        number_across(&self.memory, one, other, offset_of(address), size)
     }
 
     /// What stands at the second page of an access, where there is one.
@@ -271,12 +296,15 @@ impl Spaces {
             (second_page address size) }
         ensures { result ≡ number_of self.now.spaces pid (covered address size) }
     {
-        if let Some(value) = self.number_at(pid, address, size, first) {
-            return value;
-        }
-        match second {
-            Some(second) => self.number_over(pid, address, size, first, second),
-            None => self.number_over(pid, address, size, first, first),
+        match second_page(address, size) {
+            None => {
+                let frame = self.frame_at(pid, page_of(address), first);
+                number_at(&self.memory, frame, offset_of(address), size)
+            }
+            Some(behind) => {
+                let second = second.unwrap();
+                self.number_over(pid, address, size, behind, first, &second)
+            }
         }
     }
 
@@ -349,7 +377,7 @@ impl Spaces {
         ensures directories { self.new.directories ≡ self.old.directories }
         ensures roles { self.new.roles ≡ self.old.roles }
     {
-        let value = self.number_over(pid, address, size, first, second);
+        let value = self.number_over(pid, address, size, behind, first, second);
         self.load_at(pid, address, Size::One, first);
         self.load_at(pid, start_of(behind), Size::One, second);
         value
@@ -404,6 +432,7 @@ impl Spaces {
     }
 
     /// Stores bytes that lie in two pages, in each as one part.
+    #[inline(always)]
     fn store_over(
         &mut self,
         pid: Pid,

@@ -71,6 +71,7 @@ impl Spaces {
 
     /// What a process's cost falls by when a mapped page goes, whose place this is: 2 where it is the last of its
     /// region of 1,024 pages, whose table goes too, else 1.
+    #[inline(always)]
     pub fn relief_at(&self, pid: Pid, page: Page, place: &Place) -> u32
         requires mapped { is_some (map.get self.now.spaces (at_page pid page)) ≡ true }
         requires user { IsUserPage page }

@@ -34,6 +34,7 @@ use page_words::{
 };
 use phys_memory::Memory;
 pub use place::{Found, Place};
+pub use restoring::have_places;
 use std::alloc::Global;
 use std::marker::Model;
 

@@ -13,7 +13,7 @@ ghost use Rattle.address_space.specs.Stays.{FramesStay, none_goes};
 ghost use Rattle.address_space.specs.Finds.{LiesIn, EntryIs, BytesStored};
 
 use crate::Spaces;
-use crate::accesses::set_flags;
+use crate::accesses::{put_byte, set_flags};
 use crate::place::{Found, Place};
 use page_map::place_of;
 use page_words::{Frame, Pid, Vaddr, offset_of, page_of};
@@ -43,9 +43,9 @@ fn read_part(memory: &mut Memory, found: &Found, at: u32, out: &mut [u8])
     set_flags(memory, found, found.entry.write, true, found.entry.dirty);
 }
 
-/// Writes bytes into a frame.
+/// Writes bytes into a frame, as one move.
 #[inline(never)]
-fn put_part(memory: &mut Memory, frame: Frame, at: u32, part: &[u8])
+fn move_part(memory: &mut Memory, frame: Frame, at: u32, part: &[u8])
     requires frame { Inside memory.old frame }
     requires place { at < 4096 }
     requires inside { at + length part.now ≤ 4096 }
@@ -56,7 +56,33 @@ fn put_part(memory: &mut Memory, frame: Frame, at: u32, part: &[u8])
     memory.write_bytes(place_of(frame, at), part);
 }
 
+/// Writes bytes into a frame. So few as a number has in one of two pages are written one by one.
+#[inline(always)]
+fn put_part(memory: &mut Memory, frame: Frame, at: u32, part: &[u8])
+    requires frame { Inside memory.old frame }
+    requires place { at < 4096 }
+    requires inside { at + length part.now ≤ 4096 }
+    ensures frames { frame_bytes memory.new ≡ with_frame (frame_bytes memory.old) frame
+        (write_at (frame_bytes memory.old frame) at part.now) }
+    ensures length { length memory.new ≡ length memory.old }
+{
+    match part.len() {
+        1 => put_byte(memory, frame, at, u32::from(part[0])),
+        2 => {
+            put_byte(memory, frame, at, u32::from(part[0]));
+            put_byte(memory, frame, at + 1, u32::from(part[1]));
+        }
+        3 => {
+            put_byte(memory, frame, at, u32::from(part[0]));
+            put_byte(memory, frame, at + 1, u32::from(part[1]));
+            put_byte(memory, frame, at + 2, u32::from(part[2]));
+        }
+        _ => move_part(memory, frame, at, part),
+    }
+}
+
 /// Writes bytes into a page, and sets accessed and dirty in its entry.
+#[inline(always)]
 fn write_part(memory: &mut Memory, found: &Found, at: u32, part: &[u8])
     requires lies { LiesIn memory.old found.now }
     requires place { at < 4096 }
@@ -115,6 +141,7 @@ impl Spaces {
 
     /// Writes bytes from an address on, which lie in one page, which is mapped and isn't lazy; accessed and dirty are
     /// set. The place is the page's.
+    #[inline(always)]
     pub(crate) fn store_part_at(&mut self, pid: Pid, address: Vaddr, part: &[u8], place: &Place)
         requires within { offset_number address + length part.now ≤ 4096 }
         requires user { IsUserPage (page_number address) }

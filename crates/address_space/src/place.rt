@@ -310,38 +310,6 @@ impl Spaces {
         first.page_need() + other.need_behind(second, &first, page)
     }
 
-    /// The byte at an address of a page with this place, 0 where it is not mapped. It sets no flag.
-    pub(crate) fn byte_at(&self, pid: Pid, address: Vaddr, place: &Place) -> u8
-        requires user { IsUserPage (page_number address) }
-        requires place { place.now ≡ place_in self.now.directories self.now.bytes pid (page_number address) }
-        ensures { result ≡ byte_at self.now.spaces pid address }
-    {
-        let _ = &self.memory;
-        match place.found() {
-            Some(found) => accesses::byte_of(&self.memory, found.entry.frame, offset_of(address)),
-            None => 0,
-        }
-    }
-
-    /// The number at an address, where its bytes lie in one page, whose place this is, and it is mapped.
-    pub(crate) fn number_at(
-        &self,
-        pid: Pid,
-        address: Vaddr,
-        size: Size,
-        place: &Place,
-    ) -> Option<u32>
-        requires user { IsUserPage (page_number address) }
-        requires place { place.now ≡ place_in self.now.directories self.now.bytes pid (page_number address) }
-        ensures { IfSome result (λ value. value ≡ number_of self.now.spaces pid (covered address size)) }
-    {
-        if second_page(address, size).is_some() {
-            return None;
-        }
-        let found = place.found()?;
-        Some(accesses::number_at(&self.memory, found.entry.frame, offset_of(address), size))
-    }
-
     /// Gives a lazy page a frame of its own, and returns the page's place afterwards. A real page is unchanged, and no
     /// page becomes lazy. The spaces do not change. `place` is the page's.
     #[inline(always)]

@@ -46,8 +46,8 @@ fn counts_of(alloc: Global, memory: &Memory, roles: &[Role]) -> Option<Vec<u32>>
     Some(counts)
 }
 
-/// There is a place for each process. It computes nothing.
-fn have_places(directories: &Directories)
+/// States that there is a place for each process. It computes nothing.
+pub fn have_places(directories: &Directories)
     ensures { length directories.now ≡ 64 }
 {
     let _ = directories;

@@ -4,8 +4,14 @@ use Prelude.{◌≡◌, ℕ, nat_lt, arith, Bool, true, false, None, if◌then�
 use Prelude.{second_page, touched, EachTouched, IsUserPage, Size, first_by_page, slot_at, at_page, cell_or_fresh}
 use Prelude.{is_lazy_at, takes_stores, with_touched-same, Access, Write, extra_touched, State, is_mapped, overdrawn}
 use Prelude.{View, memory_of, Quota, page_is_user, outside, forbidden, fault_or, step_at, plan_at, takes_no_frame}
-use Rattle.fault_handler.specs.Plans.{at_once}
+use Rattle.fault_handler.specs.Plans.{access_result, at_once, settled}
+use Rattle.fault_handler.specs.declared.plans.Stop.TheVariants as stop
+use Rattle.std.proofs.Common.{Err, Ok, ap, ◌∙◌}
 use Rattle.std.proofs.lemmas.Bool.{not-true, le-ltb, and_parts}
+use Rattle.process_table.specs.Calls.{access_value}
+use Rattle.process_table.specs.State.{is_live}
+use Rattle.process_table.specs.declared.causes.Cause.TheVariants.{NoProcess}
+use Rattle.fault_handler.specs.declared.plans.Plan.{Plan}
 use Rattle.address_space.proofs.costs.AccessNeeds.{cost-with_touched}
 use Rattle.fault_handler.proofs.Settled.{each_page}
 use Rattle.fault_handler.specs.declared.plans.PageStep.TheVariants as step
@@ -54,3 +60,13 @@ module _ (v : View) (p address : ℕ) (size : Size) where
       → is_mapped s (slot_at p address) ≡ true → (access ≡ Write → Takes (page_number address))
       → plan_at v p address size access ≡ at_once
   completes_at_once access within user mapped takes = grind (arith, planned)
+
+  -- the result of an access that completes as memory stands
+  pub completed : (access : Access) → is_live s p ≡ true → takes_no_frame (plan_at v p address size access) ≡ true
+      → access_result v p address size access ≡ Ok (access_value s p address size access)
+  completed access live ends =
+      ap (λ b. if b then settled (plan_at v p address size access) (access_value s p address size access) else Err (stop.Refused NoProcess)) live
+      ∙ is_ok (plan_at v p address size access) ends
+    where
+      is_ok : (x : Plan) → takes_no_frame x ≡ true → settled x (access_value s p address size access) ≡ Ok (access_value s p address size access)
+      is_ok x h = grind arith

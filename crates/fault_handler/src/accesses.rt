@@ -1,14 +1,14 @@
 //! Accesses, each by one call: what completes as memory stands, in one page, and any other by its plan.
 
-ghost use Rattle.std.specs.Prelude.{◌≡◌, ◌↔◌, true, false, IfSome, IsSome, IsNone, IsOk, IsErr, Some, None, if◌then◌else◌};
+ghost use Rattle.std.specs.Prelude.{◌≡◌, ◌↔◌, true, false, Ok, IfSome, IsSome, IsNone, IsOk, IsErr, Some, None, is_some, if◌then◌else◌};
 ghost use Rattle.page_words.specs.Addresses.{page_number, second_page, IsUserPage};
-ghost use Rattle.address_space.specs.Places.{place_in};
+ghost use Rattle.address_space.specs.Places.{found_of, place_in, takes_place};
 ghost use Rattle.address_space.specs.Stays.{FramesStay, none_goes};
 ghost use Rattle.process_table.specs.Calls.{access_value, after_access, after_load, after_store, loaded};
 ghost use Rattle.process_table.specs.Image.{memory_of};
 ghost use Rattle.process_table.specs.State.{container_of, is_live};
 ghost use Rattle.fault_handler.specs.Fills.{lazy_written};
-ghost use Rattle.fault_handler.specs.Plans.{access_result, at_once, plan_at};
+ghost use Rattle.fault_handler.specs.Plans.{access_result, at_once, outside, plan_at};
 ghost use Rattle.fault_handler.specs.declared.plans.Plan.TheVariants as plan;
 ghost use Rattle.fault_handler.specs.declared.plans.Stop.TheVariants as stop;
 ghost use Rattle.process_table.specs.declared.causes.Cause.TheVariants.{NoProcess};
@@ -20,7 +20,7 @@ use crate::plans::{PageStep, Plan, Stop};
 use crate::{map_by_step, settle_at};
 use address_space::Place;
 use page_words::{Pid, Size, Vaddr, in_user_range, page_of, second_page};
-use process_table::{Cause, Processes};
+use process_table::{Cause, Places, Processes};
 use quota_tree::Container;
 use table_walk::{Access, PageFault};
 
@@ -203,9 +203,56 @@ fn plan_and_settle(
     }
 }
 
-/// An access over two pages, or outside the user range, as `access` makes it.
+/// Whether a page with this place takes an access as memory stands: it is mapped, and for a write has the right to
+/// write and a frame of its own.
+#[inline(always)]
+fn takes(place: &Place, access: Access) -> bool
+    ensures read { access ≡ Access.Read → result ≡ is_some (found_of place.now) }
+    ensures write { access ≡ Access.Write → result ≡ takes_place place.now }
+{
+    match access {
+        Access::Read => place.is_mapped(),
+        Access::Write => place.takes_stores(),
+    }
+}
+
+/// Tries an access over two pages of the user range that completes as memory stands: the value read, or 0 after a
+/// write. None where it doesn't, and nothing changes.
+#[inline(always)]
+fn try_over(
+    processes: &mut Processes,
+    pid: Pid,
+    address: Vaddr,
+    size: Size,
+    access: Access,
+    value: u32,
+) -> Option<u32>
+    requires within { outside address size ≡ None }
+    ensures result { IfSome result (λ value. access_result processes.old pid address size access ≡ Ok value) }
+    ensures state { IsSome result → processes.new.state
+        ≡ after_access processes.old.state pid address size access value }
+    ensures stay { FramesStay none_goes (memory_of processes.old) (memory_of processes.new) }
+    ensures none { IsNone result → processes.new ≡ processes.old }
+{
+    let page = page_of(address);
+    let second = second_page(address, size)?;
+    let first = processes.spaces().place(pid, page);
+    processes.tells(pid, page, &first);
+    let behind = processes.spaces().place(pid, second);
+    processes.tells(pid, second, &behind);
+    if !takes(&first, access) || !takes(&behind, access) {
+        return None;
+    }
+    let places = Places {
+        first: Some(first),
+        second: Some(behind),
+    };
+    Some(processes.access_at(pid, address, size, access, value, &places))
+}
+
+/// An access over two pages by its plan, as `access` makes it.
 #[inline(never)]
-fn access_over(
+fn plan_over(
     processes: &mut Processes,
     pid: Pid,
     address: Vaddr,
@@ -237,6 +284,29 @@ fn access_over(
         )),
         Plan::Fault(fault) => Err(Stop::Fault(fault)),
         Plan::Refused(cause) => Err(Stop::Refused(cause)),
+    }
+}
+
+/// An access over two pages of the user range, as `access` makes it.
+#[inline(never)]
+fn access_over(
+    processes: &mut Processes,
+    pid: Pid,
+    address: Vaddr,
+    size: Size,
+    access: Access,
+    value: u32,
+) -> Result<u32, Stop>
+    requires within { outside address size ≡ None }
+    ensures result { result ≡ access_result processes.old pid address size access }
+    ensures state { IsOk result → processes.new.state ≡ after_access processes.old.state pid address size access value }
+    ensures stay { FramesStay (lazy_written access pid address size) (memory_of processes.old)
+        (memory_of processes.new) }
+    ensures kept { IsErr result → processes.new ≡ processes.old }
+{
+    match try_over(processes, pid, address, size, access, value) {
+        Some(value) => Ok(value),
+        None => plan_over(processes, pid, address, size, access, value),
     }
 }
 

@@ -80,6 +80,38 @@ pub fn next_region(memory: &Memory, directory: Frame, first: u32) -> Option<Regi
     None
 }
 
+/// The entry of an index of a table, where there is one.
+fn listed_at(memory: &Memory, table: Frame, place: usize) -> Option<Listed>
+    requires inside { 4096 * table + 4096 ≤ length memory.now }
+    requires place { place < 1024 }
+    ensures index { IfSome result (λ listed. listed.index ≡ place) }
+    ensures entry { IfSome result (λ listed. word_entry (word_in (frame_bytes memory.now table) place)
+        ≡ Some listed.entry) }
+    ensures none { IfNone result (word_entry (word_in (frame_bytes memory.now table) place) ≡ None) }
+{
+    let index = place as u32;
+    let entry = word_entry(memory, table, index)?;
+    Some(Listed { index, entry })
+}
+
+/// The first entry of two indexes of a table, one behind the other; None where there is none.
+fn listed_of_two(memory: &Memory, table: Frame, place: usize) -> Option<Listed>
+    requires inside { 4096 * table + 4096 ≤ length memory.now }
+    requires place { place < 1023 }
+    ensures within { IfSome result (λ listed. (place ≤ listed.index) × (listed.index < place + 2)) }
+    ensures entry { IfSome result (λ listed. word_entry (word_in (frame_bytes memory.now table) listed.index)
+        ≡ Some listed.entry) }
+    ensures least { IfSome result (λ listed. (index : ℕ) → place ≤ index → index < listed.index
+        → word_entry (word_in (frame_bytes memory.now table) index) ≡ None) }
+    ensures none { IfNone result ((index : ℕ) → place ≤ index → index < place + 2
+        → word_entry (word_in (frame_bytes memory.now table) index) ≡ None) }
+{
+    match listed_at(memory, table, place) {
+        Some(listed) => Some(listed),
+        None => listed_at(memory, table, place + 1),
+    }
+}
+
 /// The first entry of a table from an index on; None where there is none. It reads each word of the table from that
 /// index on once, up to the one that it finds.
 pub fn next_listed(memory: &Memory, table: Frame, first: u32) -> Option<Listed>
@@ -92,10 +124,15 @@ pub fn next_listed(memory: &Memory, table: Frame, first: u32) -> Option<Listed>
     ensures none { IfNone result ((index : ℕ) → first ≤ index → index < 1024
         → word_entry (word_in (frame_bytes memory.now table) index) ≡ None) }
 {
-    for place in first as usize..1024 {
-        let index = place as u32;
-        if let Some(entry) = word_entry(memory, table, index) {
-            return Some(Listed { index, entry });
+    let first = first as usize;
+    if first % 2 == 1 && first < 1024 {
+        if let Some(listed) = listed_at(memory, table, first) {
+            return Some(listed);
+        }
+    }
+    for pair in (first + 1) / 2..512 {
+        if let Some(listed) = listed_of_two(memory, table, 2 * pair) {
+            return Some(listed);
         }
     }
     None

@@ -6,19 +6,12 @@ ghost use Rattle.process_table.specs.Image.{StandsFor, IsSoundImage};
 ghost use Rattle.process_table.specs.Restored.{image_in, RootIsItsParent};
 
 use crate::processes::Processes;
-use address_space::Spaces;
+use address_space::{Spaces, have_places};
 use alloc_table::Role;
 use page_sharing::Offers;
 use page_words::{Frame, MachineFault, WIDE_FRAMES};
 use quota_tree::{Account, Quotas};
 use std::alloc::Global;
-
-/// There is a place for each process. It computes nothing.
-fn have_places(directories: &[Option<Frame>; 64])
-    ensures { length directories.now ≡ 64 }
-{
-    let _ = directories;
-}
 
 impl Processes {
     /// The processes that directories, accounts, bytes and roles represent: a sound image of 16 to 1,048,576 frames. No

@@ -9,7 +9,7 @@ ghost use Rattle.std.specs.Prelude.{◌≡◌, ◌≢◌, ◌↔◌, ◌≤◌, 
 ghost use Rattle.process_table.specs.State.{open_with};
 ghost use Rattle.process_table.specs.Image.{StandsFor, image_of};
 ghost use Rattle.phys_memory.specs.Bytes.{frame_bytes};
-ghost use Rattle.tower_c.specs.Border.{EndInOrder, LeavesMemory, event_in, reply_in, state_after, is_carried_out, none_is_carried_out, replies_in, end_after, given, frames_in, directory_in, container_in, role_in, copy_in, walk_in, ended_in, ends_in, ended_numbers, version};
+ghost use Rattle.tower_c.specs.Border.{EndInOrder, LeavesMemory, event_in, numbers, reply_in, state_after, is_carried_out, none_is_carried_out, replies_in, end_after, given, frames_in, directory_in, container_in, role_in, copy_in, walk_in, ended_in, ends_in, ended_numbers, version};
 ghost use Rattle.c_handle.specs.Handle.{IsTower};
 ghost use Rattle.kernel_calls.specs.Translations.{Ends};
 
@@ -34,7 +34,7 @@ use kernel_calls::{Core, Ended, WideFault};
 pub use loading::tower_load_bytes;
 pub use memory::{TowerMemory, tower_memory};
 use numbers::{
-    access_from, container_from, ended_from, event_from, no_event, pid_from, role_from, told_from,
+    access_from, container_from, done, ended_from, event_from, no_event, pid_from, role_from, tell,
     walk_from,
 };
 pub use numbers::{TowerContainer, TowerEnded, TowerEvent, TowerReply, TowerRole, TowerWalk};
@@ -107,8 +107,29 @@ pub extern "C" fn tower_boot_wide(alloc: Global, frames: u32, tower: &mut Tower)
     }
 }
 
-/// Carries out an event on a core, and returns its reply. Numbers that are no event change nothing.
+/// Carries out an event on a core, and writes its reply into numbers that are all 0. Numbers that are no event change
+/// nothing.
 #[tactic(auto, unfolding(crate::specs::Border::is_carried_out))]
+#[inline(always)]
+fn step_to(core: &mut Core, event: &TowerEvent, reply: &mut TowerReply)
+    requires blank { reply.old ≡ numbers 0 0 0 0 }
+    ensures reply { reply.new ≡ reply_in core.old.state (event_in event.now) }
+    ensures state { core.new.state ≡ state_after core.old.state (event_in event.now) }
+    ensures stands { StandsFor (image_of core.new) core.new.state }
+    ensures ends { Ends (ends_in core.old (event_in event.now)) core.old core.new }
+    ensures memory { LeavesMemory core.old core.new (event_in event.now) }
+    ensures refused { is_carried_out core.old.state (event_in event.now) ≡ false → core.new ≡ core.old }
+{
+    match event_from(event) {
+        Some(event) => tell(&core.step(&event), reply),
+        None => {
+            core.stands();
+            *reply = no_event();
+        }
+    }
+}
+
+/// Carries out an event on a core, and returns its reply. Numbers that are no event change nothing.
 #[inline(always)]
 pub(crate) fn step(core: &mut Core, event: &TowerEvent) -> TowerReply
     ensures reply { result ≡ reply_in core.old.state (event_in event.now) }
@@ -118,13 +139,9 @@ pub(crate) fn step(core: &mut Core, event: &TowerEvent) -> TowerReply
     ensures memory { LeavesMemory core.old core.new (event_in event.now) }
     ensures refused { is_carried_out core.old.state (event_in event.now) ≡ false → core.new ≡ core.old }
 {
-    match event_from(event) {
-        Some(event) => told_from(&core.step(&event)),
-        None => {
-            core.stands();
-            no_event()
-        }
-    }
+    let mut reply = done();
+    step_to(core, event, &mut reply);
+    reply
 }
 
 /// Carries out one event: false where the handle has no core. Numbers that are no event change nothing,
@@ -153,7 +170,8 @@ pub extern "C" fn tower_step(
 {
     match take(alloc, tower) {
         Some(mut core) => {
-            *reply = step(&mut core, event);
+            *reply = done();
+            step_to(&mut core, event, reply);
             put(tower, core);
             true
         }

@@ -208,35 +208,58 @@ pub fn refused_for(cause: Cause) -> TowerReply
     numbers_from(6, number_from(cause), 0, 0)
 }
 
-/// A reply as numbers.
+/// Writes the kind of a reply and its first number, where all numbers are 0.
 #[inline(always)]
-pub fn told_from(reply: &Reply) -> TowerReply
-    ensures { result ≡ reply_numbers reply.now }
+fn put_numbers(to: &mut TowerReply, kind: u32, first: u32)
+    requires { to.old ≡ numbers 0 0 0 0 }
+    ensures { to.new ≡ numbers kind first 0 0 }
+{
+    to.kind = kind;
+    to.first = first;
+}
+
+/// Writes a reply where all numbers are 0, as those of Done are: only what isn't 0 is written.
+#[inline(always)]
+pub fn tell(reply: &Reply, to: &mut TowerReply)
+    requires { to.old ≡ numbers 0 0 0 0 }
+    ensures { to.new ≡ reply_numbers reply.now }
 {
     match *reply {
-        Reply::Done => numbers_from(0, 0, 0, 0),
-        Reply::Value(value) => numbers_from(1, value, 0, 0),
-        Reply::Child(pid) => numbers_from(2, u32::from(pid.number()), 0, 0),
+        Reply::Done => {}
+        Reply::Value(value) => put_numbers(to, 1, value),
+        Reply::Child(pid) => put_numbers(to, 2, u32::from(pid.number())),
         Reply::Info {
             write,
             may,
             accessed,
             dirty,
             holders,
-        } => TowerReply {
-            kind: 3,
-            first: holders,
-            second: 0,
-            third: 0,
-            write,
-            may,
-            accessed,
-            dirty,
-        },
-        Reply::Quota { quota, used, given } => numbers_from(4, quota, used, given),
-        Reply::Fault { addr, code } => numbers_from(5, addr.0, u32::from(code), 0),
-        Reply::Refused(cause) => numbers_from(6, number_from(cause), 0, 0),
+        } => {
+            *to = TowerReply {
+                kind: 3,
+                first: holders,
+                second: 0,
+                third: 0,
+                write,
+                may,
+                accessed,
+                dirty,
+            };
+        }
+        Reply::Quota { quota, used, given } => *to = numbers_from(4, quota, used, given),
+        Reply::Fault { addr, code } => *to = numbers_from(5, addr.0, u32::from(code), 0),
+        Reply::Refused(cause) => put_numbers(to, 6, number_from(cause)),
     }
+}
+
+/// A reply as numbers.
+#[inline(always)]
+pub fn told_from(reply: &Reply) -> TowerReply
+    ensures { result ≡ reply_numbers reply.now }
+{
+    let mut told = done();
+    tell(reply, &mut told);
+    told
 }
 
 /// What a frame serves: kind 0 Reserved, 1 Free, 2 Directory, 3 Table, 4 Page.

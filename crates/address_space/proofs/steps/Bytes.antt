@@ -7,7 +7,11 @@ use Prelude.{offset_number, byte_count, covered, second_page, EachTouched, Size,
 use Prelude.{same_itself, same_map, get-insert, get-map_values, Slot, slot_order, at_page, slot_at, Cell, Spaces, fresh}
 use Prelude.{cell_or_fresh, set_bytes, with_bytes, stored, store_in, write_at, bytes_at, bytes_of, value_of, byte_at}
 use Prelude.{number_of, all_stored, get_or-drop, append-nil, drop-take, length-take-le, take-append-drop, stays}
-use Prelude.{crosses, some_bytes, page_stays, page_next}
+use Prelude.{crosses, some_bytes, page_stays, page_next, ◌^◌}
+use Rattle.std.proofs.Math.Nat.{mul_assoc, mul_comm, pow-zero}
+use Rattle.std.proofs.lemmas.Grind.{pow_more}
+use Rattle.std.proofs.lemmas.List.{map-append}
+use Rattle.page_words.proofs.Accesses.{range_split}
 use Rattle.std.proofs.Common.{map as each}
 use Rattle.page_words.specs.FiniteMap as map
 use Rattle.page_words.specs.FiniteSet as set
@@ -58,6 +62,16 @@ bytes_by_places xs at (suc n) fits = by (drop at xs) refl (length-drop at xs) (f
         → each (slice_index xs) (range_with_len (at + 1) n) ≡ take n (drop (at + 1) xs) → slice_index xs at ∷ each (slice_index xs) (range_with_len (at + 1) n) ≡ take (suc n) ys
     by ys is long e others = grind (arith, rest)
 
+-- the number of two lists of bytes
+pub value-append : (xs ys : List ℕ) → value_of (xs ++ ys) ≡ value_of xs + 256 ^ length xs * value_of ys
+value-append [] ys = let one : 256 ^ zero ≡ 1 = pow-zero 256 in omega (arith, ap (λ n. n * value_of ys) one)
+value-append (x ∷ xs) ys =
+    let power : 256 ^ (length xs + 1) ≡ 256 ^ length xs * 256 = pow_more 256 (length xs) in
+    let next : suc (length xs) ≡ length xs + 1 = omega arith in
+    let high : 256 ^ suc (length xs) * value_of ys ≡ 256 * (256 ^ length xs * value_of ys) =
+    ap (λ n. 256 ^ n * value_of ys) next ∙ ap (λ n. n * value_of ys) (power ∙ mul_comm (256 ^ length xs) 256) ∙ mul_assoc 256 (256 ^ length xs) (value_of ys) in
+    omega (arith, value-append xs ys, high)
+
 bytes_in : (S : Spaces) (p page a o n : ℕ) → ((i : ℕ) → i < n → page_number (a + i) ≡ page) → ((i : ℕ) → i < n → offset_number (a + i) ≡ o + i)
     → each (byte_at S p) (range_with_len a n) ≡ each (slice_index (cell_or_fresh S (at_page p page)).bytes) (range_with_len o n)
 bytes_in S p page a o zero pages places = refl
@@ -84,6 +98,35 @@ number_in_page S p address size within =
     (λ i l. page_stays address i (omega (arith, fits, l)))
     (λ i l. let s : offset_number address + i < 4096 = omega (arith, fits, l) in omega (arith, s)))
     ∙ value_by_places (cell_or_fresh S (slot_at p address)).bytes (offset_number address) (byte_count size)
+
+-- the number of bytes that lie in two pages, each of 4,096 bytes
+pub number_in_two : (S : Spaces) (p address behind : ℕ) (size : Size) → second_page address size ≡ Some behind
+    → length (cell_or_fresh S (slot_at p address)).bytes ≡ 4096 → length (cell_or_fresh S (at_page p behind)).bytes ≡ 4096
+    → number_of S p (covered address size)
+    ≡ value_of (bytes_at (cell_or_fresh S (slot_at p address)).bytes (offset_number address) (4096 - offset_number address)
+    ++ bytes_at (cell_or_fresh S (at_page p behind)).bytes 0 (offset_number address + byte_count size - 4096))
+number_in_two S p address behind size over long long' =
+    let next = (crosses address size behind over).next in
+    let past = (crosses address size behind over).past in
+    let few = (some_bytes size).2 in
+    let count = (some_bytes size).1 in
+    let o : ℕ = offset_number address in
+    let cut : ℕ = 4096 - o in
+    let rest : ℕ = o + byte_count size - 4096 in
+    let here : o < 4096 = omega arith in
+    let all : byte_count size ≡ cut + rest = omega (arith, past, here) in
+    let first = bytes_in S p (page_number address) address o cut
+    (λ i l. page_stays address i (omega (arith, l, here)))
+    (λ i l. omega (arith, l, here))
+    ∙ bytes_by_places (cell_or_fresh S (slot_at p address)).bytes o cut (omega (arith, long, here)) in
+    let second = bytes_in S p behind (address + cut) 0 rest
+    (λ i l. omega (arith, next, l, few, count))
+    (λ i l. omega (arith, l, few, count))
+    ∙ bytes_by_places (cell_or_fresh S (at_page p behind)).bytes 0 rest (omega (arith, long', few, count)) in
+    ap (λ n. value_of (each (byte_at S p) (range_with_len address n))) all
+    ∙ ap (λ xs. value_of (each (byte_at S p) xs)) (range_split address cut rest)
+    ∙ ap value_of (map-append (byte_at S p) (range_with_len address cut) (range_with_len (address + cut) rest))
+    ∙ (λ i. value_of (first i ++ second i))
 
 -- ---- A store in one page
 

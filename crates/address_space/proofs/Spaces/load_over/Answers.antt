@@ -4,9 +4,6 @@ use Rattle.address_space.proofs.costs.AccessCosts.{kept}
 use Rattle.page_words.specs.FiniteMap as map
 use Rattle.address_space.proofs.Spaces.load_over.Goals as goal
 
-pub number_over-value-requires-clause-second : goal.number_over-value-requires-clause-second
-number_over-value-requires-clause-second c = grind (arith, crosses, c.requires.second, c.requires.behind)
-
 pub load_at-requires-2-clause-mapped : goal.load_at-requires-2-clause-mapped
 load_at-requires-2-clause-mapped c =
     let start = c.start_of.ensures in

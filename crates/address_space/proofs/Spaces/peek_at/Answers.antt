@@ -1,9 +1,18 @@
-use Rattle.address_space.proofs.Prelude.{arith, crosses, stays}
-use Rattle.address_space.proofs.steps.Neighbours.{no_second, second_is}
+use Rattle.address_space.proofs.Prelude
+use Prelude.{◌≡◌, ◌∙◌, ℕ, None, ap, sym, second_page, byte_count, offset_number, frame_bytes}
+use Prelude.{View, Spaces, at_page, slot_at, cell_or_fresh, value_of, bytes_at}
+use Rattle.address_space.proofs.steps.Bytes.{number_in_page}
 use Rattle.address_space.proofs.Spaces.peek_at.Goals as goal
 
-pub number_over-requires-clause-second : goal.number_over-requires-clause-second
-number_over-requires-clause-second c = grind (arith, second_is, crosses, c.in-Some-second.is, c.requires.second)
-
-pub number_over-requires-in-None-clause-second : goal.number_over-requires-in-None-clause-second
-number_over-requires-in-None-clause-second c = grind (arith, stays, no_second, c.requires.second, c.in-None.is)
+pub returns-in-None : goal.returns-in-None
+returns-in-None c =
+    let S : Spaces = c.args.self.now.spaces in
+    let count : ℕ = byte_count c.args.size in
+    let within : second_page c.args.address c.args.size ≡ None = sym c.second_page.ensures ∙ c.in-None.is in
+    let same = ap (λ (v : View). v.bytes) c.self.view_is in
+    let cell : (cell_or_fresh S (slot_at c.args.pid c.args.address)).bytes ≡ frame_bytes c.args.self.now.bytes c.frame_at-frame.result =
+    ap (λ n. (cell_or_fresh S (at_page c.args.pid n)).bytes) (sym c.page_of.ensures.value) ∙ c.frame_at-frame.ensures.bytes in
+    c.number_at.ensures
+    ∙ (λ i. value_of (bytes_at (frame_bytes (same i) c.frame_at-frame.result) (c.offset_of.ensures.value i) count))
+    ∙ ap (λ b. value_of (bytes_at b (offset_number c.args.address) count)) (sym cell)
+    ∙ sym (number_in_page S c.args.pid c.args.address c.args.size within)

@@ -5,7 +5,7 @@ use Rattle.kernel_calls.specs.declared.calls.Event.{Event}
 use Rattle.kernel_calls.proofs.Leaving.{nothing_ends, standing}
 use Rattle.process_table.specs.Image.{memory_of}
 use Rattle.tower_c.specs.Border.{event_in, ends_in}
-use Rattle.tower_c.proofs.step.Goals as goal
+use Rattle.tower_c.proofs.step_to.Goals as goal
 
 -- where nothing is done, nothing is ended
 pub returns-in-None-clause-ends : goal.returns-in-None-clause-ends
