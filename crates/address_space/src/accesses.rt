@@ -326,6 +326,7 @@ impl Spaces {
     }
 
     /// The number at an address, as `read` gives it. The places are those of the pages that its bytes lie in.
+    #[inline(always)]
     pub fn read_at(
         &mut self,
         pid: Pid,

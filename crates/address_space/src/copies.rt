@@ -55,6 +55,7 @@ fn copy_of(memory: &mut Memory, frames: &mut FrameTable, entry: PageEntry) -> Pa
 
 /// Returns the first entry of a table from an index on, if so many are left there. If none is left, it reads no word
 /// and returns None.
+#[inline(always)]
 pub fn next_left(memory: &Memory, table: Frame, first: u32, left: u32) -> Option<Listed>
     requires inside { 4096 * table + 4096 ≤ length memory.now }
     requires left { left ≡ words_left memory.now table first }
