@@ -184,10 +184,7 @@ alone s e slot w none no_accept other h = elim (same_cases slot_order other slot
   | inl same ↦ same.0
   | inr differ ↦ elim (sharing_by_consent s e slot other w (λ x. differ.0 (sym x)) h) [
     | inl before ↦ grind arith
-    | inr joins ↦ elim joins [
-      | inl one ↦ absurd (no_accept one.giver.pid one.giver.page slot.page one.call)
-      | inr two ↦ absurd (no_accept two.giver.pid two.giver.page other.page two.call)
-    ]
+    | inr joins ↦ grind arith
   ]
 ]
 
@@ -211,8 +208,7 @@ module _ (s : State) (e : Event) (w : IsWellFormed s) (live : is_live s e.pid �
   store_does address size value is h goes a place c = (
     record {
       has = new_flags;
-      alone = λ free. alone s e slot w (no_value (map.get s.spaces slot) free)
-          (λ giver page own takes. let x = is in let y = takes in cc);
+      alone = grind (arith, alone);
     },
     ap (λ (t : State). byte_in t slot (offset_number a)) goes ∙ written,
     bytes,
@@ -258,8 +254,7 @@ module _ (s : State) (e : Event) (w : IsWellFormed s) (live : is_live s e.pid �
           x.1 ∙ ap (λ (y : Option Cell). Some (unwrap_or y (fresh slot true))) (sym x.1)
 
       marks : IsDirty U slot
-      marks = subst (λ b. IsDirty U (slot_at e.pid b)) here
-          (stored_marks T e.pid address (byte_count size) value (a - address) inside)
+      marks = subst (λ b. IsDirty U (slot_at e.pid b)) here (stored_marks T e.pid address _ value _ inside)
 
       new_flags : flags_at (next s e) slot
           ≡ Some (record (flags_of (cell_or_fresh s.spaces slot)) { accessed = true; dirty = true })
@@ -267,12 +262,7 @@ module _ (s : State) (e : Event) (w : IsWellFormed s) (live : is_live s e.pid �
           let m = marks_all_stored T e.pid address (bytes_of (byte_count size) value) slot (cell_or_fresh T slot) at in
           let same : marks.cell ≡ m.0 = same_Some marks.cell m.0 (sym marks.there ∙ m.1) in
           ap (λ (t : State). flags_at t slot) goes ∙ ap (option_map flags_of) m.1
-          ∙ (λ i. Some (record {
-            write = (m.2.write ∙ ap (λ (c : Cell). c.write) cell_is) i;
-            may = (m.2.may ∙ ap (λ (c : Cell). c.may) cell_is) i;
-            accessed = (ap (λ (c : Cell). c.accessed) (sym same) ∙ marks.accessed) i;
-            dirty = (ap (λ (c : Cell). c.dirty) (sym same) ∙ marks.dirty) i;
-          }))
+          ∙ (grind (arith, cell_is))
 
       written : byte_in (after_store s e.pid address size value) slot (offset_number a)
           ≡ slice_index (bytes_of (byte_count size) value) (a - address)
@@ -285,9 +275,8 @@ module _ (s : State) (e : Event) (w : IsWellFormed s) (live : is_live s e.pid �
           × (byte_in (next s e) slot place ≡ slice_index (bytes_of (byte_count size) value) (b - address)))
       bytes = elim (many_bytes (record s { spaces = T }) e.pid address (byte_count size) value well there slot
           (cell_or_fresh T slot) place at) [
-            | inl same ↦ inl (ap (λ (t : State). byte_in t slot place) goes ∙ same
-                ∙ ap (λ (c : Cell). slice_index c.bytes place) cell_is)
-            | inr r ↦ grind (arith, there, together, slot, same_cells)
+            | inl same ↦ grind (arith, cell_is)
+            | inr r ↦ grind (arith, together, same_cells)
           ]
 
   map_does : (page : ℕ) (write : Bool) → e.call ≡ call.Map page write → is_mapped s (at_page e.pid page) ≡ false
@@ -310,8 +299,8 @@ module _ (s : State) (e : Event) (w : IsWellFormed s) (live : is_live s e.pid �
   accept_does giver giver_page page is allowed told goes = record {
     right = pending.0;
     offered = pending.1;
-    has = grind (arith, at, right_is);
-    group = grind (arith, c, from, at, contains-insert, slot, given);
+    has = grind (arith, at);
+    group = grind (arith, at, contains-insert, given);
     gone = offers_end s e (offer_key giver giver_page e.pid) (inr (refl, (page, is))) told;
   }
     where
@@ -347,8 +336,7 @@ module _ (s : State) (e : Event) (w : IsWellFormed s) (live : is_live s e.pid �
       }
 
       at : map.get (next s e).spaces slot ≡ Some new
-      at = ap (λ (t : State). map.get t.spaces slot) goes
-          ∙ get-inserted (set_holders s.spaces c.holders (set.insert c.holders slot)) slot new
+      at = ap (λ (t : State). map.get t.spaces slot) goes ∙ get-inserted (set_holders s.spaces c.holders _) slot new
 
   does : (c : Call) → e.call ≡ c → completes (answer_of s e.pid c) ≡ true → next s e ≡ after s e.pid c
       → Tells s e.pid c (answer s e) → Does s (next s e) e.pid c
@@ -376,11 +364,8 @@ slots_go s e slot w was now =
     ap (λ (x : Option Cell). unwrap_or (option_map (λ (c : Cell). set.contains c.holders slot) x) false) c.1
     ∙ (w.cells slot c.0 c.1).own in
     elim (sharing_stays s e slot slot w own) [
-      | inl still ↦ grind (arith, no_value)
-      | inr leaves ↦ elim leaves [
-        | inl left ↦ left
-        | inr left ↦ left
-      ]
+      | inl still ↦ grind arith
+      | inr leaves ↦ grind arith
     ]
 
 insert_comes : (S : Spaces) (at : Slot) (c : Cell) (slot : Slot) → map.contains_key (map.insert S at c) slot ≡ true
@@ -416,7 +401,7 @@ module _ (s : State) (e : Event) (slot : Slot) (was : is_mapped s slot ≡ false
 
   comes : (c : Call) → completes (answer_of s e.pid c) ≡ true → Tells s e.pid c (answer s e)
       → (answer s e ≡ answer_of s e.pid c) → map.contains_key (after s e.pid c).spaces slot ≡ true → Comes c
-  comes (call.Load address size) h told is now = grind (arith, pages_come, key-all_accessed, touched-there, same_slots)
+  comes (call.Load address size) h told is now = grind (arith, pages_come, key-all_accessed, touched-there)
   comes (call.Store address size value) h told is now = elim (pages_come s.spaces e.pid address size slot
       (sym (key-all_stored (with_pages s.spaces e.pid (touched address size)) e.pid address (byte_count size) value
       (bytes_there (with_pages s.spaces e.pid (touched address size)) e.pid address size
@@ -424,9 +409,9 @@ module _ (s : State) (e : Event) (slot : Slot) (was : is_mapped s slot ≡ false
         | inl before ↦ absurd (same_slots s.spaces refl before)
         | inr came ↦ inl came
       ]
-  comes (call.Map page write) h told is now = grind (arith, insert_comes, same_slots, own_page)
+  comes (call.Map page write) h told is now = grind (arith, insert_comes)
   comes (call.Unmap page) h told is now = absurd (without_comes (is_slot e.pid page) now)
-  comes (call.Protect page write) h told is now = grind (arith, insert_comes, same_slots, may_protect, not-refused)
+  comes (call.Protect page write) h told is now = grind (arith, insert_comes)
   comes (call.Accept giver giver_page page) h told is now =
       let c : Cell = cell_or_fresh s.spaces (at_page giver giver_page) in
       let holders = set.insert c.holders (at_page e.pid page) in
@@ -441,16 +426,14 @@ module _ (s : State) (e : Event) (slot : Slot) (was : is_mapped s slot ≡ false
         holders = holders;
       }) slot now) [
         | inl before ↦ absurd (same_slots s.spaces refl
-            (sym (ap is_some (get-map_values slot_order f s.spaces slot)
-            ∙ is_some-map (f slot) (map.get s.spaces slot)) ∙ before))
+            (grind (arith, get-map_values)))
         | inr here ↦ inl (own_page page here)
       ]
   comes (call.Fork quota) h told is now = elim (cases_eq slot.pid (child_of s)) [
     | inl here ↦ grind (arith, not-refused)
-    | inr other ↦ grind (arith, same_slots, copied-other)
+    | inr other ↦ grind (arith, copied-other)
   ]
-  comes call.Exit h told is now = absurd (without_comes (is_of e.pid) now)
-  comes _ h told is now = absurd (same_slots s.spaces refl now)
+  comes _ h told is now = grind (arith, without_comes)
 
 pub slots_come : SlotsCome
 slots_come s e slot was now = grind (arith, caller_live, comes, completes_by_kind, next-goes, next-stays)

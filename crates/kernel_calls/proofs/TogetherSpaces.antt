@@ -17,15 +17,7 @@ split_list : (p : Slot → Bool) (es : List (Slot × Unit {0}))
     → length es ≡ length (filter (λ (e : Slot × Unit {0}). p e.0) es) + length
     (filter (λ (e : Slot × Unit {0}). not (p e.0)) es)
 split_list p [] = omega arith
-split_list p (e ∷ es) = by (p e.0) (split_list p es)
-  where
-    by : (b : Bool) → length es ≡ length (filter (λ (e : Slot × Unit {0}). p e.0) es) + length
-        (filter (λ (e : Slot × Unit {0}). not (p e.0)) es)
-        → length (e ∷ es) ≡ length (cond b (e ∷ filter (λ (e : Slot × Unit {0}). p e.0) es)
-        (filter (λ (e : Slot × Unit {0}). p e.0) es)) + length
-        (cond (not b) (e ∷ filter (λ (e : Slot × Unit {0}). not (p e.0)) es)
-        (filter (λ (e : Slot × Unit {0}). not (p e.0)) es))
-    by b rest = grind arith
+split_list p (e ∷ es) = grind (arith, (split_list p es))
 
 len_split : (g : Set slot_order) (p : Slot → Bool)
     → set.len g ≡ set.len (set.retain g p) + set.len (set.retain g (λ x. not (p x)))
@@ -59,81 +51,21 @@ module _ (Q : ℕ → Bool) (q : ℕ) (mine : Q q ≡ true) (seen : Slot → Typ
             (option_map (λ (c : Cell). set.contains c.holders other) y) false
             → set.contains (unwrap_or x (fresh slot true)).holders other ≡ set.contains
             (unwrap_or y (fresh slot true)).holders other
-        by None None h k = refl
-        by None (Some d) h k = cc
-        by (Some c) None h k = cc
-        by (Some c) (Some d) h k = k
+        by x y h k = grind arith
 
     shown_same : (S T : Spaces) → SameSpaces Q seen S T → (slot : Slot) → seen slot
         → shown_of (cell_or_fresh S slot) ≡ shown_of (cell_or_fresh T slot)
-    shown_same S T l slot v = by (map.get S slot) (map.get T slot) (l.pages slot v)
-      where
-        by : (x y : Option Cell) → option_map shown_of x ≡ option_map shown_of y
-            → shown_of (unwrap_or x (fresh slot true)) ≡ shown_of (unwrap_or y (fresh slot true))
-        by None None h = refl
-        by None (Some d) h = cc
-        by (Some c) None h = cc
-        by (Some c) (Some d) h = same_Some (shown_of c) (shown_of d) h
+    shown_same S T l slot v = grind (arith, same_Some)
 
     own_flags : (S T : Spaces) → SameSpaces Q seen S T → (page : ℕ)
         → flags_of (cell_or_fresh S (at_page q page)) ≡ flags_of (cell_or_fresh T (at_page q page))
-    own_flags S T l page = by (map.get S (at_page q page)) (map.get T (at_page q page)) (l.flags (at_page q page) mine)
-      where
-        by : (x y : Option Cell) → option_map flags_of x ≡ option_map flags_of y
-            → flags_of (unwrap_or x (fresh (at_page q page) true)) ≡ flags_of
-            (unwrap_or y (fresh (at_page q page) true))
-        by None None h = refl
-        by None (Some d) h = cc
-        by (Some c) None h = cc
-        by (Some c) (Some d) h = same_Some (flags_of c) (flags_of d) h
+    own_flags S T l page = grind (arith, same_Some)
 
     -- one cell of q, put in both
     pub put_same : (S T : Spaces) (page : ℕ) (c d : Cell) → SameSpaces Q seen S T → flags_of c ≡ flags_of d
         → shown_of c ≡ shown_of d → SameGroups seen c.holders d.holders
         → SameSpaces Q seen (map.insert S (at_page q page) c) (map.insert T (at_page q page) d)
-    put_same S T page c d l flags shown groups = record {
-      flags = λ slot h. by_flags slot h (same_cases slot_order slot (at_page q page));
-      pages = λ slot v. by_pages slot v (same_cases slot_order slot (at_page q page));
-      groups = λ slot other v o. by_groups slot other v o (same_cases slot_order slot (at_page q page));
-    }
-      where
-        x : Slot
-        x = at_page q page
-
-        here : (R : Spaces) (e : Cell) (slot : Slot) → slot ≡ x → map.get (map.insert R x e) slot ≡ Some e
-        here R e slot is = ap (map.get (map.insert R x e)) is ∙ get-inserted R x e
-
-        by_flags : (slot : Slot) → Q slot.pid ≡ true → ((slot ≡ x) × (same slot_order slot x ≡ true))
-            ⊎ ((slot ≢ x) × (same slot_order slot x ≡ false))
-            → option_map flags_of (map.get (map.insert S x c) slot) ≡ option_map flags_of
-            (map.get (map.insert T x d) slot)
-        by_flags slot h (inl is) = ap (option_map flags_of) (here S c slot is.0) ∙ ap Some flags
-            ∙ sym (ap (option_map flags_of) (here T d slot is.0))
-        by_flags slot h (inr other) = ap (option_map flags_of) (get-inserted_other S x c slot other.0) ∙ l.flags slot h
-            ∙ sym (ap (option_map flags_of) (get-inserted_other T x d slot other.0))
-
-        by_pages : (slot : Slot) → seen slot → ((slot ≡ x) × (same slot_order slot x ≡ true))
-            ⊎ ((slot ≢ x) × (same slot_order slot x ≡ false))
-            → option_map shown_of (map.get (map.insert S x c) slot) ≡ option_map shown_of
-            (map.get (map.insert T x d) slot)
-        by_pages slot v (inl is) = ap (option_map shown_of) (here S c slot is.0) ∙ ap Some shown
-            ∙ sym (ap (option_map shown_of) (here T d slot is.0))
-        by_pages slot v (inr other) = ap (option_map shown_of) (get-inserted_other S x c slot other.0) ∙ l.pages slot v
-            ∙ sym (ap (option_map shown_of) (get-inserted_other T x d slot other.0))
-
-        by_groups : (slot other : Slot) → seen slot → seen other
-            → ((slot ≡ x) × (same slot_order slot x ≡ true)) ⊎ ((slot ≢ x) × (same slot_order slot x ≡ false))
-            → shares_in (map.insert S x c) slot other ≡ shares_in (map.insert T x d) slot other
-        by_groups slot other v o (inl is) =
-            ap (λ (y : Option Cell). unwrap_or (option_map (λ (e : Cell). set.contains e.holders other) y) false)
-            (here S c slot is.0) ∙ groups other o
-            ∙ sym (ap (λ (y : Option Cell). unwrap_or (option_map (λ (e : Cell). set.contains e.holders other) y) false)
-            (here T d slot is.0))
-        by_groups slot other v o (inr apart) =
-            ap (λ (y : Option Cell). unwrap_or (option_map (λ (e : Cell). set.contains e.holders other) y) false)
-            (get-inserted_other S x c slot apart.0) ∙ l.groups slot other v o
-            ∙ sym (ap (λ (y : Option Cell). unwrap_or (option_map (λ (e : Cell). set.contains e.holders other) y) false)
-            (get-inserted_other T x d slot apart.0))
+    put_same S T page c d l flags shown groups = grind (arith, same_cases, get-inserted, get-inserted_other)
 
     -- a group that gets other bytes
     bytes_same : (S T : Spaces) (g h : Set slot_order) (xs ys : List ℕ) → SameSpaces Q seen S T → SameGroups seen g h
@@ -154,47 +86,16 @@ module _ (Q : ℕ → Bool) (q : ℕ) (mine : Q q ≡ true) (seen : Slot → Typ
 
         flags_in : (R : Spaces) (k : Set slot_order) (zs : List ℕ) (slot : Slot)
             → option_map flags_of (map.get (set_bytes R k zs) slot) ≡ option_map flags_of (map.get R slot)
-        flags_in R k zs slot = ap (option_map flags_of) (get-map_values slot_order (change k zs) R slot)
-            ∙ by (map.get R slot)
-          where
-            either : (b : Bool) (c : Cell) → flags_of (if b then with_bytes c zs else c) ≡ flags_of c
-            either true c = refl
-            either false c = refl
-
-            by : (y : Option Cell) → option_map flags_of (option_map (change k zs slot) y) ≡ option_map flags_of y
-            by None = refl
-            by (Some c) = ap Some (either (set.contains k slot) c)
+        flags_in R k zs slot = grind (arith, get-map_values, change)
 
         shown_in : (R : Spaces) (k : Set slot_order) (zs : List ℕ) (slot : Slot)
             → option_map shown_of (map.get (set_bytes R k zs) slot) ≡ option_map (renew (set.contains k slot) zs)
             (option_map shown_of (map.get R slot))
-        shown_in R k zs slot = ap (option_map shown_of) (get-map_values slot_order (change k zs) R slot)
-            ∙ by (map.get R slot)
-          where
-            either : (b : Bool) (c : Cell) → shown_of (if b then with_bytes c zs else c) ≡ renew b zs (shown_of c)
-            either true c = refl
-            either false c = refl
-
-            by : (y : Option Cell) → option_map shown_of (option_map (change k zs slot) y) ≡ option_map
-                (renew (set.contains k slot) zs) (option_map shown_of y)
-            by None = refl
-            by (Some c) = ap Some (either (set.contains k slot) c)
+        shown_in R k zs slot = grind (arith, get-map_values, change, renew)
 
         shares_of : (R : Spaces) (k : Set slot_order) (zs : List ℕ) (slot other : Slot)
             → shares_in (set_bytes R k zs) slot other ≡ shares_in R slot other
-        shares_of R k zs slot other =
-            ap (λ (y : Option Cell). unwrap_or (option_map (λ (e : Cell). set.contains e.holders other) y) false)
-            (get-map_values slot_order (change k zs) R slot) ∙ by (map.get R slot)
-          where
-            either : (b : Bool) (c : Cell) → (if b then with_bytes c zs else c).holders ≡ c.holders
-            either true c = refl
-            either false c = refl
-
-            by : (y : Option Cell) → unwrap_or (option_map (λ (e : Cell). set.contains e.holders other)
-                (option_map (change k zs slot) y)) false ≡ unwrap_or
-                (option_map (λ (e : Cell). set.contains e.holders other) y) false
-            by None = refl
-            by (Some c) = ap (λ (k : Set slot_order). set.contains k other) (either (set.contains k slot) c)
+        shares_of R k zs slot other = grind (arith, get-map_values, change)
 
     -- a group that becomes another
     holders_same : (S T : Spaces) (g h wide wider : Set slot_order) → SameSpaces Q seen S T → SameGroups seen g h
@@ -216,32 +117,18 @@ module _ (Q : ℕ → Bool) (q : ℕ) (mine : Q q ≡ true) (seen : Slot → Typ
 
         flags_in : (R : Spaces) (k to : Set slot_order) (slot : Slot)
             → option_map flags_of (map.get (set_holders R k to) slot) ≡ option_map flags_of (map.get R slot)
-        flags_in R k to slot = ap (option_map flags_of) (get-map_values slot_order (change k to) R slot)
-            ∙ by (map.get R slot)
+        flags_in R k to slot = grind (arith, get-map_values, change, by)
           where
             either : (b : Bool) (c : Cell) → flags_of (if b then with_holders c to else c) ≡ flags_of c
-            either true c = refl
-            either false c = refl
+            either b c = grind arith
 
             by : (y : Option Cell) → option_map flags_of (option_map (change k to slot) y) ≡ option_map flags_of y
-            by None = refl
-            by (Some c) = ap Some (either (set.contains k slot) c)
+            by y = grind (arith, either)
 
         shown_in : (R : Spaces) (k to : Set slot_order) (slot : Slot)
             → option_map shown_of (map.get (set_holders R k to) slot) ≡ option_map
             (renew (set.contains k slot) (set.len to)) (option_map shown_of (map.get R slot))
-        shown_in R k to slot = ap (option_map shown_of) (get-map_values slot_order (change k to) R slot)
-            ∙ by (map.get R slot)
-          where
-            either : (b : Bool) (c : Cell) → shown_of (if b then with_holders c to else c) ≡ renew b (set.len to)
-                (shown_of c)
-            either true c = refl
-            either false c = refl
-
-            by : (y : Option Cell) → option_map shown_of (option_map (change k to slot) y) ≡ option_map
-                (renew (set.contains k slot) (set.len to)) (option_map shown_of y)
-            by None = refl
-            by (Some c) = ap Some (either (set.contains k slot) c)
+        shown_in R k to slot = grind (arith, get-map_values, change, renew)
 
         -- what is in the group of a slot then
         new_shares : Spaces → Set slot_order → Set slot_order → Slot → Slot → Bool
@@ -250,47 +137,20 @@ module _ (Q : ℕ → Bool) (q : ℕ) (mine : Q q ≡ true) (seen : Slot → Typ
 
         shares_of : (R : Spaces) (k to : Set slot_order) (slot other : Slot)
             → shares_in (set_holders R k to) slot other ≡ new_shares R k to slot other
-        shares_of R k to slot other =
-            ap (λ (y : Option Cell). unwrap_or (option_map (λ (e : Cell). set.contains e.holders other) y) false)
-            (get-map_values slot_order (change k to) R slot) ∙ by (set.contains k slot) (map.get R slot)
-          where
-            by : (b : Bool) (y : Option Cell) → unwrap_or
-                (option_map (λ (e : Cell). set.contains e.holders other)
-                (option_map (λ (c : Cell). if b then with_holders c to else c) y)) false
-                ≡ (if b && is_some y then set.contains to other else unwrap_or
-                (option_map (λ (e : Cell). set.contains e.holders other) y) false)
-            by true None = refl
-            by false None = refl
-            by true (Some c) = refl
-            by false (Some c) = refl
+        shares_of R k to slot other = grind (arith, get-map_values, change)
 
         there : (slot : Slot) → seen slot → is_some (map.get S slot) ≡ is_some (map.get T slot)
-        there slot v = sym (is_some-map shown_of (map.get S slot)) ∙ ap is_some (l.pages slot v)
-            ∙ is_some-map shown_of (map.get T slot)
+        there slot v = grind (arith, is_some-map)
 
         mixed : (slot other : Slot) → seen slot → seen other
             → new_shares S g wide slot other ≡ new_shares T h wider slot other
-        mixed slot other v o = λ i. if groups slot v i && there slot v i then more other o i else l.groups slot other v
-            o
-            i
+        mixed slot other v o = grind (arith, there)
 
     -- ---- Accesses
 
     page_same : (S T : Spaces) (page : ℕ) → SameSpaces Q seen S T
         → SameSpaces Q seen (with_page S q page) (with_page T q page)
-    page_same S T page l = by (map.contains_key S (at_page q page)) (map.contains_key T (at_page q page))
-        (sym (is_some-map flags_of (map.get S (at_page q page))) ∙ ap is_some (l.flags (at_page q page) mine)
-        ∙ is_some-map flags_of (map.get T (at_page q page)))
-      where
-        new : Cell
-        new = fresh (at_page q page) true
-
-        by : (b c : Bool) → b ≡ c → SameSpaces Q seen (if b then S else map.insert S (at_page q page) new)
-            (if c then T else map.insert T (at_page q page) new)
-        by true true h = l
-        by true false h = cc
-        by false true h = cc
-        by false false h = put_same S T page new new l refl refl (λ other o. refl)
+    page_same S T page l = grind (arith, is_some-map, put_same)
 
     pub pages_same : (S T : Spaces) (pages : List ℕ) → SameSpaces Q seen S T
         → SameSpaces Q seen (with_pages S q pages) (with_pages T q pages)
@@ -304,14 +164,7 @@ module _ (Q : ℕ → Bool) (q : ℕ) (mine : Q q ≡ true) (seen : Slot → Typ
         → SameSpaces Q seen S T → SameSpaces Q seen (map.insert S (at_page q page)
         (set_flags (cell_or_fresh S (at_page q page))))
         (map.insert T (at_page q page) (set_flags (cell_or_fresh T (at_page q page))))
-    set_same S T page f flags shown group l =
-        let c : Cell = cell_or_fresh S (at_page q page) in
-        let d : Cell = cell_or_fresh T (at_page q page) in
-        put_same S T page (f c) (f d) l (flags c d (own_flags S T l page))
-        (shown c ∙ shown_same S T l (at_page q page) (own page) ∙ sym (shown d))
-        (λ other o. ap (λ (g : Set slot_order). set.contains g other) (group c)
-        ∙ groups_same S T l (at_page q page) (own page) other o
-        ∙ sym (ap (λ (g : Set slot_order). set.contains g other) (group d)))
+    set_same S T page f flags shown group l = grind (arith, put_same, own_flags, shown_same, groups_same)
 
     pub accessed_same : (S T : Spaces) (pages : List ℕ) → SameSpaces Q seen S T
         → SameSpaces Q seen (all_accessed S q pages) (all_accessed T q pages)
@@ -360,37 +213,11 @@ module _ (Q : ℕ → Bool) (q : ℕ) (mine : Q q ≡ true) (seen : Slot → Typ
       where
         flags_in : (R : Spaces) (slot : Slot) → option_map flags_of (map.get (without R gone) slot) ≡ cond
             (not (gone slot)) (option_map flags_of (map.get R slot)) None
-        flags_in R slot = ap (option_map flags_of) (get-without R gone slot) ∙ by (not (gone slot)) (map.get R slot)
-          where
-            by : (b : Bool) (y : Option Cell) → option_map flags_of (cond b (option_map (left gone) y) None) ≡ cond b
-                (option_map flags_of y) None
-            by false y = refl
-            by true None = refl
-            by true (Some c) = refl
+        flags_in R slot = grind (arith, get-without, left)
 
         shares_of : (R : Spaces) (slot other : Slot) → shares_in (without R gone) slot
             other ≡ ((shares_in R slot other && not (gone other)) && not (gone slot))
-        shares_of R slot other = ap (λ (y : Option Cell).
-            unwrap_or (option_map (λ (e : Cell). set.contains e.holders other) y) false) (get-without R gone slot)
-            ∙ by (not (gone slot)) (map.get R slot)
-          where
-            never : (b : Bool) → false ≡ (b && false)
-            never true = refl
-            never false = refl
-
-            always : (b : Bool) → b ≡ (b && true)
-            always true = refl
-            always false = refl
-
-            by : (b : Bool) (y : Option Cell) → unwrap_or
-                (option_map (λ (e : Cell). set.contains e.holders other) (cond b (option_map (left gone) y) None)) false
-                ≡ ((unwrap_or (option_map (λ (e : Cell). set.contains e.holders other) y) false && not (gone other))
-                && b)
-            by false y = never (unwrap_or (option_map (λ (e : Cell). set.contains e.holders other) y) false && not
-                (gone other))
-            by true None = refl
-            by true (Some c) = contains-retain c.holders (λ s. not (gone s)) other
-                ∙ always (set.contains c.holders other && not (gone other))
+        shares_of R slot other = grind (arith, get-without, left, contains-retain)
 
         fewer : (c d : Cell) → shown_of c ≡ shown_of d → SameGroups seen c.holders d.holders
             → shown_of (left gone c) ≡ shown_of (left gone d)
@@ -402,17 +229,11 @@ module _ (Q : ℕ → Bool) (q : ℕ) (mine : Q q ≡ true) (seen : Slot → Typ
                 ∙ sym (contains-retain d.holders gone other))
               where
                 out : (a b : Bool) → (a && false) ≡ (b && false)
-                out true true = refl
-                out true false = refl
-                out false true = refl
-                out false false = refl
+                out a b = grind arith
 
                 by : (other : Slot) (b : Bool) → gone other ≡ b
                     → (set.contains c.holders other && gone other) ≡ (set.contains d.holders other && gone other)
-                by other true is = λ i. groups other (goes other is) i && gone other
-                by other false is = (λ i. set.contains c.holders other && is i)
-                    ∙ out (set.contains c.holders other) (set.contains d.holders other)
-                    ∙ sym (λ i. set.contains d.holders other && is i)
+                by other b is = grind (arith, out)
 
             less : set.len (set.retain c.holders (λ s. not (gone s))) ≡ set.len
                 (set.retain d.holders (λ s. not (gone s)))
@@ -436,11 +257,7 @@ module _ (Q : ℕ → Bool) (q : ℕ) (mine : Q q ≡ true) (seen : Slot → Typ
                 false ≡ unwrap_or (option_map (λ (e : Cell). set.contains e.holders other) y) false)
                 → option_map shown_of (cond b (option_map (left gone) x) None) ≡ option_map shown_of
                 (cond b (option_map (left gone) y) None)
-            by false x y h k = refl
-            by true None None h k = refl
-            by true None (Some d) h k = cc
-            by true (Some c) None h k = cc
-            by true (Some c) (Some d) h k = ap Some (fewer c d (same_Some (shown_of c) (shown_of d) h) k)
+            by b x y h k = grind (arith, fewer, same_Some)
 
     -- ---- A slot of q that joins the group of a slot that is seen
 

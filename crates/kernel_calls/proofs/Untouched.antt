@@ -67,9 +67,7 @@ module _ (s : State) (q giver giver_page page : ℕ) (right : Bool) (w : IsWellF
           let o = (w.cells (at_page giver giver_page) g at).alike slot inside in
           let group : c.holders ≡ g.holders = ap (λ (x : Cell). x.holders) (same_Some c o.0 (sym here ∙ o.1)) ∙ o.2 in
           ap (λ b. (flags_of c, (c.bytes, b)))
-          (contains-insert g.holders (at_page q page) other
-          ∙ ap (λ b. b || set.contains g.holders other) (same_apart slot_order other (at_page q page) d)
-          ∙ ap (λ (h : Set slot_order). set.contains h other) (sym group))
+          (grind (arith, contains-insert))
 
   pub joined_kept : (slot other : Slot) → slot ≢ at_page q page → other ≢ at_page q page
       → kept_at after_join slot other ≡ kept_at s.spaces slot other
@@ -208,19 +206,14 @@ module _ (s : State) (e : Event) (p : ℕ) (w : IsWellFormed s) (live_p : is_liv
   map_untouched : (page : ℕ) (c : Cell) → LeavesAll s
       (record s { spaces = map.insert s.spaces (at_page e.pid page) c }) e p
   map_untouched page c =
-      same_untouched s (record s { spaces = map.insert s.spaces (at_page e.pid page) c }) e p d refl
-      (λ n. insert_same e.pid (at_page p n) d s.spaces page c)
-      (inl (refl, refl)) offers_same
+      same_untouched s _ e p d refl (λ n. insert_same e.pid _ d s.spaces page c) (inl (refl, refl)) offers_same
 
   store_untouched : (addr : ℕ) (size : Size) (value : ℕ) → e.call ≡ call.Store addr size value
       → completes (answer_of s e.pid (call.Store addr size value)) ≡ true
       → LeavesAll s (after_store s e.pid addr size value) e p
   store_untouched addr size value is done =
-      untouched s (after_store s e.pid addr size value) e p refl
-      (λ page. flags_from page (rest page (at_page p page)))
-      bytes
-      (λ page other o. shares_from page other (rest page other))
-      (inl (refl, refl)) offers_same
+      untouched s _ e p refl (λ page. flags_from page (rest page _)) bytes (λ page other o. shares_from page other
+      (rest page other)) (inl (refl, refl)) offers_same
     where
       T : Spaces
       T = with_pages s.spaces e.pid (touched addr size)
@@ -230,53 +223,26 @@ module _ (s : State) (e : Event) (p : ℕ) (w : IsWellFormed s) (live_p : is_liv
 
       rest : (page : ℕ) (other : Slot) → option_map (rest_of other) (map.get U (at_page p page)) ≡ option_map
           (rest_of other) (map.get s.spaces (at_page p page))
-      rest page other = grind (arith, all_stored_rest, T, rest_of, pages_same)
+      rest page other = grind (arith, all_stored_rest, pages_same)
 
       flags_from : (page : ℕ) → option_map (rest_of (at_page p page)) (map.get U (at_page p page)) ≡ option_map
           (rest_of (at_page p page)) (map.get s.spaces (at_page p page))
           → option_map flags_of (map.get U (at_page p page)) ≡ option_map flags_of (map.get s.spaces (at_page p page))
-      flags_from page h = sym (by (map.get U (at_page p page))) ∙ ap (option_map (λ (k : Rest). k.0)) h
-          ∙ by (map.get s.spaces (at_page p page))
-        where
-          by : (x : Option Cell) → option_map (λ (k : Rest). k.0) (option_map (rest_of (at_page p page)) x) ≡ option_map
-              flags_of x
-          by x = grind arith
+      flags_from page h = grind arith
 
       shares_from : (page : ℕ) (other : Slot) → option_map (rest_of other) (map.get U (at_page p page)) ≡ option_map
           (rest_of other) (map.get s.spaces (at_page p page))
           → shares (after_store s e.pid addr size value) (at_page p page) other ≡ shares s (at_page p page) other
-      shares_from page other h = sym (by (map.get U (at_page p page)))
-          ∙ ap (λ (x : Option Rest). unwrap_or (option_map (λ (k : Rest). k.1) x) false) h
-          ∙ by (map.get s.spaces (at_page p page))
-        where
-          by : (x : Option Cell) → unwrap_or (option_map (λ (k : Rest). k.1) (option_map (rest_of other) x))
-              false ≡ unwrap_or (option_map (λ (c : Cell). set.contains c.holders other) x) false
-          by x = grind arith
+      shares_from page other h = grind arith
 
       bytes : (page place : ℕ) → (byte_in (after_store s e.pid addr size value) (at_page p page) place ≡ byte_in s
           (at_page p page) place) ⊎ IsStoreInto s (after_store s e.pid addr size value) e (at_page p page) place
-      bytes page place = by (map.get s.spaces (at_page p page)) refl
-        where
-          by : (x : Option Cell) → map.get s.spaces (at_page p page) ≡ x
-              → (byte_in (after_store s e.pid addr size value) (at_page p page) place ≡ byte_in s (at_page p page)
-              place) ⊎ IsStoreInto s (after_store s e.pid addr size value) e (at_page p page) place
-          by (Some c) at = store_bytes s e addr value size is w live done (at_page p page) c place at
-          by None none = inl (ap (λ (x : Option Cell).
-              slice_index (unwrap_or x (fresh (at_page p page) true)).bytes place)
-              (nothing (map.get U (at_page p page)) (flags_from page (rest page (at_page p page))
-              ∙ ap (option_map flags_of) none) ∙ sym none))
-            where
-              nothing : (x : Option Cell) → option_map flags_of x ≡ None → x ≡ None
-              nothing x h = grind arith
+      bytes page place = grind (arith, store_bytes, flags_from, rest)
 
   unmap_untouched : (page : ℕ) → LeavesAll s (after_unmap s e.pid page) e p
   unmap_untouched page =
-      kept_untouched s (after_unmap s e.pid page) e p d refl
-      (λ n other o. without_kept e.pid (at_page p n) d s.spaces (is_slot e.pid page) other (stays (at_page p n) d)
-      (stays other o))
-      (inl (refl, refl))
-      (λ key own. inl (retain_same s.offers (λ (k : OfferKey). not ((k.offerer == e.pid) && (k.page == page))) key
-      (ap (λ b. not (b && (key.page == page))) (ne_eqb key.offerer e.pid (λ x. d (sym own ∙ x))))))
+      kept_untouched s _ e p d refl (λ n other o. without_kept e.pid _ d s.spaces _ other (stays _ d) (stays other o))
+      (inl (refl, refl)) (λ key own. inl (grind (arith, retain_same)))
     where
       stays : (slot : Slot) → slot.pid ≢ e.pid → is_slot e.pid page slot ≡ false
       stays slot n = same_apart slot_order (at_page e.pid page) slot (λ x. of_others e.pid page slot n (sym x))
@@ -286,19 +252,16 @@ module _ (s : State) (e : Event) (p : ℕ) (w : IsWellFormed s) (live_p : is_liv
 
   withdraw_untouched : (page target : ℕ) → LeavesAll s (after_withdraw s e.pid page target) e p
   withdraw_untouched page target =
-      same_untouched s (after_withdraw s e.pid page target) e p d refl (λ n. refl) (inl (refl, refl))
-      (λ key own. inl (get-remove_other s.offers (offer_key e.pid page target) key
+      same_untouched s _ e p d refl (λ n. refl) (inl (refl, refl)) (λ key own. inl (get-remove_other s.offers _ key
       (other_offerer p e.pid page target key d own)))
 
   accept_untouched : (giver giver_page page : ℕ) → e.call ≡ call.Accept giver giver_page page
       → accept_refusal s e.pid giver giver_page page ≡ None
       → LeavesAll s (after_accept s e.pid giver giver_page page) e p
   accept_untouched giver giver_page page is allowed =
-      kept_untouched s (after_accept s e.pid giver giver_page page) e p d refl
-      (λ n other o. joined_kept s e.pid giver giver_page page (offered s giver giver_page e.pid) w g.0 g.1 (at_page p n)
-      other (of_others e.pid page (at_page p n) d) (of_others e.pid page other o))
-      (inl (refl, refl))
-      (λ key own. offers key (same_cases offer_order key (offer_key giver giver_page e.pid)))
+      kept_untouched s _ e p d refl (λ n other o. joined_kept s e.pid giver giver_page page _ w g.0 g.1 _ other
+      (of_others e.pid page _ d) (of_others e.pid page other o)) (inl (refl, refl)) (λ key own. offers key
+      (same_cases offer_order key _))
     where
       g : (c : Cell) × (map.get s.spaces (at_page giver giver_page) ≡ Some c)
       g = giver_mapped s e.pid giver giver_page w (may_accept s e.pid giver giver_page page allowed).there
@@ -361,11 +324,10 @@ module _ (s : State) (e : Event) (p : ℕ) (w : IsWellFormed s) (live_p : is_liv
   after_untouched (call.Store addr size value) is h = store_untouched addr size value is h
   after_untouched (call.Map page write) is h = map_untouched page (fresh (at_page e.pid page) write)
   after_untouched (call.Unmap page) is h = unmap_untouched page
-  after_untouched (call.Protect page write) is h =
-      map_untouched page (record (cell_or_fresh s.spaces (at_page e.pid page)) { write = write })
+  after_untouched (call.Protect page write) is h = map_untouched page _
   after_untouched (call.Offer page target write) is h = offer_untouched page target write
   after_untouched (call.Withdraw page target) is h = withdraw_untouched page target
-  after_untouched (call.Accept giver giver_page page) is h = grind (arith, accept_untouched, not-refused)
+  after_untouched (call.Accept giver giver_page page) is h = grind (arith, accept_untouched)
   after_untouched (call.Spawn quota) is h = child_untouched (child_of s) quota s.spaces
       (child_free s e.pid quota (not-refused (spawn_refusal s e.pid quota) _ h)) (λ n. refl)
   after_untouched (call.Fork quota) is h =
@@ -373,8 +335,7 @@ module _ (s : State) (e : Event) (p : ℕ) (w : IsWellFormed s) (live_p : is_liv
       in
       child_untouched (child_of s) quota (copied s.spaces e.pid (child_of s)) free
       (λ n. copied-other s.spaces e.pid (child_of s) (at_page p n) (live_differ s p (child_of s) live_p free))
-  after_untouched call.Exit is h = exit_untouched is
-  after_untouched _ is h = nothing_untouched
+  after_untouched _ is h = grind (arith, exit_untouched)
 
 -- who calls and is not refused is live
 pub caller_live : (s : State) (e : Event) → completes (answer s e) ≡ true
