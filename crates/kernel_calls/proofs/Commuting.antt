@@ -2,10 +2,10 @@
 use Rattle.kernel_calls.proofs.Prelude
 use Prelude.{◌≡◌, ◌≢◌, ℕ, suc, ◌+◌, ◌<◌, Bool, true, false, cond, List, [], ◌∷◌, length, refl, ap, sym, ◌∙◌, subst}
 use Prelude.{arith, Option, Some, None, unwrap_or, is_some, ◌⊎◌, if◌then◌else◌, option_map, page_number, offset_number}
-use Prelude.{same, Set, same-true, same_or_not, same_map, get-insert, get-map_values, same_cases, inl, inr, Slot, slot_order}
-use Prelude.{Cell, Spaces, at_page, slot_at, cell_or_fresh, fresh, with_bytes, set_bytes, write_at, store_in, stored}
-use Prelude.{all_stored, accessed, all_accessed, with_page, with_pages, insert_there, get-inserted, get-inserted_other}
-use Rattle.kernel_calls.proofs.UntouchedSlots.{holders_stored}
+use Prelude.{same, Set, same-true, same_or_not, same_map, get-insert, get-map_values, same_cases, inl, inr, Slot}
+use Prelude.{slot_order, Cell, Spaces, at_page, slot_at, cell_or_fresh, fresh, with_bytes, set_bytes, write_at}
+use Prelude.{store_in, stored, all_stored, accessed, all_accessed, with_page, with_pages, insert_there, get-inserted}
+use Prelude.{get-inserted_other}
 use Rattle.page_words.specs.FiniteMap as map
 use Rattle.page_words.specs.FiniteSet as set
 

@@ -1,10 +1,9 @@
 -- Pages that are copied to a new process, and accesses of another, in either order.
 use Rattle.kernel_calls.proofs.Prelude
-use Prelude.{◌≡◌, ◌≢◌, ℕ, suc, ◌+◌, ◌<◌, Bool, true, false, cond, List, [], ◌∷◌, length, refl, ap, sym, ◌∙◌, subst}
-use Prelude.{arith, Option, Some, unwrap_or, ne_eqb, eqb-true, ◌⊎◌, if◌then◌else◌, option_map, offset_number, same, Set}
-use Prelude.{same_map, same_or_not, get-insert, get-map_values, Slot, slot_order, Cell, Spaces, at_page, slot_at}
-use Prelude.{cell_or_fresh, fresh, with_bytes, set_bytes, write_at, store_in, stored, all_stored, accessed}
-use Prelude.{all_accessed, with_page, with_pages, copy_of, copied, is_of, get-copied, copied-other, get-inserted_other}
+use Prelude.{◌≡◌, ◌≢◌, ℕ, Bool, true, false, cond, List, refl, ap, sym, ◌∙◌, subst, arith, Option, Some, unwrap_or}
+use Prelude.{ne_eqb, eqb-true, ◌⊎◌, if◌then◌else◌, option_map, same, Set, same_map, same_or_not, get-insert}
+use Prelude.{get-map_values, Slot, slot_order, Cell, Spaces, at_page, cell_or_fresh, fresh, with_bytes, set_bytes}
+use Prelude.{write_at, store_in, stored, accessed, copy_of, copied, is_of, get-copied, copied-other, get-inserted_other}
 use Rattle.kernel_calls.proofs.Commuting.{at_slot, unchanged, group_at, Commutes}
 use Rattle.page_words.specs.FiniteMap as map
 use Rattle.page_words.specs.FiniteSet as set

@@ -1,10 +1,9 @@
 -- Slots of one process that go, and accesses of another, in either order.
 use Rattle.kernel_calls.proofs.Prelude
-use Prelude.{◌≡◌, ℕ, ◌+◌, Bool, true, false, not, cond, ◌&&◌, List, [], ◌∷◌, refl, ap, sym, ◌∙◌, subst, Option, Some}
-use Prelude.{None, unwrap_or, arith, ◌⊎◌, if◌then◌else◌, option_map, page_number, offset_number, same, Set, same_map}
-use Prelude.{same_set, same_or_not, get-insert, get-retain_keys, get-map_values, contains-retain, Slot, slot_order}
-use Prelude.{Cell, Spaces, at_page, slot_at, cell_or_fresh, fresh, with_bytes, with_holders, set_bytes, write_at}
-use Prelude.{stored, all_stored, accessed, all_accessed, with_page, with_pages, without}
+use Prelude.{◌≡◌, ℕ, Bool, true, false, not, cond, ◌&&◌, List, refl, ap, sym, ◌∙◌, subst, Option, Some, None, arith}
+use Prelude.{◌⊎◌, if◌then◌else◌, option_map, same, Set, same_map, same_set, same_or_not, get-insert, get-retain_keys}
+use Prelude.{get-map_values, contains-retain, Slot, slot_order, Cell, Spaces, at_page, cell_or_fresh, with_bytes}
+use Prelude.{with_holders, set_bytes, write_at, stored, accessed, without}
 use Rattle.kernel_calls.proofs.Commuting.{at_slot, group_at, group_set, Commutes}
 use Rattle.page_words.specs.FiniteMap as map
 use Rattle.page_words.specs.FiniteSet as set

@@ -1,9 +1,8 @@
 -- Stores of two processes into groups that have nothing in common, in either order.
 use Rattle.kernel_calls.proofs.Prelude
-use Prelude.{◌≡◌, ◌≢◌, ℕ, suc, ◌+◌, ◌<◌, Bool, true, false, List, [], ◌∷◌, length, refl, ap, sym, ◌∙◌, subst, arith}
-use Prelude.{inl, inr, Option, unwrap_or, if◌then◌else◌, option_map, offset_number, Set, same_map, get-map_values}
-use Prelude.{same_cases, Slot, slot_order, Cell, Spaces, at_page, slot_at, cell_or_fresh, fresh, with_bytes, set_bytes}
-use Prelude.{write_at, store_in, stored, all_stored, with_page, with_pages, get-inserted, get-inserted_other}
+use Prelude.{◌≡◌, ◌≢◌, ℕ, Bool, true, false, List, ap, sym, ◌∙◌, arith, Option, unwrap_or, if◌then◌else◌, option_map}
+use Prelude.{Set, same_map, get-map_values, Slot, slot_order, Cell, Spaces, at_page, cell_or_fresh, fresh, with_bytes}
+use Prelude.{set_bytes, write_at, store_in, stored, all_stored, with_pages, get-inserted_other}
 use Rattle.kernel_calls.proofs.Commuting.{unchanged, swap, group_apart, stored_apart, group_at, Commutes, EachFree}
 use Rattle.kernel_calls.proofs.Commuting.{IsOut, slot_commutes, store_through}
 use Rattle.page_words.specs.FiniteMap as map

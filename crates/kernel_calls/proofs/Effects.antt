@@ -6,13 +6,13 @@ use Prelude.{if◌then◌else◌, slice_index, IfSome, option_map, cases_eq, sam
 use Prelude.{byte_count, second_page, page_and, touched, EachTouched, Size, same, same_itself, get-insert}
 use Prelude.{get-map_values, contains-insert, some_value, no_value, is_some-map, same_cases, Slot, slot_order, Cell}
 use Prelude.{Spaces, at_page, slot_at, fresh, cell_or_fresh, bytes_of, with_pages, with_holders, set_holders, set_bytes}
-use Prelude.{write_at, accessed, stored, all_accessed, all_stored, without, is_slot, is_of, copied-other, AreThere}
-use Prelude.{IsThere, first_there, rest_there, touched-there, bytes_there, key-all_accessed, key-all_stored, each_byte}
-use Prelude.{left, get-without, offer_key, Write, State, is_live, is_mapped, child_of, map_refusal, accept_refusal}
-use Prelude.{offered, after_load, after_store, after_accept, IsWellFormed, get-inserted, get-inserted_other, may_map}
-use Prelude.{may_accept, may_protect, well_formed-bytes, well_formed-touched, plan_of, step_of, Goes, ready, all_user}
-use Prelude.{same_cells, flags_of, flags_at, byte_in, shares, Tells, IsCovered, IsStoredAt, IsTogether, Does}
-use Prelude.{DoneMeansDone, Maps, SlotsCome, SlotsGo, answer, answer_of, after, next, completes, Call, Event, in_lone}
+use Prelude.{write_at, accessed, stored, all_accessed, all_stored, without, is_slot, copied-other, AreThere, IsThere}
+use Prelude.{first_there, rest_there, touched-there, bytes_there, key-all_accessed, key-all_stored, each_byte, left}
+use Prelude.{get-without, offer_key, Write, State, is_live, is_mapped, child_of, map_refusal, accept_refusal, offered}
+use Prelude.{after_load, after_store, after_accept, IsWellFormed, get-inserted, get-inserted_other, may_map, may_accept}
+use Prelude.{well_formed-bytes, well_formed-touched, plan_of, step_of, Goes, ready, all_user, same_cells, flags_of}
+use Prelude.{flags_at, byte_in, shares, Tells, IsCovered, IsStoredAt, IsTogether, Does, DoneMeansDone, Maps, SlotsCome}
+use Prelude.{SlotsGo, answer, answer_of, after, next, completes, Call, Event, in_lone}
 use Rattle.kernel_calls.proofs.Consent.{sharing_by_consent}
 use Rattle.kernel_calls.proofs.Decided.{next-stays, next-goes}
 use Rattle.kernel_calls.proofs.GivenUp.{exits_end, unmaps_end, offers_end}

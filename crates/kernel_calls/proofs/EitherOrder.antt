@@ -1,12 +1,12 @@
 -- An access and an event of another process, in either order.
 use Rattle.kernel_calls.proofs.Prelude
 use Prelude.{◌≡◌, ◌≢◌, ℕ, ◌+◌, ◌<◌, ◌≤◌, ◌||◌, Bool, true, false, refl, ap, sym, ◌∙◌, inr, arith, Option, Some, None}
-use Prelude.{unwrap_or, is_some, subst, List, length, eq-eqb, eqb-true, ne_eqb, option_map, byte_count, touched, Size}
-use Prelude.{same, Set, contains-insert, same-true, same_apart, Slot, slot_order, Cell, Spaces, at_page, slot_at}
-use Prelude.{cell_or_fresh, fresh, bytes_of, with_pages, all_accessed, all_stored, without, is_slot, is_of}
-use Prelude.{length-bytes_of, offer_key, State, is_live, child_of, IsWellFormed, get-inserted_other, HaveTheSame}
-use Prelude.{LooksSame, Sees, IsUnseen, IsQuietCall, is_offered, found, accept_refusal, offered, fork_refusal}
-use Prelude.{child_free, no_page, may_fork, may_accept, answer, answer_of, after, next, completes, Call, Event, or-true}
+use Prelude.{unwrap_or, is_some, subst, length, eq-eqb, eqb-true, ne_eqb, option_map, byte_count, touched, Size, same}
+use Prelude.{Set, contains-insert, same-true, same_apart, Slot, slot_order, Cell, Spaces, at_page, slot_at}
+use Prelude.{cell_or_fresh, fresh, bytes_of, without, is_slot, is_of, length-bytes_of, offer_key, State, is_live}
+use Prelude.{child_of, IsWellFormed, HaveTheSame, LooksSame, Sees, IsUnseen, IsQuietCall, is_offered, found}
+use Prelude.{accept_refusal, offered, fork_refusal, child_free, no_page, may_fork, may_accept, answer, answer_of, after}
+use Prelude.{next, completes, Call, Event, or-true}
 use Rattle.kernel_calls.specs.Beside.{only, InEitherOrder, AccessesBeside, OrdersEndTheSame, is_access}
 use Rattle.kernel_calls.proofs.Commuting.{at_slot, group_at, Commutes, EachFree, IsOut, load_through, store_through}
 use Rattle.kernel_calls.proofs.Commuting.{slot_commutes, load_commutes}

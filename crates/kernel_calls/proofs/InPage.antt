@@ -1,9 +1,8 @@
 -- An access that is carried out in one step: its reply and the state after it are the definition's.
 use Rattle.kernel_calls.proofs.Prelude.{◌≡◌, ℕ, true, false, ap, sym, ◌∙◌, Err, arith, Result, Ok, IsOk, IsErr, Size}
-use Rattle.kernel_calls.proofs.Prelude.{FramesStay, Slot, memory_of, after, gone_of_call}
-use Rattle.kernel_calls.proofs.Prelude.{stays_more, Access, access_value, View, lazy_written, plan_of, settled}
-use Rattle.kernel_calls.proofs.Prelude.{access_result, Plan, call_of, reply_to, gone_by, answer, answer_of, completes}
-use Rattle.kernel_calls.proofs.Prelude.{planned_or, Event, Reply, Image}
+use Rattle.kernel_calls.proofs.Prelude.{FramesStay, Slot, memory_of, after, gone_of_call, Access, access_value, View}
+use Rattle.kernel_calls.proofs.Prelude.{lazy_written, plan_of, settled, access_result, Plan, call_of, reply_to, answer}
+use Rattle.kernel_calls.proofs.Prelude.{answer_of, completes, planned_or, Event, Reply}
 use Rattle.fault_handler.specs.declared.plans.Stop.{Stop}
 use Rattle.process_table.specs.Calls.{after_access}
 use Rattle.kernel_calls.specs.Replied.{IsReplied}

@@ -6,10 +6,20 @@ use Prelude.{page_number, offset_number, same, Set, get-map_values, contains-ins
 use Prelude.{is_some-map, same_cases, Slot, slot_order, Cell, Spaces, fresh, cell_or_fresh, with_bytes, with_holders}
 use Prelude.{set_bytes, set_holders, write_at, without, at_page, slot_at, accessed, stored, with_page, with_pages}
 use Prelude.{all_accessed, all_stored, joined, left, get-without, get-inserted, get-inserted_other, Flags, flags_of}
-use Prelude.{Shown, shown_of}
+use Prelude.{Shown, shown_of, subst, ◌==◌, eqb-true, cases_eq, same-true, some_value, get-insert, get-remove, nat_order}
+use Prelude.{byte_count, touched, Size, bytes_of, is_slot, is_of, Member, is_child, quota_of, given, number_of_children}
+use Prelude.{given-remove, number-remove, OfferKey, Offers, offer_order, offer_key, State, is_live, exit_refusal}
+use Prelude.{offered, after_load, after_store, after_map, after_unmap, after_protect, after_offer, after_withdraw}
+use Prelude.{after_accept, after_exit, answer_of, after, completes, Call}
+use Rattle.kernel_calls.specs.Authority.{AreOne}
+use Rattle.kernel_calls.proofs.Runs.{not-refused}
+use Rattle.kernel_calls.proofs.Seen.{kept_offers, no_children, exit_children, exit_given}
+use Rattle.kernel_calls.proofs.Standings.{live_in, quota_in, given_in, children_in}
+use Rattle.kernel_calls.proofs.Stays.{makes_child}
 use Rattle.page_words.proofs.MapLemmas.{len-insert}
 use Rattle.page_words.specs.FiniteMap as map
 use Rattle.page_words.specs.FiniteSet as set
+use Rattle.kernel_calls.specs.declared.calls.Call.TheVariants as call
 
 -- ---- How many of a set pass a test, and how many don't
 
@@ -284,3 +294,182 @@ module _ (Q : ℕ → Bool) (q : ℕ) (mine : Q q ≡ true) (seen : Slot → Typ
         (λ i. record { write = rights i; may = rights i; accessed = false; dirty = false })
         (λ i. record { bytes = (shown i).bytes; holders = len i })
         more
+
+    -- ---- States that are one
+
+    module _ (s t : State) (Known : OfferKey → Type 0) (l : AreOne s t Q Known seen) where
+      start : SameSpaces Q seen s.spaces t.spaces
+      start = record { flags = l.flags; pages = l.pages; groups = l.same_page }
+
+      own_slots : (slot : Slot) → is_of q slot ≡ true → seen slot
+      own_slots slot h = subst seen (λ i. record { pid = sym (eqb-true slot.pid q h) i; page = slot.page }) (own slot.page)
+
+      -- where the book stays
+      looks : (S T : Spaces) (O P : Offers)
+          → ((key : OfferKey) → map.get s.offers key ≡ map.get t.offers key → map.get O key ≡ map.get P key)
+          → SameSpaces Q seen S T
+          → AreOne (record s { spaces = S; offers = O }) (record t { spaces = T; offers = P }) Q Known seen
+      looks S T O P offers spaces = record {
+        standing = l.standing;
+        families = l.families;
+        flags = spaces.flags;
+        offers = λ key h. offers key (l.offers key h);
+        pages = spaces.pages;
+        same_page = spaces.groups;
+      }
+
+      looks_spaces : (S T : Spaces) → SameSpaces Q seen S T
+          → AreOne (record s { spaces = S }) (record t { spaces = T }) Q Known seen
+      looks_spaces S T = looks S T s.offers t.offers (λ key h. h)
+
+      load_one : (addr : ℕ) (size : Size) → AreOne (after_load s q addr size) (after_load t q addr size) Q Known seen
+      load_one addr size =
+          let pages = touched addr size in
+          looks_spaces _ _ (accessed_same _ _ pages (pages_same s.spaces t.spaces pages start))
+
+      store_one : (addr : ℕ) (size : Size) (value : ℕ)
+          → AreOne (after_store s q addr size value) (after_store t q addr size value) Q Known seen
+      store_one addr size value =
+          looks_spaces _ _ (all_stored_same _ _ addr (bytes_of (byte_count size) value)
+          (pages_same s.spaces t.spaces (touched addr size) start))
+
+      map_one : (page : ℕ) (write : Bool) → AreOne (after_map s q page write) (after_map t q page write) Q Known seen
+      map_one page write =
+          let c : Cell = fresh (at_page q page) write in
+          looks_spaces _ _ (put_same s.spaces t.spaces page c c start refl refl (λ other o. refl))
+
+      protect_one : (page : ℕ) (write : Bool)
+          → AreOne (after_protect s q page write) (after_protect t q page write) Q Known seen
+      protect_one page write =
+          looks_spaces _ _ (set_same s.spaces t.spaces page (λ c. record c { write = write })
+          (λ c d h. ap (λ (f : Flags). record f { write = write }) h) (λ c. refl) (λ c. refl) start)
+
+      unmap_one : (page : ℕ) → AreOne (after_unmap s q page) (after_unmap t q page) Q Known seen
+      unmap_one page =
+          looks _ _ _ _ (kept_offers s.offers t.offers (λ (k : OfferKey). not ((k.offerer == q) && (k.page == page))))
+          (gone_same s.spaces t.spaces (is_slot q page)
+          (λ slot h. subst seen (same-true slot_order (at_page q page) slot h) (own page)) start)
+
+      withdraw_one : (page target : ℕ) → AreOne (after_withdraw s q page target) (after_withdraw t q page target) Q Known seen
+      withdraw_one page target = grind (arith, looks, kept_offers, start)
+
+      offer_one : (page target : ℕ) (write : Bool)
+          → AreOne (after_offer s q page target write) (after_offer t q page target write) Q Known seen
+      offer_one page target write = grind (arith, looks, get-insert, start)
+
+      accept_one : (giver giver_page page : ℕ) → seen (at_page giver giver_page) → Known (offer_key giver giver_page q)
+          → AreOne (after_accept s q giver giver_page page) (after_accept t q giver giver_page page) Q Known seen
+      accept_one giver giver_page page there known =
+          looks _ _ _ _ (kept_offers s.offers t.offers (λ k. not (same offer_order (offer_key giver giver_page q) k)))
+          (joined_same s.spaces t.spaces (at_page giver giver_page) page (offered s giver giver_page q)
+          (offered t giver giver_page q) start there
+          (ap (λ (x : Option Bool). unwrap_or x false) (l.offers (offer_key giver giver_page q) known)))
+
+      exit_one : is_live s q ≡ true → exit_refusal s q ≡ None → AreOne (after_exit s q) (after_exit t q) Q Known seen
+      exit_one live allowed =
+          let stay : OfferKey → Bool = (λ (k : OfferKey). not ((k.offerer == q) || (k.target == q))) in
+          let spaces = gone_same s.spaces t.spaces (is_of q) own_slots start in
+          record {
+            standing = grind (arith, live_same, quota_same, given_same, cases_eq, children_same);
+            families = λ p r hp hr d.
+                ap (λ (x : Option Member). unwrap_or (option_map (λ (m : Member). is_child p (r, m)) x) false)
+                (get-remove s.book q r)
+                ∙ by_family (same nat_order r q) p r hp hr d
+                ∙ sym (ap (λ (x : Option Member). unwrap_or (option_map (λ (m : Member). is_child p (r, m)) x) false)
+                (get-remove t.book q r));
+            flags = spaces.flags;
+            offers = λ key h. kept_offers s.offers t.offers stay key (l.offers key h);
+            pages = spaces.pages;
+            same_page = spaces.groups;
+          }
+        where
+          by_live : (b : Bool) (p : ℕ) → Q p ≡ true
+              → is_some (cond b None (map.get s.book p)) ≡ is_some (cond b None (map.get t.book p))
+          by_live b p h = grind (arith, live_in)
+
+          by_quota : (b : Bool) (r : ℕ) → Q r ≡ true → unwrap_or
+              (option_map (λ (m : Member). m.quota) (cond b None (map.get s.book r))) 0 ≡ unwrap_or
+              (option_map (λ (m : Member). m.quota) (cond b None (map.get t.book r))) 0
+          by_quota b r h = grind (arith, quota_in)
+
+          live_same : (p : ℕ) → Q p ≡ true → map.contains_key (map.remove s.book q) p ≡ map.contains_key (map.remove t.book q) p
+          live_same p h = ap is_some (get-remove s.book q p) ∙ by_live (same nat_order p q) p h
+              ∙ sym (ap is_some (get-remove t.book q p))
+
+          quota_same : (r : ℕ) → Q r ≡ true → quota_of (map.remove s.book q) r ≡ quota_of (map.remove t.book q) r
+          quota_same r h = ap (λ (x : Option Member). unwrap_or (option_map (λ (m : Member). m.quota) x) 0)
+              (get-remove s.book q r) ∙ by_quota (same nat_order r q) r h
+              ∙ sym (ap (λ (x : Option Member). unwrap_or (option_map (λ (m : Member). m.quota) x) 0)
+              (get-remove t.book q r))
+
+          by_family : (b : Bool) (p r : ℕ) → Q p ≡ true → Q r ≡ true → p ≢ r → unwrap_or
+              (option_map (λ (m : Member). is_child p (r, m)) (cond b None (map.get s.book r))) false ≡ unwrap_or
+              (option_map (λ (m : Member). is_child p (r, m)) (cond b None (map.get t.book r))) false
+          by_family true p r hp hr d = refl
+          by_family false p r hp hr d = l.families p r hp hr d
+
+          live_t : is_live t q ≡ true
+          live_t = sym (ap live_in (l.standing q mine)) ∙ live
+
+          childless : number_of_children s.book q ≡ 0
+          childless = no_children s q allowed
+
+          childless_t : number_of_children t.book q ≡ 0
+          childless_t = sym (ap children_in (l.standing q mine)) ∙ childless
+
+          -- q's entries in both books
+          m : (m : Member) × (map.get s.book q ≡ Some m)
+          m = some_value (map.get s.book q) live
+
+          n : (m : Member) × (map.get t.book q ≡ Some m)
+          n = some_value (map.get t.book q) live_t
+
+          same_quota : m.0.quota ≡ n.0.quota
+          same_quota = grind (arith, m, quota_in, n)
+
+          same_parent : (r : ℕ) → Q r ≡ true → r ≢ q → is_child r (q, m.0) ≡ is_child r (q, n.0)
+          same_parent r h d =
+              sym (ap (λ (x : Option Member). unwrap_or (option_map (λ (m : Member). is_child r (q, m)) x) false) m.1)
+              ∙ l.families r q h mine d
+              ∙ ap (λ (x : Option Member). unwrap_or (option_map (λ (m : Member). is_child r (q, m)) x) false) n.1
+
+          given_same : (r : ℕ) → Q r ≡ true → (r ≡ q) ⊎ (r ≢ q)
+              → given (map.remove s.book q) r ≡ given (map.remove t.book q) r
+          given_same r h (inl is) = grind (arith, exit_given, childless, live_t, childless_t)
+          given_same r h (inr d) =
+              let a = given-remove s.book q m.0 m.1 r in
+              let b = given-remove t.book q n.0 n.1 r in
+              let g = ap given_in (l.standing r h) in
+              let x : ◌≡◌ {A = ℕ} (cond (is_child r (q, m.0)) m.0.quota 0) (cond (is_child r (q, n.0)) n.0.quota 0) =
+              (λ i. cond (same_parent r h d i) (same_quota i) 0) in
+              omega (arith, a, b, g, x)
+
+          children_same : (r : ℕ) → Q r ≡ true → (r ≡ q) ⊎ (r ≢ q)
+              → number_of_children (map.remove s.book q) r ≡ number_of_children (map.remove t.book q) r
+          children_same r h (inl is) = grind (arith, exit_children, childless, live_t, childless_t)
+          children_same r h (inr d) =
+              let a = number-remove s.book q m.0 m.1 r in
+              let b = number-remove t.book q n.0 n.1 r in
+              let g = ap children_in (l.standing r h) in
+              let x : ◌≡◌ {A = ℕ} (cond (is_child r (q, m.0)) 1 0) (cond (is_child r (q, n.0)) 1 0) =
+              (λ i. cond (same_parent r h d i) 1 0) in
+              omega (arith, a, b, g, x)
+
+      -- any call that makes no child; of one that takes an offer, this and its page are known
+      pub after_one : (c : Call) → makes_child c ≡ false → is_live s q ≡ true → completes (answer_of s q c) ≡ true
+          → ((giver giver_page page : ℕ) → c ≡ call.Accept giver giver_page page
+          → seen (at_page giver giver_page) × Known (offer_key giver giver_page q))
+          → AreOne (after s q c) (after t q c) Q Known seen
+      after_one (call.Load addr size) none live h taken = load_one addr size
+      after_one (call.Store addr size value) none live h taken = store_one addr size value
+      after_one (call.Map page write) none live h taken = map_one page write
+      after_one (call.Unmap page) none live h taken = unmap_one page
+      after_one (call.Protect page write) none live h taken = protect_one page write
+      after_one (call.Offer page target write) none live h taken = offer_one page target write
+      after_one (call.Withdraw page target) none live h taken = withdraw_one page target
+      after_one (call.Accept giver giver_page page) none live h taken =
+          let known = taken giver giver_page page refl in accept_one giver giver_page page known.0 known.1
+      after_one call.Exit none live h taken = exit_one live (not-refused (exit_refusal s q) _ h)
+      after_one (call.Spawn _) none live h taken = cc
+      after_one (call.Fork _) none live h taken = cc
+      after_one _ none live h taken = l
