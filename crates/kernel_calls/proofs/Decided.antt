@@ -6,7 +6,7 @@ use Prelude.{may_protect, Cause, View, plan_of, plan_at, step_of, step_at, goes_
 use Prelude.{Read, Write, answer, answer_of, after, next, completes, refused_or, planned_or, judged_of, plan_of_call}
 use Prelude.{plan_of_event, refused_plan, charge_in, charge_after, tested, spawned, Call, Event, Reply, arith}
 use Rattle.process_table.specs.TestAnswers.{first_cause, number_unless, child_unless, map_answer, protect_answer}
-use Rattle.process_table.specs.TestAnswers.{offer_answer, accept_answer, spawn_answer, fork_answer}
+use Rattle.process_table.specs.TestAnswers.{offer_answer, spawn_answer, fork_answer}
 use Rattle.address_space.proofs.costs.Totals.{cost-protected_of}
 use Rattle.process_table.specs.declared.causes.Cause.TheVariants as cause
 use Rattle.fault_handler.specs.declared.plans.Plan.TheVariants as plan
@@ -55,9 +55,6 @@ by_next P s e stays goes = by (completes (answer s e)) refl
 abbrev pub done_by : Result ℕ Cause → Reply
 done_by (Ok charge) = reply.Done
 done_by (Err cause) = reply.Refused cause
-
-pub accept-told : (v : View) (e : Event) (giver giver_page page : ℕ) → e.call ≡ call.Accept giver giver_page page → done_by (accept_answer v.state e.pid giver giver_page page) ≡ answer v.state e
-accept-told v e giver giver_page page is = grind arith
 
 -- ---- Decisions by the test of a call
 

@@ -2,14 +2,14 @@
 use Rattle.kernel_calls.proofs.Prelude
 use Prelude.{◌≡◌, ◌≢◌, ℕ, zero, suc, ◌+◌, ◌-◌, ◌<◌, ◌≤◌, ◌/◌, ◌%◌, Bool, true, false, List, [], ◌∷◌, length, replicate}
 use Prelude.{refl, sym, ap, subst, ◌∙◌, Option, Some, None, is_some, unwrap_or, arith, inl, inr, IsTrue, ◌⊎◌}
-use Prelude.{if◌then◌else◌, slice_index, IfSome, option_map, cases_eq, same_Some, page_number, offset_number}
-use Prelude.{byte_count, second_page, page_and, touched, EachTouched, Size, same, same_itself, get-insert}
-use Prelude.{get-map_values, contains-insert, some_value, no_value, is_some-map, same_cases, Slot, slot_order, Cell}
-use Prelude.{Spaces, at_page, slot_at, fresh, cell_or_fresh, bytes_of, with_pages, with_holders, set_holders, set_bytes}
-use Prelude.{write_at, accessed, stored, all_accessed, all_stored, without, is_slot, copied-other, AreThere, IsThere}
-use Prelude.{first_there, rest_there, touched-there, bytes_there, key-all_accessed, key-all_stored, each_byte, left}
-use Prelude.{get-without, offer_key, Write, State, is_live, is_mapped, child_of, map_refusal, accept_refusal, offered}
-use Prelude.{after_load, after_store, after_accept, IsWellFormed, get-inserted, get-inserted_other, may_map, may_accept}
+use Prelude.{if◌then◌else◌, slice_index, IfSome, option_map, cases_eq, page_number, offset_number, byte_count}
+use Prelude.{second_page, page_and, touched, EachTouched, Size, same, same_itself, get-insert, get-map_values}
+use Prelude.{contains-insert, some_value, no_value, is_some-map, same_cases, Slot, slot_order, Cell, Spaces, at_page}
+use Prelude.{slot_at, fresh, cell_or_fresh, bytes_of, with_pages, with_holders, set_holders, set_bytes, write_at}
+use Prelude.{accessed, stored, all_accessed, all_stored, without, is_slot, copied-other, AreThere, IsThere, first_there}
+use Prelude.{rest_there, touched-there, bytes_there, key-all_accessed, key-all_stored, each_byte, left, get-without}
+use Prelude.{offer_key, Write, State, is_live, is_mapped, child_of, map_refusal, accept_refusal, offered, after_load}
+use Prelude.{after_store, after_accept, IsWellFormed, get-inserted, get-inserted_other, may_map, may_accept}
 use Prelude.{well_formed-bytes, well_formed-touched, plan_of, step_of, Goes, ready, all_user, same_cells, flags_of}
 use Prelude.{flags_at, byte_in, shares, Tells, IsCovered, IsStoredAt, IsTogether, Does, DoneMeansDone, Maps, SlotsCome}
 use Prelude.{SlotsGo, answer, answer_of, after, next, completes, Call, Event, in_lone}
@@ -182,10 +182,7 @@ alone : (s : State) (e : Event) (slot : Slot) → IsWellFormed s → map.get s.s
     → (other : Slot) → shares (next s e) slot other ≡ true → other ≡ slot
 alone s e slot w none no_accept other h = elim (same_cases slot_order other slot) [
   | inl same ↦ same.0
-  | inr differ ↦ elim (sharing_by_consent s e slot other w (λ x. differ.0 (sym x)) h) [
-    | inl before ↦ grind arith
-    | inr joins ↦ grind arith
-  ]
+  | inr differ ↦ grind (arith, (sharing_by_consent s e slot other w (λ x. differ.0 (sym x)) h))
 ]
 
 -- what holds a page of a cell, or of a new one, is in its group
@@ -259,10 +256,7 @@ module _ (s : State) (e : Event) (w : IsWellFormed s) (live : is_live s e.pid �
       new_flags : flags_at (next s e) slot
           ≡ Some (record (flags_of (cell_or_fresh s.spaces slot)) { accessed = true; dirty = true })
       new_flags =
-          let m = marks_all_stored T e.pid address (bytes_of (byte_count size) value) slot (cell_or_fresh T slot) at in
-          let same : marks.cell ≡ m.0 = same_Some marks.cell m.0 (sym marks.there ∙ m.1) in
-          ap (λ (t : State). flags_at t slot) goes ∙ ap (option_map flags_of) m.1
-          ∙ (grind (arith, cell_is))
+          grind (arith, (marks_all_stored T e.pid address (bytes_of (byte_count size) value) slot (cell_or_fresh T slot) at), marks, cell_is)
 
       written : byte_in (after_store s e.pid address size value) slot (offset_number a)
           ≡ slice_index (bytes_of (byte_count size) value) (a - address)
@@ -321,9 +315,6 @@ module _ (s : State) (e : Event) (w : IsWellFormed s) (live : is_live s e.pid �
 
       right : Bool
       right = offered s giver giver_page e.pid
-
-      right_is : right ≡ pending.0
-      right_is = ap (λ (x : Option Bool). unwrap_or x false) pending.1
 
       new : Cell
       new = record {
@@ -425,14 +416,10 @@ module _ (s : State) (e : Event) (slot : Slot) (was : is_mapped s slot ≡ false
         bytes = c.bytes;
         holders = holders;
       }) slot now) [
-        | inl before ↦ absurd (same_slots s.spaces refl
-            (grind (arith, get-map_values)))
+        | inl before ↦ grind (arith, (same_slots s.spaces refl (grind (arith, get-map_values))))
         | inr here ↦ inl (own_page page here)
       ]
-  comes (call.Fork quota) h told is now = elim (cases_eq slot.pid (child_of s)) [
-    | inl here ↦ grind (arith, not-refused)
-    | inr other ↦ grind (arith, copied-other)
-  ]
+  comes (call.Fork quota) h told is now = grind (arith, (cases_eq slot.pid (child_of s)), not-refused, copied-other)
   comes _ h told is now = grind (arith, without_comes)
 
 pub slots_come : SlotsCome

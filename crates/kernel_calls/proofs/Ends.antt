@@ -84,11 +84,6 @@ module _ (w : View) (stands : StandsFor (image_of w) w.state) (walks : WalksAgre
   dirty_real : (slot : Slot) → has dirty (map.get w.state.spaces slot) ≡ true → is_lazy_at (memory_of w) slot ≡ false
   dirty_real slot h = grind (arith, has)
 
-  -- a slot with another in its group
-  shared_real : (slot other : Slot) (c : Cell) → map.get w.state.spaces slot ≡ Some c
-      → set.contains c.holders other ≡ true → other ≢ slot → is_lazy_at (memory_of w) slot ≡ false
-  shared_real slot other c there held differ = grind arith
-
   -- a walk to frame 0 is of a lazy slot
   walk_lazy : (p d a f : ℕ) → directory_at (memory_of w) p ≡ Some d → a < 2 ^ 32 → walk_of w.bytes d a Read ≡ Ok f
       → (f == 0) ≡ true → is_lazy_at (memory_of w) (slot_at p a) ≡ true

@@ -1,8 +1,7 @@
 -- What is left of offers, and of a process that exits.
 use Rattle.kernel_calls.proofs.Prelude
-use Prelude.{◌≡◌, ℕ, Bool, true, List, [], ◌∷◌, length, refl, ap, Option, None, unwrap_or, sum_by, arith, option_map}
-use Prelude.{get-retain_keys, some_value, get-removed, Slot, without, is_of, left, get-without, Book, Member, given}
-use Prelude.{number_of_children, quota_of, number-remove, OfferKey, Offers, State, is_live, exit_refusal, not_less}
+use Prelude.{◌≡◌, ℕ, Bool, true, List, [], ◌∷◌, length, refl, None, sum_by, arith, get-retain_keys, some_value, Book}
+use Prelude.{Member, given, number_of_children, number-remove, OfferKey, Offers, State, is_live, exit_refusal, not_less}
 use Rattle.quota_tree.specs.Book.{children}
 use Rattle.page_words.specs.FiniteMap as map
 
@@ -35,10 +34,3 @@ module _ (s : State) (q : ℕ) (live : is_live s q ≡ true) (childless : number
 
   pub exit_given : given (map.remove s.book q) q ≡ 0
   exit_given = given_none (map.remove s.book q) q exit_children
-
-  pub exit_quota : quota_of (map.remove s.book q) q ≡ 0
-  exit_quota = ap (λ (x : Option Member). unwrap_or (option_map (λ (m : Member). m.quota) x) 0) (get-removed s.book q)
-
-pub exit_slot : (s : State) (q : ℕ) (slot : Slot) → is_of q slot ≡ true
-    → map.get (without s.spaces (is_of q)) slot ≡ None
-exit_slot s q slot is = grind (arith, get-without, left)

@@ -6,15 +6,13 @@ use Prelude.{page_number, offset_number, same, Set, get-map_values, contains-ins
 use Prelude.{is_some-map, same_cases, Slot, slot_order, Cell, Spaces, fresh, cell_or_fresh, with_bytes, with_holders}
 use Prelude.{set_bytes, set_holders, write_at, without, at_page, slot_at, accessed, stored, with_page, with_pages}
 use Prelude.{all_accessed, all_stored, joined, left, get-without, get-inserted, get-inserted_other, Flags, flags_of}
-use Prelude.{Shown, shown_of, subst, ◌==◌, eqb-true, cases_eq, same-true, some_value, get-insert, get-remove, nat_order}
-use Prelude.{byte_count, touched, Size, bytes_of, is_slot, is_of, Member, is_child, quota_of, given, number_of_children}
-use Prelude.{given-remove, number-remove, OfferKey, Offers, offer_order, offer_key, State, is_live, exit_refusal}
-use Prelude.{offered, after_load, after_store, after_map, after_unmap, after_protect, after_offer, after_withdraw}
-use Prelude.{after_accept, after_exit, answer_of, after, completes, Call}
+use Prelude.{Shown, shown_of, subst, ◌==◌, eqb-true, some_value, get-insert, get-remove, nat_order, Size, is_of, Member}
+use Prelude.{is_child, quota_of, given, number_of_children, given-remove, number-remove, OfferKey, Offers, offer_key}
+use Prelude.{State, is_live, exit_refusal, after_load, after_store, after_map, after_unmap, after_protect, after_offer}
+use Prelude.{after_withdraw, after_accept, after_exit, answer_of, after, completes, Call}
 use Rattle.kernel_calls.specs.Authority.{AreOne}
-use Rattle.kernel_calls.proofs.Runs.{not-refused}
 use Rattle.kernel_calls.proofs.Seen.{kept_offers, no_children, exit_children, exit_given}
-use Rattle.kernel_calls.proofs.Standings.{live_in, quota_in, given_in, children_in}
+use Rattle.kernel_calls.proofs.Standings.{live_in, children_in}
 use Rattle.kernel_calls.proofs.Stays.{makes_child}
 use Rattle.page_words.proofs.MapLemmas.{len-insert}
 use Rattle.page_words.specs.FiniteMap as map
@@ -223,11 +221,11 @@ module _ (Q : ℕ → Bool) (q : ℕ) (mine : Q q ≡ true) (seen : Slot → Typ
       where
         flags_in : (R : Spaces) (slot : Slot) → option_map flags_of (map.get (without R gone) slot) ≡ cond
             (not (gone slot)) (option_map flags_of (map.get R slot)) None
-        flags_in R slot = grind (arith, get-without, left)
+        flags_in R slot = grind (arith, get-without)
 
         shares_of : (R : Spaces) (slot other : Slot) → shares_in (without R gone) slot
             other ≡ ((shares_in R slot other && not (gone other)) && not (gone slot))
-        shares_of R slot other = grind (arith, get-without, left, contains-retain)
+        shares_of R slot other = grind (arith, get-without, contains-retain)
 
         fewer : (c d : Cell) → shown_of c ≡ shown_of d → SameGroups seen c.holders d.holders
             → shown_of (left gone c) ≡ shown_of (left gone d)
@@ -243,7 +241,7 @@ module _ (Q : ℕ → Bool) (q : ℕ) (mine : Q q ≡ true) (seen : Slot → Typ
 
                 by : (other : Slot) (b : Bool) → gone other ≡ b
                     → (set.contains c.holders other && gone other) ≡ (set.contains d.holders other && gone other)
-                by other b is = grind (arith, out)
+                by other b is = grind arith
 
             less : set.len (set.retain c.holders (λ s. not (gone s))) ≡ set.len
                 (set.retain d.holders (λ s. not (gone s)))
@@ -257,17 +255,19 @@ module _ (Q : ℕ → Bool) (q : ℕ) (mine : Q q ≡ true) (seen : Slot → Typ
         pages : (slot : Slot) → seen slot → option_map shown_of (map.get (without S gone) slot) ≡ option_map shown_of
             (map.get (without T gone) slot)
         pages slot v =
-            ap (option_map shown_of) (get-without S gone slot)
-            ∙ by (not (gone slot)) (map.get S slot) (map.get T slot) (l.pages slot v)
-            (λ other o. l.groups slot other v o)
-            ∙ sym (ap (option_map shown_of) (get-without T gone slot))
+            grind (
+              arith,
+              (by (not (gone slot)) (map.get S slot) (map.get T slot) (l.pages slot v) (λ other o. l.groups slot other v o)),
+              (get-without S gone slot),
+              (get-without T gone slot),
+            )
           where
             by : (b : Bool) (x y : Option Cell) → option_map shown_of x ≡ option_map shown_of y
                 → ((other : Slot) → seen other → unwrap_or (option_map (λ (e : Cell). set.contains e.holders other) x)
                 false ≡ unwrap_or (option_map (λ (e : Cell). set.contains e.holders other) y) false)
                 → option_map shown_of (cond b (option_map (left gone) x) None) ≡ option_map shown_of
                 (cond b (option_map (left gone) y) None)
-            by b x y h k = grind (arith, fewer, same_Some)
+            by b x y h k = grind (arith, fewer)
 
     -- ---- A slot of q that joins the group of a slot that is seen
 
@@ -323,20 +323,14 @@ module _ (Q : ℕ → Bool) (q : ℕ) (mine : Q q ≡ true) (seen : Slot → Typ
       looks_spaces S T = looks S T s.offers t.offers (λ key h. h)
 
       load_one : (addr : ℕ) (size : Size) → AreOne (after_load s q addr size) (after_load t q addr size) Q Known seen
-      load_one addr size =
-          let pages = touched addr size in
-          looks_spaces _ _ (accessed_same _ _ pages (pages_same s.spaces t.spaces pages start))
+      load_one addr size = grind (arith, looks_spaces, accessed_same, pages_same, start)
 
       store_one : (addr : ℕ) (size : Size) (value : ℕ)
           → AreOne (after_store s q addr size value) (after_store t q addr size value) Q Known seen
-      store_one addr size value =
-          looks_spaces _ _ (all_stored_same _ _ addr (bytes_of (byte_count size) value)
-          (pages_same s.spaces t.spaces (touched addr size) start))
+      store_one addr size value = grind (arith, looks_spaces, all_stored_same, pages_same, start)
 
       map_one : (page : ℕ) (write : Bool) → AreOne (after_map s q page write) (after_map t q page write) Q Known seen
-      map_one page write =
-          let c : Cell = fresh (at_page q page) write in
-          looks_spaces _ _ (put_same s.spaces t.spaces page c c start refl refl (λ other o. refl))
+      map_one page write = grind (arith, looks_spaces, put_same)
 
       protect_one : (page : ℕ) (write : Bool)
           → AreOne (after_protect s q page write) (after_protect t q page write) Q Known seen
@@ -345,10 +339,7 @@ module _ (Q : ℕ → Bool) (q : ℕ) (mine : Q q ≡ true) (seen : Slot → Typ
           (λ c d h. ap (λ (f : Flags). record f { write = write }) h) (λ c. refl) (λ c. refl) start)
 
       unmap_one : (page : ℕ) → AreOne (after_unmap s q page) (after_unmap t q page) Q Known seen
-      unmap_one page =
-          looks _ _ _ _ (kept_offers s.offers t.offers (λ (k : OfferKey). not ((k.offerer == q) && (k.page == page))))
-          (gone_same s.spaces t.spaces (is_slot q page)
-          (λ slot h. subst seen (same-true slot_order (at_page q page) slot h) (own page)) start)
+      unmap_one page = grind (arith, looks, kept_offers, gone_same)
 
       withdraw_one : (page target : ℕ) → AreOne (after_withdraw s q page target) (after_withdraw t q page target) Q Known seen
       withdraw_one page target = grind (arith, looks, kept_offers, start)
@@ -359,24 +350,19 @@ module _ (Q : ℕ → Bool) (q : ℕ) (mine : Q q ≡ true) (seen : Slot → Typ
 
       accept_one : (giver giver_page page : ℕ) → seen (at_page giver giver_page) → Known (offer_key giver giver_page q)
           → AreOne (after_accept s q giver giver_page page) (after_accept t q giver giver_page page) Q Known seen
-      accept_one giver giver_page page there known =
-          looks _ _ _ _ (kept_offers s.offers t.offers (λ k. not (same offer_order (offer_key giver giver_page q) k)))
-          (joined_same s.spaces t.spaces (at_page giver giver_page) page (offered s giver giver_page q)
-          (offered t giver giver_page q) start there
-          (ap (λ (x : Option Bool). unwrap_or x false) (l.offers (offer_key giver giver_page q) known)))
+      accept_one giver giver_page page there known = grind (arith, looks, kept_offers, joined_same, start)
 
       exit_one : is_live s q ≡ true → exit_refusal s q ≡ None → AreOne (after_exit s q) (after_exit t q) Q Known seen
       exit_one live allowed =
           let stay : OfferKey → Bool = (λ (k : OfferKey). not ((k.offerer == q) || (k.target == q))) in
           let spaces = gone_same s.spaces t.spaces (is_of q) own_slots start in
           record {
-            standing = grind (arith, live_same, quota_same, given_same, cases_eq, children_same);
+            standing = grind (arith, live_same, quota_same, given_same, children_same);
             families = λ p r hp hr d.
                 ap (λ (x : Option Member). unwrap_or (option_map (λ (m : Member). is_child p (r, m)) x) false)
                 (get-remove s.book q r)
                 ∙ by_family (same nat_order r q) p r hp hr d
-                ∙ sym (ap (λ (x : Option Member). unwrap_or (option_map (λ (m : Member). is_child p (r, m)) x) false)
-                (get-remove t.book q r));
+                ∙ sym (grind (arith, (get-remove t.book q r)));
             flags = spaces.flags;
             offers = λ key h. kept_offers s.offers t.offers stay key (l.offers key h);
             pages = spaces.pages;
@@ -385,12 +371,12 @@ module _ (Q : ℕ → Bool) (q : ℕ) (mine : Q q ≡ true) (seen : Slot → Typ
         where
           by_live : (b : Bool) (p : ℕ) → Q p ≡ true
               → is_some (cond b None (map.get s.book p)) ≡ is_some (cond b None (map.get t.book p))
-          by_live b p h = grind (arith, live_in)
+          by_live b p h = grind arith
 
           by_quota : (b : Bool) (r : ℕ) → Q r ≡ true → unwrap_or
               (option_map (λ (m : Member). m.quota) (cond b None (map.get s.book r))) 0 ≡ unwrap_or
               (option_map (λ (m : Member). m.quota) (cond b None (map.get t.book r))) 0
-          by_quota b r h = grind (arith, quota_in)
+          by_quota b r h = grind arith
 
           live_same : (p : ℕ) → Q p ≡ true → map.contains_key (map.remove s.book q) p ≡ map.contains_key (map.remove t.book q) p
           live_same p h = ap is_some (get-remove s.book q p) ∙ by_live (same nat_order p q) p h
@@ -425,7 +411,7 @@ module _ (Q : ℕ → Bool) (q : ℕ) (mine : Q q ≡ true) (seen : Slot → Typ
           n = some_value (map.get t.book q) live_t
 
           same_quota : m.0.quota ≡ n.0.quota
-          same_quota = grind (arith, m, quota_in, n)
+          same_quota = grind arith
 
           same_parent : (r : ℕ) → Q r ≡ true → r ≢ q → is_child r (q, m.0) ≡ is_child r (q, n.0)
           same_parent r h d =
@@ -435,25 +421,15 @@ module _ (Q : ℕ → Bool) (q : ℕ) (mine : Q q ≡ true) (seen : Slot → Typ
 
           given_same : (r : ℕ) → Q r ≡ true → (r ≡ q) ⊎ (r ≢ q)
               → given (map.remove s.book q) r ≡ given (map.remove t.book q) r
-          given_same r h (inl is) = grind (arith, exit_given, childless, live_t, childless_t)
+          given_same r h (inl is) = grind (arith, exit_given)
           given_same r h (inr d) =
-              let a = given-remove s.book q m.0 m.1 r in
-              let b = given-remove t.book q n.0 n.1 r in
-              let g = ap given_in (l.standing r h) in
-              let x : ◌≡◌ {A = ℕ} (cond (is_child r (q, m.0)) m.0.quota 0) (cond (is_child r (q, n.0)) n.0.quota 0) =
-              (λ i. cond (same_parent r h d i) (same_quota i) 0) in
-              omega (arith, a, b, g, x)
+              grind (arith, (given-remove s.book q m.0 m.1 r), (given-remove t.book q n.0 n.1 r), same_parent)
 
           children_same : (r : ℕ) → Q r ≡ true → (r ≡ q) ⊎ (r ≢ q)
               → number_of_children (map.remove s.book q) r ≡ number_of_children (map.remove t.book q) r
-          children_same r h (inl is) = grind (arith, exit_children, childless, live_t, childless_t)
+          children_same r h (inl is) = grind (arith, exit_children)
           children_same r h (inr d) =
-              let a = number-remove s.book q m.0 m.1 r in
-              let b = number-remove t.book q n.0 n.1 r in
-              let g = ap children_in (l.standing r h) in
-              let x : ◌≡◌ {A = ℕ} (cond (is_child r (q, m.0)) 1 0) (cond (is_child r (q, n.0)) 1 0) =
-              (λ i. cond (same_parent r h d i) 1 0) in
-              omega (arith, a, b, g, x)
+              grind (arith, (number-remove s.book q m.0 m.1 r), (number-remove t.book q n.0 n.1 r), same_parent)
 
       -- any call that makes no child; of one that takes an offer, this and its page are known
       pub after_one : (c : Call) → makes_child c ≡ false → is_live s q ≡ true → completes (answer_of s q c) ≡ true
@@ -469,7 +445,4 @@ module _ (Q : ℕ → Bool) (q : ℕ) (mine : Q q ≡ true) (seen : Slot → Typ
       after_one (call.Withdraw page target) none live h taken = withdraw_one page target
       after_one (call.Accept giver giver_page page) none live h taken =
           let known = taken giver giver_page page refl in accept_one giver giver_page page known.0 known.1
-      after_one call.Exit none live h taken = exit_one live (not-refused (exit_refusal s q) _ h)
-      after_one (call.Spawn _) none live h taken = cc
-      after_one (call.Fork _) none live h taken = cc
-      after_one _ none live h taken = l
+      after_one _ none live h taken = grind (arith, exit_one)
