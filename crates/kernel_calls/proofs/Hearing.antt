@@ -176,10 +176,7 @@ module _ (View : State → State → (ℕ → Bool) → Type 0) (Stands : State 
           good_too = subst (IsGood t Q) (sym same_event) good_o
 
           both : (p : ℕ) (a b : Bool) → members_after s Q e p ≡ a → members_after t Q e p ≡ b → a ≡ b
-          both p true true x y = refl
-          both p false false x y = refl
-          both p true false x y = sym (too s t e Q w v mine l good finds p x) ∙ y
-          both p false true x y = sym x ∙ too t s e Q v w mine (back s t Q l) good_too (sym finds) p y
+          both p _ _ x y = grind (arith, too)
 
           sets : members_after s Q e ≡ members_after t Q e
           sets = λ i. λ p. both p (members_after s Q e p) (members_after t Q e p) refl refl i

@@ -3,10 +3,9 @@ use Rattle.kernel_calls.proofs.Prelude
 use Prelude.{◌≡◌, ◌≢◌, ℕ, ◌==◌, Bool, true, false, refl, sym, ap, subst, ◌∙◌, List, [], ◌∷◌, ◌++◌, length, map, filter}
 use Prelude.{take, drop, zero, suc, ◌+◌, add-one, Some, arith, if◌then◌else◌, slice_get, eqb-true, eqb-false, All-head}
 use Prelude.{All-tail, same_Some, Size, Access, Read, Write, IsApart, AreAlike, pages_held, alone_with, State, is_live}
-use Prelude.{child_of, map_refusal, unmap_refusal, protect_refusal, offer_refusal, withdraw_refusal, accept_refusal}
-use Prelude.{spawn_refusal, fork_refusal, after_spawn, after_fork, IsWellFormed, spawn_alike, fork_alike, plan_of}
-use Prelude.{exchanges, quota_asked, answer, answer_of, answers, after, next, end_of, completes, planned_or, Call}
-use Prelude.{Event, Reply}
+use Prelude.{child_of, accept_refusal, spawn_refusal, fork_refusal, after_spawn, after_fork, IsWellFormed, spawn_alike}
+use Prelude.{fork_alike, plan_of, exchanges, quota_asked, answer, answer_of, answers, after, next, end_of, completes}
+use Prelude.{planned_or, Call, Event, Reply}
 use Rattle.process_table.proofs.ApartOthers.{load_leaves, store_leaves, map_leaves, unmap_leaves, protect_leaves}
 use Rattle.process_table.proofs.ApartOthers.{offer_leaves, withdraw_leaves, accept_leaves, spawn_leaves, fork_leaves}
 use Rattle.process_table.proofs.ApartOthers.{exit_leaves}
@@ -182,22 +181,13 @@ done_not : (k : ℕ) → reply.Done ≡ reply.Child k → ⊥
 done_not k h = cc
 
 made : (root : ℕ) (s : State) (p : ℕ) (c : Call) (k : ℕ) → IsWellFormed s → is_live s p ≡ true → answer_of s p c ≡ reply.Child k → IsMade root s p c k
-made root s p (call.Load addr size) k w live h = grind arith
-made root s p (call.Store addr size value) k w live h = absurd (done_not k (planned_child (plan_of s p addr size Write) reply.Done k h))
-made root s p (call.Map page write) k w live h = absurd (done_not k (refused_child (map_refusal s p page) reply.Done k h).1)
-made root s p (call.Unmap page) k w live h = absurd (done_not k (refused_child (unmap_refusal s p page) reply.Done k h).1)
-made root s p (call.Protect page write) k w live h = absurd (done_not k (refused_child (protect_refusal s p page write) reply.Done k h).1)
-made root s p (call.Info page) k w live h = grind arith
-made root s p (call.Offer page target write) k w live h = absurd (done_not k (refused_child (offer_refusal s p page target write) reply.Done k h).1)
-made root s p (call.Withdraw page target) k w live h = absurd (done_not k (refused_child (withdraw_refusal s p page target) reply.Done k h).1)
-made root s p (call.Accept giver giver_page page) k w live h = absurd (done_not k (refused_child (accept_refusal s p giver giver_page page) reply.Done k h).1)
 made root s p (call.Spawn quota) k w live h =
     let n = refused_child (spawn_refusal s p quota) (reply.Child (child_of s)) k h in
     subst (λ c. AreAlike (after_spawn s p quota) c (alone_with root quota map.empty) 1) (child_value (child_of s) k n.1) (spawn_alike s p root quota w live n.0)
 made root s p (call.Fork quota) k w live h =
     let n = refused_child (fork_refusal s p quota) (reply.Child (child_of s)) k h in
     subst (λ c. AreAlike (after_fork s p quota) c (alone_with root quota (pages_held s p)) 1) (child_value (child_of s) k n.1) (fork_alike s p root quota w live n.0)
-made root s p _ k w live h = grind arith
+made root s p _ k w live h = grind (arith, done_not, planned_child, refused_child)
 
 child_alike : (root : ℕ) (s : State) (e : Event) (p : ℕ) → IsWellFormed s → answer s e ≡ reply.Child p → AreAlike (next s e) p (alone_with root (quota_asked e.call) (pages_given s e.pid e.call)) 1
 child_alike root s e p w h =
