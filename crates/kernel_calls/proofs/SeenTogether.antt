@@ -63,9 +63,7 @@ seen_before s Q q (call.Accept giver giver_page page) mine none =
     (kept_key s.offers (λ k. not (same offer_order (offer_key giver giver_page q) k)))
 seen_before s Q q call.Exit mine none =
     fewer_seen s (after_exit s q) Q (kept_key s.offers (λ (k : OfferKey). not ((k.offerer == q) || (k.target == q))))
-seen_before s Q q (call.Spawn _) mine none = cc
-seen_before s Q q (call.Fork _) mine none = cc
-seen_before s Q q _ mine none = λ slot v. v
+seen_before s Q q _ mine none = grind arith
 
 -- ---- A child joins them
 

@@ -11,8 +11,8 @@ use Prelude.{is_child, quota_of, given, number_of_children, given-remove, number
 use Prelude.{State, is_live, exit_refusal, after_load, after_store, after_map, after_unmap, after_protect, after_offer}
 use Prelude.{after_withdraw, after_accept, after_exit, answer_of, after, completes, Call}
 use Rattle.kernel_calls.specs.Authority.{AreOne}
-use Rattle.kernel_calls.proofs.Seen.{kept_offers, no_children, exit_children, exit_given}
-use Rattle.kernel_calls.proofs.Standings.{live_in, children_in}
+use Rattle.kernel_calls.proofs.Seen.{kept_offers, exit_children, exit_given}
+use Rattle.kernel_calls.proofs.Standings.{live_in}
 use Rattle.kernel_calls.proofs.Stays.{makes_child}
 use Rattle.page_words.proofs.MapLemmas.{len-insert}
 use Rattle.page_words.specs.FiniteMap as map
@@ -236,9 +236,6 @@ module _ (Q : ℕ → Bool) (q : ℕ) (mine : Q q ≡ true) (seen : Slot → Typ
                 (λ other. contains-retain c.holders gone other ∙ by other (gone other) refl
                 ∙ sym (contains-retain d.holders gone other))
               where
-                out : (a b : Bool) → (a && false) ≡ (b && false)
-                out a b = grind arith
-
                 by : (other : Slot) (b : Bool) → gone other ≡ b
                     → (set.contains c.holders other && gone other) ≡ (set.contains d.holders other && gone other)
                 by other b is = grind arith
@@ -397,21 +394,12 @@ module _ (Q : ℕ → Bool) (q : ℕ) (mine : Q q ≡ true) (seen : Slot → Typ
           live_t : is_live t q ≡ true
           live_t = sym (ap live_in (l.standing q mine)) ∙ live
 
-          childless : number_of_children s.book q ≡ 0
-          childless = no_children s q allowed
-
-          childless_t : number_of_children t.book q ≡ 0
-          childless_t = sym (ap children_in (l.standing q mine)) ∙ childless
-
           -- q's entries in both books
           m : (m : Member) × (map.get s.book q ≡ Some m)
           m = some_value (map.get s.book q) live
 
           n : (m : Member) × (map.get t.book q ≡ Some m)
           n = some_value (map.get t.book q) live_t
-
-          same_quota : m.0.quota ≡ n.0.quota
-          same_quota = grind arith
 
           same_parent : (r : ℕ) → Q r ≡ true → r ≢ q → is_child r (q, m.0) ≡ is_child r (q, n.0)
           same_parent r h d =
@@ -436,13 +424,7 @@ module _ (Q : ℕ → Bool) (q : ℕ) (mine : Q q ≡ true) (seen : Slot → Typ
           → ((giver giver_page page : ℕ) → c ≡ call.Accept giver giver_page page
           → seen (at_page giver giver_page) × Known (offer_key giver giver_page q))
           → AreOne (after s q c) (after t q c) Q Known seen
-      after_one (call.Load addr size) none live h taken = load_one addr size
-      after_one (call.Store addr size value) none live h taken = store_one addr size value
-      after_one (call.Map page write) none live h taken = map_one page write
-      after_one (call.Unmap page) none live h taken = unmap_one page
-      after_one (call.Protect page write) none live h taken = protect_one page write
-      after_one (call.Offer page target write) none live h taken = offer_one page target write
-      after_one (call.Withdraw page target) none live h taken = withdraw_one page target
       after_one (call.Accept giver giver_page page) none live h taken =
           let known = taken giver giver_page page refl in accept_one giver giver_page page known.0 known.1
-      after_one _ none live h taken = grind (arith, exit_one)
+      after_one _ none live h taken =
+          grind (arith, load_one, store_one, map_one, unmap_one, protect_one, offer_one, withdraw_one, exit_one)
