@@ -1,7 +1,7 @@
 -- What is left of offers, and of a process that exits.
 use Rattle.kernel_calls.proofs.Prelude
-use Prelude.{◌≡◌, ℕ, Bool, true, List, [], ◌∷◌, length, refl, None, sum_by, arith, get-retain_keys, some_value, Book}
-use Prelude.{Member, given, number_of_children, number-remove, OfferKey, Offers, State, is_live, exit_refusal, not_less}
+use Prelude.{◌≡◌, ℕ, Bool, true, List, [], ◌∷◌, length, refl, sum_by, arith, get-retain_keys, some_value, Book, Member}
+use Prelude.{given, number_of_children, number-remove, OfferKey, Offers, State, is_live}
 use Rattle.quota_tree.specs.Book.{children}
 use Rattle.page_words.specs.FiniteMap as map
 
@@ -15,10 +15,6 @@ pub kept_key : (O : Offers) (stay : OfferKey → Bool) (key : OfferKey)
 kept_key O stay key h = grind (arith, get-retain_keys)
 
 -- ---- An exit: nothing of it is left
-
--- who may exit has no child
-pub no_children : (s : State) (q : ℕ) → exit_refusal s q ≡ None → number_of_children s.book q ≡ 0
-no_children s q allowed = grind (arith, not_less)
 
 given_none : (book : Book) (p : ℕ) → number_of_children book p ≡ 0 → given book p ≡ 0
 given_none book p h = by (children book p) h
