@@ -57,25 +57,20 @@ module _ (a b : Slot) (apart : a ≢ b) where
   pub stored_apart : (f : Option Cell → Cell) (S : Spaces) (at : ℕ) (ys : List ℕ)
       → set.contains (cell_or_fresh S b).holders a ≡ false → stored (at_slot a f S) b at ys ≡ at_slot a f (stored S b at ys)
   stored_apart f S at ys none =
+      let c : Cell = cell_or_fresh S b in
+      let x : Cell = f (map.get S a) in
+      let cell : cell_or_fresh (at_slot a f S) b ≡ cell_or_fresh S b = ap (λ (z : Option Cell). unwrap_or z (fresh b
+      true)) (get-inserted_other S a (f (map.get S a)) b back) in
       ap (λ (k : Cell). store_in (map.insert S a x) b k (write_at k.bytes at ys)) cell
       ∙ ap (λ (T : Spaces). map.insert T b c') (group_apart S c.holders new x none)
       ∙ sym (swap (set_bytes S c.holders new) x c')
       ∙ sym (ap (λ (z : Option Cell). map.insert (stored S b at ys) a (f z)) there)
     where
-      c : Cell
-      c = cell_or_fresh S b
-
-      x : Cell
-      x = f (map.get S a)
-
       new : List ℕ
       new = write_at (cell_or_fresh S b).bytes at ys
 
       c' : Cell
       c' = record (cell_or_fresh S b) { bytes = new; accessed = true; dirty = true }
-
-      cell : cell_or_fresh (at_slot a f S) b ≡ cell_or_fresh S b
-      cell = ap (λ (z : Option Cell). unwrap_or z (fresh b true)) (get-inserted_other S a (f (map.get S a)) b back)
 
       there : map.get (stored S b at ys) a ≡ map.get S a
       there = get-inserted_other (set_bytes S (cell_or_fresh S b).holders new) b c' a apart

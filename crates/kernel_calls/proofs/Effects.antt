@@ -202,14 +202,24 @@ module _ (s : State) (e : Event) (w : IsWellFormed s) (live : is_live s e.pid �
       → completes (answer_of s e.pid (call.Store address size value)) ≡ true
       → next s e ≡ after_store s e.pid address size value
       → Does s (next s e) e.pid (call.Store address size value)
-  store_does address size value is h goes a place c = (
-    record {
-      has = new_flags;
-      alone = grind (arith, alone);
-    },
-    ap (λ (t : State). byte_in t slot (offset_number a)) goes ∙ written,
-    bytes,
-  )
+  store_does address size value is h goes a place c =
+      let marks : IsDirty U slot = subst (λ b. IsDirty U (slot_at e.pid b)) here (stored_marks T e.pid address _ value
+      _ inside) in
+      let new_flags : flags_at (next s e) slot
+      ≡ Some (record (flags_of (cell_or_fresh s.spaces slot)) { accessed = true; dirty = true }) =
+      grind (
+        arith,
+        (marks_all_stored T e.pid address (bytes_of (byte_count size) value) slot (cell_or_fresh T slot) at),
+        marks,
+        cell_is,
+      ) in (
+        record {
+          has = new_flags;
+          alone = grind (arith, alone);
+        },
+        ap (λ (t : State). byte_in t slot (offset_number a)) goes ∙ written,
+        bytes,
+      )
     where
       slot : Slot
       slot = slot_at e.pid a
@@ -250,14 +260,6 @@ module _ (s : State) (e : Event) (w : IsWellFormed s) (live : is_live s e.pid �
           (touched-there s.spaces e.pid address size) a c) in
           x.1 ∙ ap (λ (y : Option Cell). Some (unwrap_or y (fresh slot true))) (sym x.1)
 
-      marks : IsDirty U slot
-      marks = subst (λ b. IsDirty U (slot_at e.pid b)) here (stored_marks T e.pid address _ value _ inside)
-
-      new_flags : flags_at (next s e) slot
-          ≡ Some (record (flags_of (cell_or_fresh s.spaces slot)) { accessed = true; dirty = true })
-      new_flags =
-          grind (arith, (marks_all_stored T e.pid address (bytes_of (byte_count size) value) slot (cell_or_fresh T slot) at), marks, cell_is)
-
       written : byte_in (after_store s e.pid address size value) slot (offset_number a)
           ≡ slice_index (bytes_of (byte_count size) value) (a - address)
       written = subst (λ b. Written U e.pid b (slice_index (bytes_of (byte_count size) value) (a - address))) here
@@ -290,44 +292,33 @@ module _ (s : State) (e : Event) (w : IsWellFormed s) (live : is_live s e.pid �
       → accept_refusal s e.pid giver giver_page page ≡ None → answer s e ≡ reply.Done
       → next s e ≡ after_accept s e.pid giver giver_page page
       → Does s (next s e) e.pid (call.Accept giver giver_page page)
-  accept_does giver giver_page page is allowed told goes = record {
-    right = pending.0;
-    offered = pending.1;
-    has = grind (arith, at);
-    group = grind (arith, at, contains-insert, given);
-    gone = offers_end s e (offer_key giver giver_page e.pid) (inr (refl, (page, is))) told;
-  }
-    where
-      slot : Slot
-      slot = at_page e.pid page
-
-      from : Slot
-      from = at_page giver giver_page
-
-      c : Cell
-      c = cell_or_fresh s.spaces from
-
-      pending : (b : Bool) × (map.get s.offers (offer_key giver giver_page e.pid) ≡ Some b)
-      pending = some_value _ (may_accept s e.pid giver giver_page page allowed).there
-
-      given : (c : Cell) × (map.get s.spaces from ≡ Some c) × (IsTrue pending.0 → IsTrue c.may)
-      given = (w.offers (offer_key giver giver_page e.pid) pending.0 pending.1).offered
-
-      right : Bool
-      right = offered s giver giver_page e.pid
-
-      new : Cell
-      new = record {
+  accept_does giver giver_page page is allowed told goes =
+      let slot : Slot = at_page e.pid page in
+      let from : Slot = at_page giver giver_page in
+      let c : Cell = cell_or_fresh s.spaces from in
+      let pending : (b : Bool) × (map.get s.offers (offer_key giver giver_page e.pid) ≡ Some b) = some_value _
+      (may_accept s e.pid giver giver_page page allowed).there in
+      let given : (c : Cell) × (map.get s.spaces from ≡ Some c) × (IsTrue pending.0 → IsTrue c.may) = (w.offers
+      (offer_key giver giver_page e.pid) pending.0 pending.1).offered in
+      let right : Bool = offered s giver giver_page e.pid in
+      let new : Cell = record {
         write = right;
         may = right;
         accessed = false;
         dirty = false;
         bytes = c.bytes;
-        holders = set.insert c.holders slot;
+        holders =
+            set.insert c.holders slot;
+      } in
+      let at : map.get (next s e).spaces slot ≡ Some new = ap (λ (t : State). map.get t.spaces slot) goes ∙
+      get-inserted (set_holders s.spaces c.holders _) slot new in
+      record {
+        right = pending.0;
+        offered = pending.1;
+        has = grind (arith, at);
+        group = grind (arith, at, contains-insert, given);
+        gone = offers_end s e (offer_key giver giver_page e.pid) (inr (refl, (page, is))) told;
       }
-
-      at : map.get (next s e).spaces slot ≡ Some new
-      at = ap (λ (t : State). map.get t.spaces slot) goes ∙ get-inserted (set_holders s.spaces c.holders _) slot new
 
   does : (c : Call) → e.call ≡ c → completes (answer_of s e.pid c) ≡ true → next s e ≡ after s e.pid c
       → Tells s e.pid c (answer s e) → Does s (next s e) e.pid c
