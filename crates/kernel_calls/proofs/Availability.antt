@@ -235,17 +235,21 @@ module _ (s t : State) (p : ℕ) (l : Leaves s t p) where
       inl (access_stays addr size Read _ refl (went-on (plan_of s p addr size Read) _ h))
   outcome (call.Store addr size value) h =
       inl (access_stays addr size Write _ refl (went-on (plan_of s p addr size Write) _ h))
-  outcome (call.Map page write) h = grind (arith, refused_stays, map_stays, not-refused)
-  outcome (call.Unmap page) h = grind (arith, refused_stays, unmap_stays, not-refused)
-  outcome (call.Protect page write) h = grind (arith, refused_stays, protect_stays, not-refused)
-  outcome (call.Info page) h = grind (arith, refused_stays, protect_stays, not-refused)
-  outcome (call.Offer page target write) h = grind (arith, offer_stays, not-refused)
-  outcome (call.Withdraw page target) h = withdraw_stays page target (not-refused (withdraw_refusal s p page target) _ h)
-  outcome (call.Accept giver giver_page page) h = grind (arith, accept_stays, not-refused)
-  outcome (call.Spawn quota) h = spawn_stays quota (not-refused (spawn_refusal s p quota) _ h)
-  outcome (call.Fork quota) h = fork_stays quota (not-refused (fork_refusal s p quota) _ h)
-  outcome call.Exit h = inl (refused_stays _ _ refl (exit_stays (not-refused (exit_refusal s p) _ h)))
-  outcome call.Quota h = inl refl
+  outcome _ h =
+      grind (
+        arith,
+        refused_stays,
+        map_stays,
+        not-refused,
+        unmap_stays,
+        protect_stays,
+        offer_stays,
+        withdraw_stays,
+        accept_stays,
+        spawn_stays,
+        fork_stays,
+        exit_stays,
+      )
 
 -- ---- Whose event loses a call
 
@@ -257,7 +261,6 @@ module _ (s : State) (o : Event) (p : ℕ) (d : p ≢ o.pid) where
   goes k was now = grind (arith, place_of, child_dead)
 
   loses : (c : Call) → Lost s (next s o) p c → Loses s o p c
-  loses (call.Offer page target write) x = goes target x.0 x.1
   loses (call.Withdraw page target) x =
       let at = some_value (map.get s.offers (offer_key p page target)) x.0 in
       elim (offers_stay s o (offer_key p page target) at.0 at.1) [
@@ -288,9 +291,7 @@ module _ (s : State) (o : Event) (p : ℕ) (d : p ≢ o.pid) where
           ]
         ]
       ]
-  loses (call.Spawn quota) x = (x.0, comes x.0 x.1 x.2)
-  loses (call.Fork quota) x = (x.0, comes x.0 x.1 x.2)
-  loses _ x = absurd x
+  loses _ x = grind (arith, goes, comes)
 
 -- the reply is that of a live process
 answered : (t : State) (e : Event) → is_live t e.pid ≡ true → answer t e ≡ answer_of t e.pid e.call

@@ -69,32 +69,26 @@ cleaning_shows s p page c w at marked same =
 
 -- a translation that is given stays given, where it isn't ended
 given_left : (ended : Ended) (v w : View) (t : Translation) → EndsMarks ended v w → is_ended ended t.slot ≡ false → IsGiven v t → IsGiven w t
-given_left ended v w t ends spared given = record {
-  page = given.page;
-  directory = given.directory;
-  live = (ends.translations t.slot.pid given.directory first t.frame Read first_small (at first first_page) (given.live, given.read first first_small first_page)).0;
-  read = λ a small page. (ends.translations t.slot.pid given.directory a t.frame Read small (at a page) (given.live, given.read a small page)).1;
-  written = λ w a small page. (ends.translations t.slot.pid given.directory a t.frame Write small (at a page) (given.live, given.written w a small page)).1;
-  cell = here.0;
-  mapped = here.1;
-  accessed = (ends.flags t.slot given.cell here.0 spared given.mapped here.1).0 given.accessed;
-  dirty = λ kept. (ends.flags t.slot given.cell here.0 spared given.mapped here.1).1 (given.dirty kept);
-}
+given_left ended v w t ends spared given =
+    let first : ℕ = start_number t.slot.page in
+    let first_small : first < 2 ^ 32 = let l = given.page in omega (arith, l) in
+    let first_page : page_number first ≡ t.slot.page = omega arith in
+    let here : (d : Cell) × (map.get w.state.spaces t.slot ≡ Some d) = some_value (map.get w.state.spaces t.slot)
+    (ends.slots t.slot spared (ap is_some given.mapped)) in
+    record {
+      page = given.page;
+      directory = given.directory;
+      live = (ends.translations t.slot.pid given.directory first t.frame Read first_small (at first first_page) (given.live, given.read first first_small first_page)).0;
+      read = λ a small page. (ends.translations t.slot.pid given.directory a t.frame Read small (at a page) (given.live, given.read a small page)).1;
+      written = λ w a small page. (ends.translations t.slot.pid given.directory a t.frame Write small (at a page) (given.live, given.written w a small page)).1;
+      cell = here.0;
+      mapped = here.1;
+      accessed = (ends.flags t.slot given.cell here.0 spared given.mapped here.1).0 given.accessed;
+      dirty = λ kept. (ends.flags t.slot given.cell here.0 spared given.mapped here.1).1 (given.dirty kept);
+    }
   where
-    first : ℕ
-    first = start_number t.slot.page
-
-    first_small : first < 2 ^ 32
-    first_small = let l = given.page in omega (arith, l)
-
-    first_page : page_number first ≡ t.slot.page
-    first_page = omega arith
-
     at : (a : ℕ) → page_number a ≡ t.slot.page → is_ended ended (slot_at t.slot.pid a) ≡ false
     at a page = ap (λ n. is_ended ended (at_page t.slot.pid n)) page ∙ spared
-
-    here : (d : Cell) × (map.get w.state.spaces t.slot ≡ Some d)
-    here = some_value (map.get w.state.spaces t.slot) (ends.slots t.slot spared (ap is_some given.mapped))
 
 read_left : (ended : Ended) (v w : View) (k : Kept) → EndsMarks ended v w → is_invalidated ended k ≡ false → IsRead v k → IsRead w k
 read_left ended v w (translation t) ends spared given = given_left ended v w t ends spared given

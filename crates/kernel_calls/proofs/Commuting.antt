@@ -2,10 +2,10 @@
 use Rattle.kernel_calls.proofs.Prelude
 use Prelude.{◌≡◌, ◌≢◌, ℕ, suc, ◌+◌, ◌<◌, Bool, true, false, cond, List, [], ◌∷◌, length, refl, ap, sym, ◌∙◌, subst}
 use Prelude.{arith, Option, Some, None, unwrap_or, is_some, ◌⊎◌, if◌then◌else◌, option_map, page_number, offset_number}
-use Prelude.{same, Set, same-true, same_or_not, same_map, get-insert, get-map_values, same_cases, Slot, slot_order}
-use Prelude.{Cell, Spaces, at_page, slot_at, cell_or_fresh, fresh, with_bytes, set_bytes, write_at, store_in, stored}
-use Prelude.{all_stored, accessed, all_accessed, with_page, with_pages, insert_there, get-inserted, get-inserted_other}
-use Rattle.kernel_calls.proofs.UntouchedSlots.{holders_stored}
+use Prelude.{same, Set, same-true, same_or_not, same_map, get-insert, get-map_values, same_cases, inl, inr, Slot}
+use Prelude.{slot_order, Cell, Spaces, at_page, slot_at, cell_or_fresh, fresh, with_bytes, set_bytes, write_at}
+use Prelude.{store_in, stored, all_stored, accessed, all_accessed, with_page, with_pages, insert_there, get-inserted}
+use Prelude.{get-inserted_other}
 use Rattle.page_words.specs.FiniteMap as map
 use Rattle.page_words.specs.FiniteSet as set
 
@@ -57,25 +57,20 @@ module _ (a b : Slot) (apart : a ≢ b) where
   pub stored_apart : (f : Option Cell → Cell) (S : Spaces) (at : ℕ) (ys : List ℕ)
       → set.contains (cell_or_fresh S b).holders a ≡ false → stored (at_slot a f S) b at ys ≡ at_slot a f (stored S b at ys)
   stored_apart f S at ys none =
+      let c : Cell = cell_or_fresh S b in
+      let x : Cell = f (map.get S a) in
+      let cell : cell_or_fresh (at_slot a f S) b ≡ cell_or_fresh S b = ap (λ (z : Option Cell). unwrap_or z (fresh b
+      true)) (get-inserted_other S a (f (map.get S a)) b back) in
       ap (λ (k : Cell). store_in (map.insert S a x) b k (write_at k.bytes at ys)) cell
       ∙ ap (λ (T : Spaces). map.insert T b c') (group_apart S c.holders new x none)
       ∙ sym (swap (set_bytes S c.holders new) x c')
       ∙ sym (ap (λ (z : Option Cell). map.insert (stored S b at ys) a (f z)) there)
     where
-      c : Cell
-      c = cell_or_fresh S b
-
-      x : Cell
-      x = f (map.get S a)
-
       new : List ℕ
       new = write_at (cell_or_fresh S b).bytes at ys
 
       c' : Cell
       c' = record (cell_or_fresh S b) { bytes = new; accessed = true; dirty = true }
-
-      cell : cell_or_fresh (at_slot a f S) b ≡ cell_or_fresh S b
-      cell = ap (λ (z : Option Cell). unwrap_or z (fresh b true)) (get-inserted_other S a (f (map.get S a)) b back)
 
       there : map.get (stored S b at ys) a ≡ map.get S a
       there = get-inserted_other (set_bytes S (cell_or_fresh S b).holders new) b c' a apart
@@ -102,89 +97,118 @@ pub cell_pages : (pages : List ℕ) (S : Spaces) (q : ℕ) (x : Slot) → cell_o
 cell_pages [] S q x = refl
 cell_pages (page ∷ pages) S q x = cell_pages pages (with_page S q page) q x ∙ cell_paged S q page x
 
--- ---- A slot of another process changes
+-- ---- Groups, which accesses leave
 
--- it is in no group into which these bytes go
-abbrev pub IsFree : Spaces → Slot → ℕ → ℕ → List ℕ → Type 0
-IsFree S a q address bytes =
-    (i : ℕ) → i < length bytes → set.contains (cell_or_fresh S (slot_at q (address + i))).holders a ≡ false
+-- the group of a slot, or its own where it isn't mapped
+abbrev pub group_at : Spaces → Slot → Set slot_order
+group_at S x = (cell_or_fresh S x).holders
 
-module _ (a : Slot) (q : ℕ) (differ : a.pid ≢ q) (f : Option Cell → Cell) where
-  apart_from : (n : ℕ) → a ≢ at_page q n
-  apart_from n is = differ (ap (λ (s : Slot). s.pid) is)
+abbrev pub SameGroups : Spaces → Spaces → Type 0
+SameGroups S T = (x : Slot) → group_at T x ≡ group_at S x
 
-  pub bytes_apart : (bytes : List ℕ) (S : Spaces) (address : ℕ) → IsFree S a q address bytes
-      → all_stored (at_slot a f S) q address bytes ≡ at_slot a f (all_stored S q address bytes)
-  bytes_apart [] S address free = refl
-  bytes_apart (b ∷ bytes) S address free =
+pub group_paged : (pages : List ℕ) (S : Spaces) (q : ℕ) → SameGroups S (with_pages S q pages)
+group_paged pages S q x = ap (λ (c : Cell). c.holders) (cell_pages pages S q x)
+
+group_looked : (S : Spaces) (a : Slot) → SameGroups S (accessed S a)
+group_looked S a x = grind (arith, same_or_not, get-insert, group_at)
+
+pub group_set : (S : Spaces) (h : Set slot_order) (ys : List ℕ) → SameGroups S (set_bytes S h ys)
+group_set S h ys b = grind (arith, get-map_values)
+
+pub group_stored : (S : Spaces) (b x : Slot) (at : ℕ) (ys : List ℕ) → group_at (stored S b at ys) x ≡ group_at S x
+group_stored S b x at ys = elim (same_cases slot_order x b) [
+  | inl here ↦
+      ap (group_at (stored S b at ys)) here.0
+      ∙ ap (λ (z : Option Cell). (unwrap_or z (fresh b true)).holders) (get-inserted (set_bytes S (group_at S b) _) b _)
+      ∙ sym (ap (group_at S) here.0)
+  | inr other ↦
+      ap (λ (z : Option Cell). (unwrap_or z (fresh x true)).holders)
+      (get-inserted_other (set_bytes S (group_at S b) _) b _ x other.0)
+      ∙ group_set S (group_at S b) _ x
+]
+
+-- ---- What commutes with accesses of a process
+
+-- it commutes with each step of such an access: with a change of a slot that leaves its group, where all groups are good
+-- for it, and with a store into a slot that is free for it
+pub record Commutes (q : ℕ) (O : Spaces → Spaces) (Good : Spaces → Type 0) (Free : Spaces → Slot → Type 0) : Type 0 where
+  pub good : (S T : Spaces) → SameGroups S T → Good S → Good T
+  pub free : (S T : Spaces) (x : Slot) → SameGroups S T → Free S x → Free T x
+  pub slots : (n : ℕ) (f : Option Cell → Cell) (S : Spaces) → Good S
+      → (f (map.get S (at_page q n))).holders ≡ group_at S (at_page q n)
+      → O (at_slot (at_page q n) f S) ≡ at_slot (at_page q n) f (O S)
+  pub stores : (n at : ℕ) (ys : List ℕ) (S : Spaces) → Good S → Free S (at_page q n)
+      → O (stored S (at_page q n) at ys) ≡ stored (O S) (at_page q n) at ys
+
+-- so is each slot that a store of q writes
+abbrev pub EachFree : (Spaces → Slot → Type 0) → Spaces → ℕ → ℕ → List ℕ → Type 0
+EachFree Free S q address bytes = (i : ℕ) → i < length bytes → Free S (slot_at q (address + i))
+
+module _ (q : ℕ) (O : Spaces → Spaces) (Good : Spaces → Type 0) (Free : Spaces → Slot → Type 0)
+    (c : Commutes q O Good Free) where
+  pages_through : (pages : List ℕ) (S : Spaces) → Good S → O (with_pages S q pages) ≡ with_pages (O S) q pages
+  pages_through [] S good = refl
+  pages_through (n ∷ pages) S good =
+      pages_through pages (with_page S q n) (c.good S (with_page S q n) (group_paged (n ∷ []) S q) good)
+      ∙ ap (λ (T : Spaces). with_pages T q pages) (ap O (page_is S q n)
+      ∙ c.slots n (λ x. unwrap_or x (fresh (at_page q n) true)) S good refl ∙ sym (page_is (O S) q n))
+
+  accessed_through : (pages : List ℕ) (S : Spaces) → Good S → O (all_accessed S q pages) ≡ all_accessed (O S) q pages
+  accessed_through [] S good = refl
+  accessed_through (n ∷ pages) S good =
+      accessed_through pages (accessed S (at_page q n)) (c.good S _ (group_looked S (at_page q n)) good)
+      ∙ ap (λ (T : Spaces). all_accessed T q pages)
+      (c.slots n (λ x. record (unwrap_or x (fresh (at_page q n) true)) { accessed = true }) S good refl)
+
+  pub load_through : (pages : List ℕ) (S : Spaces) → Good S
+      → O (all_accessed (with_pages S q pages) q pages) ≡ all_accessed (with_pages (O S) q pages) q pages
+  load_through pages S good =
+      accessed_through pages (with_pages S q pages) (c.good S _ (group_paged pages S q) good)
+      ∙ ap (λ (T : Spaces). all_accessed T q pages) (pages_through pages S good)
+
+  pub bytes_through : (bytes : List ℕ) (S : Spaces) (address : ℕ) → Good S → EachFree Free S q address bytes
+      → O (all_stored S q address bytes) ≡ all_stored (O S) q address bytes
+  bytes_through [] S address good free = refl
+  bytes_through (b ∷ bytes) S address good free =
       let none : address + 0 ≡ address = omega arith in
-      ap (λ (T : Spaces). all_stored T q (address + 1) bytes)
-      (stored_apart a (slot_at q address) (apart_from (page_number address)) f S (offset_number address) (b ∷ [])
-      (sym (ap (λ n. set.contains (cell_or_fresh S (slot_at q n)).holders a) none) ∙ free 0 (omega arith)))
-      ∙ bytes_apart bytes (stored S (slot_at q address) (offset_number address) (b ∷ [])) (address + 1)
-      (λ i l.
-      let next : address + 1 + i ≡ address + suc i = omega arith in
-      ap (λ (h : Set slot_order). set.contains h a)
-      (holders_stored S q (page_number address) (offset_number address) (page_number (address + 1 + i)) (b ∷ []))
-      ∙ ap (λ n. set.contains (cell_or_fresh S (slot_at q n)).holders a) next ∙ free (suc i) (omega (arith, l)))
+      let T = stored S (slot_at q address) (offset_number address) (b ∷ []) in
+      let same : SameGroups S T = λ x. group_stored S (slot_at q address) x (offset_number address) (b ∷ []) in
+      bytes_through bytes T (address + 1) (c.good S T same good) (λ i l.
+      let next : address + suc i ≡ address + 1 + i = omega arith in
+      c.free S T _ same (subst (λ n. Free S (slot_at q n)) next (free (suc i) (omega (arith, l)))))
+      ∙ ap (λ (U : Spaces). all_stored U q (address + 1) bytes) (c.stores (page_number address) (offset_number address)
+      (b ∷ []) S good (subst (λ n. Free S (slot_at q n)) none (free 0 (omega arith))))
 
-  pub pages_apart : (pages : List ℕ) (S : Spaces) → with_pages (at_slot a f S) q pages ≡ at_slot a f (with_pages S q pages)
-  pages_apart [] S = refl
-  pages_apart (n ∷ pages) S =
-      ap (λ (T : Spaces). with_pages T q pages)
-      (page_is (at_slot a f S) q n
-      ∙ sym (two_slots a (at_page q n) (apart_from n) f (λ x. unwrap_or x (fresh (at_page q n) true)) S)
-      ∙ ap (at_slot a f) (sym (page_is S q n)))
-      ∙ pages_apart pages (with_page S q n)
+  pub store_through : (pages : List ℕ) (S : Spaces) (address : ℕ) (bytes : List ℕ) → Good S
+      → EachFree Free S q address bytes → O (all_stored (with_pages S q pages) q address bytes)
+      ≡ all_stored (with_pages (O S) q pages) q address bytes
+  store_through pages S address bytes good free =
+      let same = group_paged pages S q in
+      bytes_through bytes (with_pages S q pages) address (c.good S _ same good) (λ i l. c.free S _ _ same (free i l))
+      ∙ ap (λ (T : Spaces). all_stored T q address bytes) (pages_through pages S good)
 
-  pub accessed_apart : (pages : List ℕ) (S : Spaces) → all_accessed (at_slot a f S) q pages ≡ at_slot a f (all_accessed S q pages)
-  accessed_apart [] S = refl
-  accessed_apart (n ∷ pages) S =
-      ap (λ (T : Spaces). all_accessed T q pages)
-      (sym (two_slots a (at_page q n) (apart_from n) f (λ x. record (unwrap_or x (fresh (at_page q n) true)) { accessed = true }) S))
-      ∙ accessed_apart pages (accessed S (at_page q n))
+-- a change of a slot of another process does, where that slot is in no group into which bytes go
+abbrev pub IsOut : Slot → Spaces → Slot → Type 0
+IsOut a S x = set.contains (group_at S x) a ≡ false
 
-  -- so with a load, and a store
-  pub load_apart : (pages : List ℕ) (S : Spaces)
-      → all_accessed (with_pages (at_slot a f S) q pages) q pages ≡ at_slot a f (all_accessed (with_pages S q pages) q pages)
-  load_apart pages S =
-      ap (λ (T : Spaces). all_accessed T q pages) (pages_apart pages S) ∙ accessed_apart pages (with_pages S q pages)
+pub slot_commutes : (a : Slot) (q : ℕ) → a.pid ≢ q → (f : Option Cell → Cell)
+    → Commutes q (at_slot a f) (λ _. Unit {0}) (IsOut a)
+slot_commutes a q differ f = record {
+  good = λ S T same good. tt;
+  free = grind arith;
+  slots = λ n g S good kept. two_slots a (at_page q n) (apart n) f g S;
+  stores = λ n at ys S good free. sym (stored_apart a (at_page q n) (apart n) f S at ys free);
+}
+  where
+    apart : (n : ℕ) → a ≢ at_page q n
+    apart n is = differ (ap (λ (s : Slot). s.pid) is)
 
-  pub store_apart : (pages : List ℕ) (S : Spaces) (address : ℕ) (bytes : List ℕ) → IsFree S a q address bytes
-      → all_stored (with_pages (at_slot a f S) q pages) q address bytes
-      ≡ at_slot a f (all_stored (with_pages S q pages) q address bytes)
-  store_apart pages S address bytes free =
-      ap (λ (T : Spaces). all_stored T q address bytes) (pages_apart pages S)
-      ∙ bytes_apart bytes (with_pages S q pages) address
-      (λ i l. ap (λ (c : Cell). set.contains c.holders a) (cell_pages pages S q (slot_at q (address + i))) ∙ free i l)
-
--- ---- Several slots of one process change
-
--- what commutes with a change of each slot of a process, under something that such changes leave
-module _ (p : ℕ) (O : Spaces → Spaces) (Good : Spaces → Type 0)
-    (stays : (a : Slot) → a.pid ≡ p → (f : Option Cell → Cell) (S : Spaces) → Good S → Good (at_slot a f S))
-    (commutes : (a : Slot) → a.pid ≡ p → (f : Option Cell → Cell) (S : Spaces) → Good S → O (at_slot a f S) ≡ at_slot a f (O S)) where
-  pub pages_commute : (pages : List ℕ) (S : Spaces) → Good S
-      → (O (with_pages S p pages) ≡ with_pages (O S) p pages) × Good (with_pages S p pages)
-  pages_commute [] S good = (refl, good)
-  pages_commute (n ∷ pages) S good =
-      let change = λ (x : Option Cell). unwrap_or x (fresh (at_page p n) true) in
-      let rest = pages_commute pages (with_page S p n)
-      (subst Good (sym (page_is S p n)) (stays (at_page p n) refl change S good)) in (
-        rest.0 ∙ ap (λ (T : Spaces). with_pages T p pages)
-            (ap O (page_is S p n) ∙ commutes (at_page p n) refl change S good ∙ sym (page_is (O S) p n)),
-        rest.1,
-      )
-
-  accessed_commute : (pages : List ℕ) (S : Spaces) → Good S → O (all_accessed S p pages) ≡ all_accessed (O S) p pages
-  accessed_commute [] S good = refl
-  accessed_commute (n ∷ pages) S good =
-      let change = λ (x : Option Cell). record (unwrap_or x (fresh (at_page p n) true)) { accessed = true } in
-      accessed_commute pages (accessed S (at_page p n)) (stays (at_page p n) refl change S good)
-      ∙ ap (λ (T : Spaces). all_accessed T p pages) (commutes (at_page p n) refl change S good)
-
-  pub loads_commute : (pages : List ℕ) (S : Spaces) → Good S
-      → O (all_accessed (with_pages S p pages) p pages) ≡ all_accessed (with_pages (O S) p pages) p pages
-  loads_commute pages S good =
-      let first = pages_commute pages S good in
-      accessed_commute pages (with_pages S p pages) first.1 ∙ ap (λ (T : Spaces). all_accessed T p pages) first.0
+-- and so does a load of another process
+pub load_commutes : (p q : ℕ) (pages : List ℕ) → p ≢ q
+    → Commutes p (λ S. all_accessed (with_pages S q pages) q pages) (λ _. Unit {0}) (λ _ _. ⊥)
+load_commutes p q pages differ = record {
+  good = λ S T same good. tt;
+  free = λ S T x same free. free;
+  slots = λ n f S good kept. sym (load_through q _ _ _ (slot_commutes (at_page p n) q differ f) pages S tt);
+  stores = λ n at ys S good free. absurd free;
+}

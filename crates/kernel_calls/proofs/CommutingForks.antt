@@ -1,12 +1,10 @@
 -- Pages that are copied to a new process, and accesses of another, in either order.
 use Rattle.kernel_calls.proofs.Prelude
-use Prelude.{◌≡◌, ◌≢◌, ℕ, suc, ◌+◌, ◌<◌, Bool, true, false, cond, List, [], ◌∷◌, length, refl, ap, sym, ◌∙◌, subst}
-use Prelude.{arith, Option, Some, unwrap_or, ne_eqb, eqb-true, ◌⊎◌, if◌then◌else◌, option_map, offset_number, same, Set}
-use Prelude.{same_map, same_or_not, get-insert, get-map_values, Slot, slot_order, Cell, Spaces, at_page, slot_at}
-use Prelude.{cell_or_fresh, fresh, with_bytes, set_bytes, write_at, store_in, stored, all_stored, accessed}
-use Prelude.{all_accessed, with_page, with_pages, copy_of, copied, is_of, get-copied, copied-other, get-inserted_other}
-use Rattle.kernel_calls.proofs.Commuting.{at_slot, unchanged, page_is, cell_pages}
-use Rattle.kernel_calls.proofs.CommutingStores.{group_at, group_stored}
+use Prelude.{◌≡◌, ◌≢◌, ℕ, Bool, true, false, cond, List, refl, ap, sym, ◌∙◌, subst, arith, Option, Some, unwrap_or}
+use Prelude.{ne_eqb, eqb-true, ◌⊎◌, if◌then◌else◌, option_map, same, Set, same_map, same_or_not, get-insert}
+use Prelude.{get-map_values, Slot, slot_order, Cell, Spaces, at_page, cell_or_fresh, fresh, with_bytes, set_bytes}
+use Prelude.{write_at, store_in, stored, accessed, copy_of, copied, is_of, get-copied, copied-other, get-inserted_other}
+use Rattle.kernel_calls.proofs.Commuting.{at_slot, unchanged, group_at, Commutes}
 use Rattle.page_words.specs.FiniteMap as map
 use Rattle.page_words.specs.FiniteSet as set
 
@@ -71,53 +69,12 @@ copy_stored p k b other old S at ys none =
 
 -- ---- Whole accesses
 
-module _ (p k q : ℕ) (other : q ≢ p) (old : q ≢ k) where
-  pages_copied : (pages : List ℕ) (S : Spaces) → copied (with_pages S q pages) p k ≡ with_pages (copied S p k) q pages
-  pages_copied [] S = refl
-  pages_copied (n ∷ pages) S =
-      pages_copied pages (with_page S q n)
-      ∙ ap (λ (T : Spaces). with_pages T q pages)
-      (ap (λ (T : Spaces). copied T p k) (page_is S q n)
-      ∙ copy_beside p k (at_page q n) other old (λ x. unwrap_or x (fresh (at_page q n) true)) S
-      ∙ sym (page_is (copied S p k) q n))
-
-  accessed_copied : (pages : List ℕ) (S : Spaces) → copied (all_accessed S q pages) p k ≡ all_accessed (copied S p k) q pages
-  accessed_copied [] S = refl
-  accessed_copied (n ∷ pages) S =
-      accessed_copied pages (accessed S (at_page q n))
-      ∙ ap (λ (T : Spaces). all_accessed T q pages)
-      (copy_beside p k (at_page q n) other old (λ x. record (unwrap_or x (fresh (at_page q n) true)) { accessed = true }) S)
-
-  -- none of the two processes is in a group into which bytes go
-  abbrev pub WithoutEach : Spaces → ℕ → List ℕ → Type 0
-  WithoutEach S address bytes = (i : ℕ) → i < length bytes → Without (group_at S (slot_at q (address + i))) p k
-
-  bytes_copied : (bytes : List ℕ) (S : Spaces) (address : ℕ) → WithoutEach S address bytes
-      → copied (all_stored S q address bytes) p k ≡ all_stored (copied S p k) q address bytes
-  bytes_copied [] S address none = refl
-  bytes_copied (b ∷ bytes) S address none =
-      let zero_is : address + 0 ≡ address = omega arith in
-      let T = stored S (slot_at q address) (offset_number address) (b ∷ []) in
-      bytes_copied bytes T (address + 1)
-      (λ i l.
-      let next : address + suc i ≡ address + 1 + i = omega arith in
-      subst (λ (g : Set slot_order). Without g p k)
-      (sym (group_stored S (slot_at q address) (slot_at q (address + 1 + i)) (offset_number address) (b ∷ [])))
-      (subst (λ n. Without (group_at S (slot_at q n)) p k) next (none (suc i) (omega (arith, l)))))
-      ∙ ap (λ (U : Spaces). all_stored U q (address + 1) bytes)
-      (copy_stored p k (slot_at q address) other old S (offset_number address) (b ∷ [])
-      (subst (λ n. Without (group_at S (slot_at q n)) p k) zero_is (none 0 (omega arith))))
-
-  pub load_copied : (pages : List ℕ) (S : Spaces)
-      → copied (all_accessed (with_pages S q pages) q pages) p k ≡ all_accessed (with_pages (copied S p k) q pages) q pages
-  load_copied pages S =
-      accessed_copied pages (with_pages S q pages) ∙ ap (λ (T : Spaces). all_accessed T q pages) (pages_copied pages S)
-
-  pub store_copied : (pages : List ℕ) (S : Spaces) (address : ℕ) (bytes : List ℕ) → WithoutEach S address bytes
-      → copied (all_stored (with_pages S q pages) q address bytes) p k
-      ≡ all_stored (with_pages (copied S p k) q pages) q address bytes
-  store_copied pages S address bytes none =
-      bytes_copied bytes (with_pages S q pages) address
-      (λ i l. subst (λ (g : Set slot_order). Without g p k)
-      (sym (ap (λ (c : Cell). c.holders) (cell_pages pages S q (slot_at q (address + i))))) (none i l))
-      ∙ ap (λ (T : Spaces). all_stored T q address bytes) (pages_copied pages S)
+-- a fork commutes with accesses of another process, where bytes go into no group that has one of the two processes
+pub copied_commutes : (p k q : ℕ) → q ≢ p → q ≢ k
+    → Commutes q (λ S. copied S p k) (λ _. Unit {0}) (λ S x. Without (group_at S x) p k)
+copied_commutes p k q other old = record {
+  good = λ S T same good. tt;
+  free = λ S T x same none. subst (λ (g : Set slot_order). Without g p k) (sym (same x)) none;
+  slots = λ n f S good kept. copy_beside p k (at_page q n) other old f S;
+  stores = λ n at ys S good none. copy_stored p k (at_page q n) other old S at ys none;
+}

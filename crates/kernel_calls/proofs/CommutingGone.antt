@@ -1,12 +1,10 @@
 -- Slots of one process that go, and accesses of another, in either order.
 use Rattle.kernel_calls.proofs.Prelude
-use Prelude.{◌≡◌, ℕ, ◌+◌, Bool, true, false, not, cond, ◌&&◌, List, [], ◌∷◌, refl, ap, sym, ◌∙◌, subst, Option, Some}
-use Prelude.{None, unwrap_or, arith, ◌⊎◌, if◌then◌else◌, option_map, page_number, offset_number, same, Set, same_map}
-use Prelude.{same_set, same_or_not, get-insert, get-retain_keys, get-map_values, contains-retain, Slot, slot_order}
-use Prelude.{Cell, Spaces, at_page, slot_at, cell_or_fresh, fresh, with_bytes, with_holders, set_bytes, write_at}
-use Prelude.{stored, all_stored, accessed, all_accessed, with_page, with_pages, without}
-use Rattle.kernel_calls.proofs.Commuting.{at_slot, page_is, cell_paged, cell_pages}
-use Rattle.kernel_calls.proofs.CommutingStores.{group_at, group_stored}
+use Prelude.{◌≡◌, ℕ, Bool, true, false, not, cond, ◌&&◌, List, refl, ap, sym, ◌∙◌, subst, Option, Some, None, arith}
+use Prelude.{◌⊎◌, if◌then◌else◌, option_map, same, Set, same_map, same_set, same_or_not, get-insert, get-retain_keys}
+use Prelude.{get-map_values, contains-retain, Slot, slot_order, Cell, Spaces, at_page, cell_or_fresh, with_bytes}
+use Prelude.{with_holders, set_bytes, write_at, stored, accessed, without}
+use Rattle.kernel_calls.proofs.Commuting.{at_slot, group_at, group_set, Commutes}
 use Rattle.page_words.specs.FiniteMap as map
 use Rattle.page_words.specs.FiniteSet as set
 
@@ -72,17 +70,6 @@ bytes_gone S gone h ys = same_map _ _ (λ r.
         ≡ option_map (λ (c : Cell). if k then with_bytes c ys else c) (option_map (fewer gone) (cond j z None))
     by j k z = grind arith
 
-group_set : (S : Spaces) (h : Set slot_order) (ys : List ℕ) (b : Slot) → group_at (set_bytes S h ys) b ≡ group_at S b
-group_set S h ys b =
-    ap (λ (z : Option Cell). (unwrap_or z (fresh b true)).holders)
-    (get-map_values slot_order (λ k (c : Cell). if set.contains h k then with_bytes c ys else c) S b)
-    ∙ by (set.contains h b) (map.get S b)
-  where
-    by : (k : Bool) (z : Option Cell)
-        → (unwrap_or (option_map (λ (c : Cell). if k then with_bytes c ys else c) z) (fresh b true)).holders
-        ≡ (unwrap_or z (fresh b true)).holders
-    by k z = grind arith
-
 stored_gone : (gone : Slot → Bool) (b : Slot) → gone b ≡ false → (S : Spaces) (at : ℕ) (ys : List ℕ)
     → NoneOf gone (group_at S b) → without (stored S b at ys) gone ≡ stored (without S gone) b at ys
 stored_gone gone b stays S at ys none =
@@ -104,53 +91,12 @@ stored_gone gone b stays S at ys none =
 abbrev pub NoneWith : (Slot → Bool) → ℕ → Spaces → Type 0
 NoneWith gone q S = (n : ℕ) → NoneOf gone (group_at S (at_page q n))
 
-module _ (gone : Slot → Bool) (q : ℕ) (stays : (n : ℕ) → gone (at_page q n) ≡ false) where
-  pages_gone : (pages : List ℕ) (S : Spaces) → NoneWith gone q S
-      → without (with_pages S q pages) gone ≡ with_pages (without S gone) q pages
-  pages_gone [] S none = refl
-  pages_gone (n ∷ pages) S none =
-      pages_gone pages (with_page S q n)
-      (λ m. subst (NoneOf gone) (sym (ap (λ (c : Cell). c.holders) (cell_paged S q n (at_page q m)))) (none m))
-      ∙ ap (λ (T : Spaces). with_pages T q pages)
-      (ap (λ (T : Spaces). without T gone) (page_is S q n)
-      ∙ gone_beside gone (at_page q n) (stays n) (λ x. unwrap_or x (fresh (at_page q n) true)) S (none n) (none n)
-      ∙ sym (page_is (without S gone) q n))
-
-  -- a group stays where accessed is set
-  group_accessed : (S : Spaces) (n m : ℕ) → group_at (accessed S (at_page q n)) (at_page q m) ≡ group_at S (at_page q m)
-  group_accessed S n m = grind (arith, same_or_not, get-insert, group_at)
-
-  accessed_gone : (pages : List ℕ) (S : Spaces) → NoneWith gone q S
-      → without (all_accessed S q pages) gone ≡ all_accessed (without S gone) q pages
-  accessed_gone [] S none = refl
-  accessed_gone (n ∷ pages) S none =
-      accessed_gone pages (accessed S (at_page q n))
-      (λ m. subst (NoneOf gone) (sym (group_accessed S n m)) (none m))
-      ∙ ap (λ (T : Spaces). all_accessed T q pages)
-      (gone_beside gone (at_page q n) (stays n) (λ x. record (unwrap_or x (fresh (at_page q n) true)) { accessed = true }) S (none n) (none n))
-
-  bytes_beside_gone : (bytes : List ℕ) (S : Spaces) (address : ℕ) → NoneWith gone q S
-      → without (all_stored S q address bytes) gone ≡ all_stored (without S gone) q address bytes
-  bytes_beside_gone [] S address none = refl
-  bytes_beside_gone (b ∷ bytes) S address none =
-      bytes_beside_gone bytes (stored S (slot_at q address) (offset_number address) (b ∷ [])) (address + 1)
-      (λ m. subst (NoneOf gone) (sym (group_stored S (slot_at q address) (at_page q m) (offset_number address) (b ∷ []))) (none m))
-      ∙ ap (λ (T : Spaces). all_stored T q (address + 1) bytes)
-      (stored_gone gone (slot_at q address) (stays (page_number address)) S (offset_number address) (b ∷ []) (none (page_number address)))
-
-  none_paged : (pages : List ℕ) (S : Spaces) → NoneWith gone q S → NoneWith gone q (with_pages S q pages)
-  none_paged pages S none m =
-      subst (NoneOf gone) (sym (ap (λ (c : Cell). c.holders) (cell_pages pages S q (at_page q m)))) (none m)
-
-  pub load_gone : (pages : List ℕ) (S : Spaces) → NoneWith gone q S
-      → without (all_accessed (with_pages S q pages) q pages) gone ≡ all_accessed (with_pages (without S gone) q pages) q pages
-  load_gone pages S none =
-      accessed_gone pages (with_pages S q pages) (none_paged pages S none)
-      ∙ ap (λ (T : Spaces). all_accessed T q pages) (pages_gone pages S none)
-
-  pub store_gone : (pages : List ℕ) (S : Spaces) (address : ℕ) (bytes : List ℕ) → NoneWith gone q S
-      → without (all_stored (with_pages S q pages) q address bytes) gone
-      ≡ all_stored (with_pages (without S gone) q pages) q address bytes
-  store_gone pages S address bytes none =
-      bytes_beside_gone bytes (with_pages S q pages) address (none_paged pages S none)
-      ∙ ap (λ (T : Spaces). all_stored T q address bytes) (pages_gone pages S none)
+-- then that they go commutes with its accesses
+pub gone_commutes : (gone : Slot → Bool) (q : ℕ) → ((n : ℕ) → gone (at_page q n) ≡ false)
+    → Commutes q (λ S. without S gone) (NoneWith gone q) (λ _ _. Unit {0})
+gone_commutes gone q stays = record {
+  good = λ S T same none n. subst (NoneOf gone) (sym (same (at_page q n))) (none n);
+  free = λ S T x same free. tt;
+  slots = λ n f S none kept. gone_beside gone (at_page q n) (stays n) f S (none n) (subst (NoneOf gone) (sym kept) (none n));
+  stores = λ n at ys S none free. stored_gone gone (at_page q n) (stays n) S at ys (none n);
+}

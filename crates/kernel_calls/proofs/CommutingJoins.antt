@@ -1,12 +1,10 @@
 -- A slot that joins a group, and accesses of another process, in either order.
 use Rattle.kernel_calls.proofs.Prelude
-use Prelude.{◌≡◌, ◌≢◌, ℕ, suc, ◌+◌, ◌<◌, Bool, true, false, cond, List, [], ◌∷◌, length, refl, ap, sym, ◌∙◌, arith}
-use Prelude.{Option, Some, unwrap_or, ◌⊎◌, if◌then◌else◌, option_map, page_number, offset_number, same, Set, same_map}
-use Prelude.{same_or_not, get-insert, get-map_values, Slot, slot_order, Cell, Spaces, at_page, slot_at, cell_or_fresh}
-use Prelude.{fresh, with_bytes, with_holders, set_bytes, set_holders, write_at, store_in, stored, all_stored, accessed}
-use Prelude.{all_accessed, with_page, with_pages, join_in, joined, get-inserted_other}
-use Rattle.kernel_calls.proofs.Commuting.{at_slot, swap, group_apart, unchanged, page_is, cell_paged, cell_pages}
-use Rattle.kernel_calls.proofs.CommutingStores.{group_at, group_stored}
+use Prelude.{◌≡◌, ◌≢◌, ℕ, Bool, true, false, cond, List, ap, sym, ◌∙◌, arith, Option, Some, unwrap_or, ◌⊎◌}
+use Prelude.{if◌then◌else◌, option_map, same, Set, same_map, same_or_not, get-insert, get-map_values, Slot, slot_order}
+use Prelude.{Cell, Spaces, at_page, cell_or_fresh, fresh, with_bytes, with_holders, set_bytes, set_holders, write_at}
+use Prelude.{store_in, stored, accessed, join_in, joined, get-inserted_other}
+use Rattle.kernel_calls.proofs.Commuting.{at_slot, swap, group_apart, unchanged, group_at, Commutes, IsOut}
 use Rattle.page_words.specs.FiniteMap as map
 use Rattle.page_words.specs.FiniteSet as set
 
@@ -105,80 +103,20 @@ module _ (giver slot b : Slot) (right : Bool) (far : b ≢ giver) (apart : b ≢
 
 -- ---- Whole accesses
 
-module _ (giver slot : Slot) (right : Bool) (q : ℕ) (far : giver.pid ≢ q) (apart : slot.pid ≢ q) where
-  far_from : (n : ℕ) → at_page q n ≢ giver
-  far_from n is = far (sym (ap (λ (x : Slot). x.pid) is))
+-- no page of a process is in the group of a slot
+abbrev pub NoneIn : Slot → ℕ → Spaces → Type 0
+NoneIn giver q S = (n : ℕ) → set.contains (group_at S giver) (at_page q n) ≡ false
 
-  apart_from : (n : ℕ) → at_page q n ≢ slot
-  apart_from n is = apart (sym (ap (λ (x : Slot). x.pid) is))
-
-  -- no page of the process is in the group
-  abbrev pub NoneIn : Spaces → Type 0
-  NoneIn S = (n : ℕ) → set.contains (group_at S giver) (at_page q n) ≡ false
-
-  still : (S T : Spaces) → group_at T giver ≡ group_at S giver → NoneIn S → NoneIn T
-  still S T same none n = ap (λ (g : Set slot_order). set.contains g (at_page q n)) same ∙ none n
-
-  pages_joined : (pages : List ℕ) (S : Spaces) → NoneIn S
-      → joined (with_pages S q pages) giver slot right ≡ with_pages (joined S giver slot right) q pages
-  pages_joined [] S none = refl
-  pages_joined (n ∷ pages) S none =
-      pages_joined pages (with_page S q n) (still S (with_page S q n) (ap (λ (c : Cell). c.holders) (cell_paged S q n giver)) none)
-      ∙ ap (λ (T : Spaces). with_pages T q pages)
-      (ap (λ (T : Spaces). joined T giver slot right) (page_is S q n)
-      ∙ join_beside giver slot (at_page q n) right (far_from n) (apart_from n) (λ x. unwrap_or x (fresh (at_page q n) true)) S (none n)
-      ∙ sym (page_is (joined S giver slot right) q n))
-
-  accessed_joined : (pages : List ℕ) (S : Spaces) → NoneIn S
-      → joined (all_accessed S q pages) giver slot right ≡ all_accessed (joined S giver slot right) q pages
-  accessed_joined [] S none = refl
-  accessed_joined (n ∷ pages) S none =
-      accessed_joined pages (accessed S (at_page q n))
-      (still S (accessed S (at_page q n)) (ap (λ (z : Option Cell). (unwrap_or z (fresh giver true)).holders)
-      (get-inserted_other S (at_page q n) (record (cell_or_fresh S (at_page q n)) { accessed = true }) giver (λ is. far_from n (sym is)))) none)
-      ∙ ap (λ (T : Spaces). all_accessed T q pages)
-      (join_beside giver slot (at_page q n) right (far_from n) (apart_from n)
-      (λ x. record (unwrap_or x (fresh (at_page q n) true)) { accessed = true }) S (none n))
-
-  -- a slot is in no group into which bytes go
-  abbrev pub IsOut : Spaces → Slot → ℕ → List ℕ → Type 0
-  IsOut S x address bytes = (i : ℕ) → i < length bytes → set.contains (group_at S (slot_at q (address + i))) x ≡ false
-
-  out_later : (S T : Spaces) (x : Slot) (address : ℕ) (b : ℕ) (bytes : List ℕ)
-      → ((n : ℕ) → group_at T (slot_at q n) ≡ group_at S (slot_at q n)) → IsOut S x address (b ∷ bytes) → IsOut T x (address + 1) bytes
-  out_later S T x address b bytes same out i l =
-      let next : address + 1 + i ≡ address + suc i = omega arith in
-      ap (λ (g : Set slot_order). set.contains g x) (same (address + 1 + i))
-      ∙ ap (λ n. set.contains (group_at S (slot_at q n)) x) next ∙ out (suc i) (omega (arith, l))
-
-  bytes_joined : (bytes : List ℕ) (S : Spaces) (address : ℕ) → NoneIn S → IsOut S giver address bytes → IsOut S slot address bytes
-      → joined (all_stored S q address bytes) giver slot right ≡ all_stored (joined S giver slot right) q address bytes
-  bytes_joined [] S address none out new_out = refl
-  bytes_joined (b ∷ bytes) S address none out new_out =
-      let zero_is : address + 0 ≡ address = omega arith in
-      let T = stored S (slot_at q address) (offset_number address) (b ∷ []) in
-      let same = λ (n : ℕ). group_stored S (slot_at q address) (slot_at q n) (offset_number address) (b ∷ []) in
-      bytes_joined bytes T (address + 1)
-      (still S T (group_stored S (slot_at q address) giver (offset_number address) (b ∷ [])) none)
-      (out_later S T giver address b bytes same out) (out_later S T slot address b bytes same new_out)
-      ∙ ap (λ (U : Spaces). all_stored U q (address + 1) bytes)
-      (join_stored giver slot (slot_at q address) right (far_from (page_number address)) (apart_from (page_number address)) S (offset_number address) (b ∷ [])
-      (none (page_number address))
-      (sym (ap (λ n. set.contains (group_at S (slot_at q n)) giver) zero_is) ∙ out 0 (omega arith))
-      (sym (ap (λ n. set.contains (group_at S (slot_at q n)) slot) zero_is) ∙ new_out 0 (omega arith)))
-
-  paged_still : (pages : List ℕ) (S : Spaces) → NoneIn S → NoneIn (with_pages S q pages)
-  paged_still pages S none = still S (with_pages S q pages) (ap (λ (c : Cell). c.holders) (cell_pages pages S q giver)) none
-
-  pub load_joined : (pages : List ℕ) (S : Spaces) → NoneIn S
-      → joined (all_accessed (with_pages S q pages) q pages) giver slot right
-      ≡ all_accessed (with_pages (joined S giver slot right) q pages) q pages
-  load_joined pages S none =
-      accessed_joined pages (with_pages S q pages) (paged_still pages S none)
-      ∙ ap (λ (T : Spaces). all_accessed T q pages) (pages_joined pages S none)
-
-  pub store_joined : (pages : List ℕ) (S : Spaces) (address : ℕ) (bytes : List ℕ) → NoneIn S → IsOut S giver address bytes
-      → IsOut S slot address bytes
-      → joined (all_stored (with_pages S q pages) q address bytes) giver slot right
-      ≡ all_stored (with_pages (joined S giver slot right) q pages) q address bytes
-  store_joined pages S address bytes none out new_out = grind (arith, bytes_joined, cell_pages, pages_joined)
+-- then that a slot joins that group commutes with its accesses, where bytes go into no group that has one of the two
+pub joined_commutes : (giver slot : Slot) (right : Bool) (q : ℕ) → giver.pid ≢ q → slot.pid ≢ q
+    → Commutes q (λ S. joined S giver slot right) (NoneIn giver q) (λ S x. IsOut giver S x × IsOut slot S x)
+joined_commutes giver slot right q far apart = record {
+  good = λ S T same none n. ap (λ (g : Set slot_order). set.contains g (at_page q n)) (same giver) ∙ none n;
+  free = grind arith;
+  slots = λ n f S none kept. join_beside giver slot (at_page q n) right (away giver far n) (away slot apart n) f S (none n);
+  stores = λ n at ys S none out.
+      join_stored giver slot (at_page q n) right (away giver far n) (away slot apart n) S at ys (none n) out.0 out.1;
+}
+  where
+    away : (x : Slot) → x.pid ≢ q → (n : ℕ) → at_page q n ≢ x
+    away x differ n is = differ (sym (ap (λ (y : Slot). y.pid) is))

@@ -1,47 +1,12 @@
 -- Stores of two processes into groups that have nothing in common, in either order.
 use Rattle.kernel_calls.proofs.Prelude
-use Prelude.{◌≡◌, ◌≢◌, ℕ, suc, ◌+◌, ◌<◌, Bool, true, false, List, [], ◌∷◌, length, refl, ap, sym, ◌∙◌, subst, arith}
-use Prelude.{inl, inr, Option, unwrap_or, if◌then◌else◌, option_map, offset_number, Set, same_map, get-map_values}
-use Prelude.{same_cases, Slot, slot_order, Cell, Spaces, at_page, slot_at, cell_or_fresh, fresh, with_bytes, set_bytes}
-use Prelude.{write_at, store_in, stored, all_stored, with_page, with_pages, get-inserted, get-inserted_other}
-use Rattle.kernel_calls.proofs.Commuting.{unchanged, swap, group_apart, stored_apart, page_is, cell_paged}
+use Prelude.{◌≡◌, ◌≢◌, ℕ, Bool, true, false, List, ap, sym, ◌∙◌, arith, Option, unwrap_or, if◌then◌else◌, option_map}
+use Prelude.{Set, same_map, get-map_values, Slot, slot_order, Cell, Spaces, at_page, cell_or_fresh, fresh, with_bytes}
+use Prelude.{set_bytes, write_at, store_in, stored, all_stored, with_pages, get-inserted_other}
+use Rattle.kernel_calls.proofs.Commuting.{unchanged, swap, group_apart, stored_apart, group_at, Commutes, EachFree}
+use Rattle.kernel_calls.proofs.Commuting.{IsOut, slot_commutes, store_through}
 use Rattle.page_words.specs.FiniteMap as map
 use Rattle.page_words.specs.FiniteSet as set
-
--- the group of a slot, or its own where it isn't mapped
-abbrev pub group_at : Spaces → Slot → Set slot_order
-group_at S x = (cell_or_fresh S x).holders
-
--- a store leaves each
-pub group_stored : (S : Spaces) (b x : Slot) (at : ℕ) (ys : List ℕ) → group_at (stored S b at ys) x ≡ group_at S x
-group_stored S b x at ys = elim (same_cases slot_order x b) [
-  | inl here ↦
-      ap (group_at (stored S b at ys)) here.0
-      ∙ ap (λ (z : Option Cell). (unwrap_or z (fresh b true)).holders) (get-inserted spaces b written)
-      ∙ sym (ap (group_at S) here.0)
-  | inr other ↦
-      ap (λ (z : Option Cell). (unwrap_or z (fresh x true)).holders)
-      (get-inserted_other spaces b written x other.0
-      ∙ get-map_values slot_order (λ r (c : Cell). if set.contains (group_at S b) r then with_bytes c bytes else c) S x)
-      ∙ by (map.get S x)
-]
-  where
-    bytes : List ℕ
-    bytes = write_at (cell_or_fresh S b).bytes at ys
-
-    spaces : Spaces
-    spaces = set_bytes S (group_at S b) bytes
-
-    written : Cell
-    written = record (cell_or_fresh S b) { bytes = bytes; accessed = true; dirty = true }
-
-    either : (k : Bool) (c : Cell) → (if k then with_bytes c bytes else c).holders ≡ c.holders
-    either k c = grind arith
-
-    by : (z : Option Cell)
-        → (unwrap_or (option_map (λ (c : Cell). if set.contains (group_at S b) x then with_bytes c bytes else c) z) (fresh x true)).holders
-        ≡ (unwrap_or z (fresh x true)).holders
-    by z = grind (arith, either)
 
 -- two slots are in groups that have nothing in common, neither the other's
 pub record AreApart (S : Spaces) (a b : Slot) : Type 0 where
@@ -120,78 +85,31 @@ two_stored S a b at at' xs ys h =
 
 -- ---- Whole stores
 
-pub group_paged : (pages : List ℕ) (S : Spaces) (q : ℕ) (x : Slot) → group_at (with_pages S q pages) x ≡ group_at S x
-group_paged [] S q x = refl
-group_paged (n ∷ pages) S q x = group_paged pages (with_page S q n) q x ∙ ap (λ (c : Cell). c.holders) (cell_paged S q n x)
+-- a store into a slot of another process commutes with accesses, where no page of theirs is in its group, and bytes go
+-- into groups that have nothing in common with that
+pub stored_commutes : (a : Slot) (q at : ℕ) (xs : List ℕ) → a.pid ≢ q
+    → Commutes q (λ S. stored S a at xs) (λ S. (n : ℕ) → IsOut (at_page q n) S a) (λ S x. AreApart S a x)
+stored_commutes a q at xs differ = record {
+  good = grind arith;
+  free = λ S T x same h. apart_by S T a x same h;
+  slots = λ n f S free kept. stored_apart (at_page q n) a (λ is. differ (sym (ap (λ (x : Slot). x.pid) is))) f S at xs (free n);
+  stores = λ n at' ys S free h. two_stored S a (at_page q n) at at' xs ys h;
+}
 
--- a slot and each that a store of q writes
-abbrev pub ApartFrom : Spaces → Slot → ℕ → ℕ → List ℕ → Type 0
-ApartFrom S a q address bytes = (i : ℕ) → i < length bytes → AreApart S a (slot_at q (address + i))
+-- of the groups of two stores, neither has a page of the other's process, and they have nothing in common
+abbrev pub IsBeside : ℕ → ℕ → List ℕ → Spaces → Slot → Type 0
+IsBeside q to ys S x = ((n : ℕ) → IsOut (at_page q n) S x) × EachFree (λ T y. AreApart T x y) S q to ys
 
-module _ (a : Slot) (q : ℕ) (at : ℕ) (xs : List ℕ) where
-  bytes_beside : (bytes : List ℕ) (S : Spaces) (address : ℕ) → ApartFrom S a q address bytes
-      → all_stored (stored S a at xs) q address bytes ≡ stored (all_stored S q address bytes) a at xs
-  bytes_beside [] S address h = refl
-  bytes_beside (b ∷ bytes) S address h =
-      let none : address + 0 ≡ address = omega arith in
-      ap (λ (T : Spaces). all_stored T q (address + 1) bytes)
-      (sym (two_stored S a (slot_at q address) at (offset_number address) xs (b ∷ [])
-      (subst (λ n. AreApart S a (slot_at q n)) none (h 0 (omega arith)))))
-      ∙ bytes_beside bytes (stored S (slot_at q address) (offset_number address) (b ∷ [])) (address + 1)
-      (λ i l.
-      let next : address + suc i ≡ address + 1 + i = omega arith in
-      apart_by S (stored S (slot_at q address) (offset_number address) (b ∷ [])) a (slot_at q (address + 1 + i))
-      (λ x. group_stored S (slot_at q address) x (offset_number address) (b ∷ []))
-      (subst (λ n. AreApart S a (slot_at q n)) next (h (suc i) (omega (arith, l)))))
-
-  pages_beside : (pages : List ℕ) (S : Spaces) → a.pid ≢ q → ((n : ℕ) → set.contains (group_at S a) (at_page q n) ≡ false)
-      → with_pages (stored S a at xs) q pages ≡ stored (with_pages S q pages) a at xs
-  pages_beside [] S differ free = refl
-  pages_beside (n ∷ pages) S differ free =
-      ap (λ (T : Spaces). with_pages T q pages)
-      (page_is (stored S a at xs) q n
-      ∙ sym (stored_apart (at_page q n) a (λ is. differ (sym (ap (λ (x : Slot). x.pid) is))) (λ x. unwrap_or x (fresh (at_page q n) true)) S at xs (free n))
-      ∙ ap (λ (T : Spaces). stored T a at xs) (sym (page_is S q n)))
-      ∙ pages_beside pages (with_page S q n) differ (λ m. ap (λ (c : Cell). set.contains c.holders (at_page q m)) (cell_paged S q n a) ∙ free m)
-
-  pub store_beside : (pages : List ℕ) (S : Spaces) (address : ℕ) (bytes : List ℕ) → a.pid ≢ q
-      → ((n : ℕ) → set.contains (group_at S a) (at_page q n) ≡ false) → ApartFrom S a q address bytes
-      → all_stored (with_pages (stored S a at xs) q pages) q address bytes
-      ≡ stored (all_stored (with_pages S q pages) q address bytes) a at xs
-  store_beside pages S address bytes differ free h =
-      ap (λ (T : Spaces). all_stored T q address bytes) (pages_beside pages S differ free)
-      ∙ bytes_beside bytes (with_pages S q pages) address
-      (λ i l. apart_by S (with_pages S q pages) a (slot_at q (address + i)) (group_paged pages S q) (h i l))
-
--- what holds of the groups of two stores, which neither changes
-pub record StoresApart (S : Spaces) (p q from to : ℕ) (xs ys : List ℕ) : Type 0 where
-  pub free : (i : ℕ) → i < length xs → (n : ℕ) → set.contains (group_at S (slot_at p (from + i))) (at_page q n) ≡ false
-  pub apart : (i : ℕ) → i < length xs → ApartFrom S (slot_at p (from + i)) q to ys
-
-module _ (p q : ℕ) (differ : p ≢ q) (to : ℕ) (ys : List ℕ) (pages : List ℕ) where
-  abbrev O : Spaces → Spaces
-  O S = all_stored (with_pages S q pages) q to ys
-
-  pub stores_beside : (xs : List ℕ) (S : Spaces) (from : ℕ) → StoresApart S p q from to xs ys
-      → O (all_stored S p from xs) ≡ all_stored (O S) p from xs
-  stores_beside [] S from h = refl
-  stores_beside (x ∷ xs) S from h =
-      let none : from + 0 ≡ from = omega arith in
-      let T = stored S (slot_at p from) (offset_number from) (x ∷ []) in
-      stores_beside xs T (from + 1) (record {
-        free = λ i l n.
-            let next : from + 1 + i ≡ from + suc i = omega arith in
-            ap (λ (g : Set slot_order). set.contains g (at_page q n))
-            (group_stored S (slot_at p from) (slot_at p (from + 1 + i)) (offset_number from) (x ∷ [])
-            ∙ ap (λ m. group_at S (slot_at p m)) next)
-            ∙ h.free (suc i) (omega (arith, l)) n;
-        apart = λ i l j k.
-            let next : from + suc i ≡ from + 1 + i = omega arith in
-            apart_by S T (slot_at p (from + 1 + i)) (slot_at q (to + j))
-            (λ y. group_stored S (slot_at p from) y (offset_number from) (x ∷ []))
-            (subst (λ m. AreApart S (slot_at p m) (slot_at q (to + j))) next (h.apart (suc i) (omega (arith, l)) j k));
-      })
-      ∙ ap (λ (U : Spaces). all_stored U p (from + 1) xs)
-      (store_beside (slot_at p from) q (offset_number from) (x ∷ []) pages S to ys differ
-      (λ n. subst (λ m. set.contains (group_at S (slot_at p m)) (at_page q n) ≡ false) none (h.free 0 (omega arith) n))
-      (λ j k. subst (λ m. AreApart S (slot_at p m) (slot_at q (to + j))) none (h.apart 0 (omega arith) j k)))
+-- a whole store commutes with accesses of another process
+pub store_commutes : (p q to : ℕ) (ys : List ℕ) (pages : List ℕ) → p ≢ q
+    → Commutes p (λ S. all_stored (with_pages S q pages) q to ys)
+    (λ S. (n : ℕ) → EachFree (IsOut (at_page p n)) S q to ys) (IsBeside q to ys)
+store_commutes p q to ys pages differ = record {
+  good = grind arith;
+  free = λ S T x same h.
+      ((λ n. ap (λ (g : Set slot_order). set.contains g (at_page q n)) (same x) ∙ h.0 n), (λ i l. apart_by S T x _ same (h.1 i l)));
+  slots = λ n f S good kept.
+      sym (store_through q _ _ _ (slot_commutes (at_page p n) q differ f) pages S to ys tt (good n));
+  stores = λ n at xs S good h.
+      sym (store_through q _ _ _ (stored_commutes (at_page p n) q at xs differ) pages S to ys h.0 h.1);
+}

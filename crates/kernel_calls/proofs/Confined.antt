@@ -1,10 +1,10 @@
 -- A set of processes that has nothing in common with others stays so, and others leave what it has.
 use Rattle.kernel_calls.proofs.Prelude
-use Prelude.{◌≡◌, ◌≢◌, ℕ, ◌&&◌, Bool, true, false, List, [], ◌∷◌, refl, sym, ap, ◌∙◌, Option, Some, None, is_some}
-use Prelude.{unwrap_or, inl, inr, arith, if◌then◌else◌, slice_index, option_map, All, cases_eq, ext_get_or, All-head}
-use Prelude.{All-tail, same_Some, Set, same_set, Slot, slot_order, Cell, fresh, at_page, slot_at, OfferKey, offer_key}
-use Prelude.{State, is_live, IsWellFormed, flags_of, shares, byte_in, IsJoin, IsConfined, keeps_within, KeepsWithin}
-use Prelude.{Along, members_after, members_at_end, IsAsBefore, RunsKeepBorders, next, end_of, Event}
+use Prelude.{◌≡◌, ◌≢◌, ℕ, Bool, true, false, List, [], ◌∷◌, refl, sym, ap, ◌∙◌, Option, Some, None, is_some, unwrap_or}
+use Prelude.{inl, inr, arith, slice_index, option_map, All, ext_get_or, All-head, All-tail, same_Some, Set, same_set}
+use Prelude.{Slot, slot_order, Cell, at_page, slot_at, OfferKey, offer_key, State, is_live, IsWellFormed, flags_of}
+use Prelude.{shares, byte_in, IsJoin, IsConfined, KeepsWithin, Along, members_at_end, IsAsBefore, RunsKeepBorders, next}
+use Prelude.{end_of, Event}
 use Rattle.kernel_calls.proofs.Consent.{sharing_by_consent, offers_by_offerer}
 use Rattle.kernel_calls.proofs.Runs.{kept-next}
 use Rattle.kernel_calls.proofs.Stays.{makes_child, next_live}
@@ -82,29 +82,10 @@ module _ (s : State) (e : Event) (C D : ℕ → Bool) (w : IsWellFormed s) (conf
 
       mine : IsJoin s e slot other → ⊥
       mine j =
-          let pid : slot.pid ≡ e.pid = j.own in
-          let given = shares_by s j.giver other j.cell j.given j.among in
-          let offer = offer_live s (offer_key j.giver.pid j.giver.page e.pid) j.right w j.offered in
-          let member : C e.pid ≡ true = sym (same e.pid offer.1 (ap (is_live (next s e)) (sym pid) ∙ after.0))
-          ∙ ap D (sym pid) ∙ own in
-          let kept : C j.giver.pid ≡ true = sym (ap (keeps_within C) j.call) ∙ keeps member in
-          let f = confined.shares_none j.giver other kept
-          (sym (same other.pid (shared_live s j.giver other w given).1 after.1) ∙ apart) in
-          cc
+          grind (arith, (shares_by s j.giver other j.cell j.given j.among), shared_live)
 
       theirs : IsJoin s e other slot → ⊥
-      theirs j =
-          let pid : other.pid ≡ e.pid = j.own in
-          let given = shares_by s j.giver slot j.cell j.given j.among in
-          let offer = offer_live s (offer_key j.giver.pid j.giver.page e.pid) j.right w j.offered in
-          let outsider : C e.pid ≡ false = sym (same e.pid offer.1 (ap (is_live (next s e)) (sym pid) ∙ after.1))
-          ∙ ap D (sym pid) ∙ apart in
-          let member : C slot.pid ≡ true = sym (same slot.pid (shared_live s j.giver slot w given).1 after.0) ∙ own in
-          by j given outsider member (C j.giver.pid) refl
-        where
-          by : (j : IsJoin s e other slot) → shares s j.giver slot ≡ true → C e.pid ≡ false → C slot.pid ≡ true
-              → (b : Bool) → C j.giver.pid ≡ b → ⊥
-          by j given outsider member b is = grind (arith, back)
+      theirs j = grind (arith, shared_live, back)
 
   next_offers : (key : OfferKey) (right : Bool) → map.get (next s e).offers key ≡ Some right → D key.offerer ≡ true
       → D key.target ≡ true
@@ -145,10 +126,7 @@ families_stay_confined : (s : State) (events : List Event) (C : ℕ → Bool) �
     → Along (λ _. KeepsWithin) s C events → IsConfined (end_of s events) (members_at_end s C events)
 families_stay_confined s [] C w confined keep = confined
 families_stay_confined s (e ∷ events) C w confined keep =
-    families_stay_confined (next s e) events (members_after s C e) (kept-next s e w).0
-    (next_confined s e C (members_after s C e) w confined keep.0
-    (λ p before after. (λ i. after i && (if before i then C p else C e.pid))))
-    keep.1
+    families_stay_confined (next s e) events _ (kept-next s e w).0 (grind (arith, next_confined)) keep.1
 
 -- ---- What an outsider's event leaves of a member
 
@@ -177,38 +155,23 @@ module _ (s : State) (e : Event) (C : ℕ → Bool) (p : ℕ) (w : IsWellFormed 
   ]
 
   groups_same : (page : ℕ) (other : Slot) → shares (next s e) (at_page p page) other ≡ shares s (at_page p page) other
-  groups_same page other = elim (cases_eq other.pid e.pid) [
-    | inl theirs ↦ still.shares_none (at_page p page) other member (ap C theirs ∙ outsider)
-        ∙ sym (confined.shares_none (at_page p page) other member (ap C theirs ∙ outsider))
-    | inr differ ↦ u.holders page other differ
-  ]
+  groups_same page other = grind (arith, still, u)
 
   pages_same : (page : ℕ) → map.get (next s e).spaces (at_page p page) ≡ map.get s.spaces (at_page p page)
-  pages_same page = by (map.get s.spaces (at_page p page)) (map.get (next s e).spaces (at_page p page)) refl refl
-      (u.flags page)
+  pages_same page = by _ _ refl refl (u.flags page)
     where
       by : (x y : Option Cell) → map.get s.spaces (at_page p page) ≡ x → map.get (next s e).spaces (at_page p page) ≡ y
           → option_map flags_of y ≡ option_map flags_of x → y ≡ x
       by None None a b h = refl
       by None (Some d) a b h = cc
       by (Some c) None a b h = cc
-      by (Some c) (Some d) a b h = λ i. Some (record {
-        write = (flags i).write;
-        may = (flags i).may;
-        accessed = (flags i).accessed;
-        dirty = (flags i).dirty;
-        bytes = bytes i;
-        holders = holders i;
-      })
+      by (Some c) (Some d) a b h = grind (arith, bytes, holders)
         where
           flags : flags_of d ≡ flags_of c
           flags = same_Some (flags_of d) (flags_of c) h
 
           byte : (place : ℕ) → slice_index d.bytes place ≡ slice_index c.bytes place
-          byte place =
-              sym (ap (λ (x : Option Cell). slice_index (unwrap_or x (fresh (at_page p page) true)).bytes place) b)
-              ∙ bytes_same page place
-              ∙ ap (λ (x : Option Cell). slice_index (unwrap_or x (fresh (at_page p page) true)).bytes place) a
+          byte place = grind (arith, (bytes_same page place))
 
           bytes : d.bytes ≡ c.bytes
           bytes = ext_get_or 0 d.bytes c.bytes ((next_well.cells (at_page p page) d b).long
@@ -216,8 +179,7 @@ module _ (s : State) (e : Event) (C : ℕ → Bool) (p : ℕ) (w : IsWellFormed 
 
           holders : d.holders ≡ c.holders
           holders = same_set d.holders c.holders (λ other.
-              sym (ap (λ (x : Option Cell). unwrap_or (option_map (λ (k : Cell). set.contains k.holders other) x) false)
-              b)
+              sym (grind arith)
               ∙ groups_same page other
               ∙ ap (λ (x : Option Cell). unwrap_or (option_map (λ (k : Cell). set.contains k.holders other) x) false) a)
 
@@ -230,8 +192,7 @@ module _ (s : State) (e : Event) (C : ℕ → Bool) (p : ℕ) (w : IsWellFormed 
 
 outsiders_leave_members : (s : State) (events : List Event) (C : ℕ → Bool) (p : ℕ) → IsWellFormed s → IsConfined s C
     → C p ≡ true → is_live s p ≡ true → All (λ (e : Event). C e.pid ≡ false) events → IsAsBefore s (end_of s events) p
-outsiders_leave_members s [] C p w confined member live others =
-    record { member = refl; pages = λ page. refl; offers = λ page target. refl }
+outsiders_leave_members s [] C p w confined member live others = grind arith
 outsiders_leave_members s (e ∷ events) C p w confined member live others =
     let outsider = All-head (λ (e : Event). C e.pid ≡ false) e events others in
     let first = one_leaves s e C p w confined member live outsider in

@@ -9,7 +9,7 @@ use Prelude.{all_stored, joined, copied, copied-own, copied-other, left, get-wit
 use Prelude.{is_live, accept_refusal, offered, after_unmap, after_accept, after_exit, IsWellFormed, lone, retained}
 use Prelude.{get-inserted, get-inserted_other, MayAccept, may_accept, flags_of, flags_at, shares, IsJoin}
 use Prelude.{SharingByConsent, OffersByOfferer, answer, answer_of, after, next, completes, Call, Event, in_lone}
-use Rattle.kernel_calls.proofs.Decided.{next-stays, next-goes}
+use Rattle.kernel_calls.proofs.Decided.{by_next, next-stays, next-goes}
 use Rattle.kernel_calls.proofs.Runs.{not-refused}
 use Rattle.kernel_calls.proofs.UntouchedSlots.{kept_shares}
 use Rattle.kernel_calls.proofs.Untouched.{caller_live, get_joined, joined_kept}
@@ -274,8 +274,6 @@ after_offers : (s : State) (e : Event) (key : OfferKey) (right : Bool) (c : Call
 after_offers s e key right c is h = grind (arith, retained, same_cases, same_Some, get-insert)
 
 pub offers_by_offerer : OffersByOfferer
-offers_by_offerer s e key right pending = by (completes (answer s e)) refl
-  where
-    by : (b : Bool) → completes (answer s e) ≡ b → OfferedBefore s s e key right
-    by true h = grind (arith, after_offers, next-goes)
-    by false h = inl (sym (ap (λ (t : State). map.get t.offers key) (next-stays s e h)) ∙ pending)
+offers_by_offerer s e key right =
+    by_next (λ t. map.get t.offers key ≡ Some right → OfferedBefore s s e key right) s e inl
+    (λ live h. after_offers s e key right e.call refl)

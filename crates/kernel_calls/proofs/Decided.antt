@@ -1,12 +1,12 @@
 -- The decision of an event is carried out exactly if its reply is neither a refusal nor a fault.
 use Rattle.kernel_calls.proofs.Prelude
-use Prelude.{◌≡◌, ℕ, Bool, true, false, refl, ap, ◌∙◌, Option, Some, None, if◌then◌else◌, Result, Ok, Err, cost}
-use Prelude.{at_page, State, is_live, child_of, protect_refusal, fork_refusal, after_protect, after_fork, may_protect}
-use Prelude.{Cause, View, plan_of, plan_at, step_of, step_at, goes_on, same_stops, Plan, Size, Access, Read, Write}
-use Prelude.{answer, answer_of, after, next, completes, refused_or, planned_or, judged_of, plan_of_call, plan_of_event}
-use Prelude.{refused_plan, charge_in, charge_after, tested, spawned, Call, Event, Reply, arith}
-use Rattle.process_table.specs.TestAnswers.{first_cause, number_unless, child_unless, map_answer, protect_answer, offer_answer}
-use Rattle.process_table.specs.TestAnswers.{accept_answer, spawn_answer, fork_answer}
+use Prelude.{◌≡◌, ℕ, Bool, true, false, refl, ap, sym, subst, ◌∙◌, Option, Some, None, if◌then◌else◌, Result, Ok, Err}
+use Prelude.{cost, at_page, State, is_live, child_of, protect_refusal, fork_refusal, after_protect, after_fork}
+use Prelude.{may_protect, Cause, View, plan_of, plan_at, step_of, step_at, goes_on, same_stops, Plan, Size, Access}
+use Prelude.{Read, Write, answer, answer_of, after, next, completes, refused_or, planned_or, judged_of, plan_of_call}
+use Prelude.{plan_of_event, refused_plan, charge_in, charge_after, tested, spawned, Call, Event, Reply, arith}
+use Rattle.process_table.specs.TestAnswers.{first_cause, number_unless, child_unless, map_answer, protect_answer}
+use Rattle.process_table.specs.TestAnswers.{offer_answer, spawn_answer, fork_answer}
 use Rattle.address_space.proofs.costs.Totals.{cost-protected_of}
 use Rattle.process_table.specs.declared.causes.Cause.TheVariants as cause
 use Rattle.fault_handler.specs.declared.plans.Plan.TheVariants as plan
@@ -39,13 +39,22 @@ next-stays s e h = ap (λ b. if b then after s e.pid e.call else s) h
 pub next-goes : (s : State) (e : Event) → completes (answer s e) ≡ true → next s e ≡ after s e.pid e.call
 next-goes s e h = ap (λ b. if b then after s e.pid e.call else s) h
 
+-- what holds of a state holds of the next, if it does of the state after a call that completes
+pub by_next : (P : State → Type 0) (s : State) (e : Event) → P s
+    → (is_live s e.pid ≡ true → completes (answer_of s e.pid e.call) ≡ true → P (after s e.pid e.call)) → P (next s e)
+by_next P s e stays goes = by (completes (answer s e)) refl
+  where
+    called : completes (answer s e) ≡ true → (is_live s e.pid ≡ true) × (completes (answer_of s e.pid e.call) ≡ true)
+    called h = grind arith
+
+    by : (b : Bool) → completes (answer s e) ≡ b → P (next s e)
+    by true h = let c = called h in subst P (sym (next-goes s e h)) (goes c.0 c.1)
+    by false h = subst P (sym (next-stays s e h)) stays
+
 -- the reply to a call that is done or refused, by what its test answers
 abbrev pub done_by : Result ℕ Cause → Reply
 done_by (Ok charge) = reply.Done
 done_by (Err cause) = reply.Refused cause
-
-pub accept-told : (v : View) (e : Event) (giver giver_page page : ℕ) → e.call ≡ call.Accept giver giver_page page → done_by (accept_answer v.state e.pid giver giver_page page) ≡ answer v.state e
-accept-told v e giver giver_page page is = grind arith
 
 -- ---- Decisions by the test of a call
 

@@ -2,17 +2,17 @@
 use Rattle.kernel_calls.proofs.Prelude
 use Prelude.{◌≡◌, ◌≢◌, ℕ, zero, suc, ◌+◌, ◌-◌, ◌<◌, ◌≤◌, ◌/◌, ◌%◌, Bool, true, false, List, [], ◌∷◌, length, replicate}
 use Prelude.{refl, sym, ap, subst, ◌∙◌, Option, Some, None, is_some, unwrap_or, arith, inl, inr, IsTrue, ◌⊎◌}
-use Prelude.{if◌then◌else◌, slice_index, IfSome, option_map, cases_eq, same_Some, page_number, offset_number}
-use Prelude.{byte_count, second_page, page_and, touched, EachTouched, Size, same, same_itself, get-insert}
-use Prelude.{get-map_values, contains-insert, some_value, no_value, is_some-map, same_cases, Slot, slot_order, Cell}
-use Prelude.{Spaces, at_page, slot_at, fresh, cell_or_fresh, bytes_of, with_pages, with_holders, set_holders, set_bytes}
-use Prelude.{write_at, accessed, stored, all_accessed, all_stored, without, is_slot, is_of, copied-other, AreThere}
-use Prelude.{IsThere, first_there, rest_there, touched-there, bytes_there, key-all_accessed, key-all_stored, each_byte}
-use Prelude.{left, get-without, offer_key, Write, State, is_live, is_mapped, child_of, map_refusal, accept_refusal}
-use Prelude.{offered, after_load, after_store, after_accept, IsWellFormed, get-inserted, get-inserted_other, may_map}
-use Prelude.{may_accept, may_protect, well_formed-bytes, well_formed-touched, plan_of, step_of, Goes, ready, all_user}
-use Prelude.{same_cells, flags_of, flags_at, byte_in, shares, Tells, IsCovered, IsStoredAt, IsTogether, Does}
-use Prelude.{DoneMeansDone, Maps, SlotsCome, SlotsGo, answer, answer_of, after, next, completes, Call, Event, in_lone}
+use Prelude.{if◌then◌else◌, slice_index, IfSome, option_map, cases_eq, page_number, offset_number, byte_count}
+use Prelude.{second_page, page_and, touched, EachTouched, Size, same, same_itself, get-insert, get-map_values}
+use Prelude.{contains-insert, some_value, no_value, is_some-map, same_cases, Slot, slot_order, Cell, Spaces, at_page}
+use Prelude.{slot_at, fresh, cell_or_fresh, bytes_of, with_pages, with_holders, set_holders, set_bytes, write_at}
+use Prelude.{accessed, stored, all_accessed, all_stored, without, is_slot, copied-other, AreThere, IsThere, first_there}
+use Prelude.{rest_there, touched-there, bytes_there, key-all_accessed, key-all_stored, each_byte, left, get-without}
+use Prelude.{offer_key, Write, State, is_live, is_mapped, child_of, map_refusal, accept_refusal, offered, after_load}
+use Prelude.{after_store, after_accept, IsWellFormed, get-inserted, get-inserted_other, may_map, may_accept}
+use Prelude.{well_formed-bytes, well_formed-touched, plan_of, step_of, Goes, ready, all_user, same_cells, flags_of}
+use Prelude.{flags_at, byte_in, shares, Tells, IsCovered, IsStoredAt, IsTogether, Does, DoneMeansDone, Maps, SlotsCome}
+use Prelude.{SlotsGo, answer, answer_of, after, next, completes, Call, Event, in_lone}
 use Rattle.kernel_calls.proofs.Consent.{sharing_by_consent}
 use Rattle.kernel_calls.proofs.Decided.{next-stays, next-goes}
 use Rattle.kernel_calls.proofs.GivenUp.{exits_end, unmaps_end, offers_end}
@@ -182,13 +182,7 @@ alone : (s : State) (e : Event) (slot : Slot) → IsWellFormed s → map.get s.s
     → (other : Slot) → shares (next s e) slot other ≡ true → other ≡ slot
 alone s e slot w none no_accept other h = elim (same_cases slot_order other slot) [
   | inl same ↦ same.0
-  | inr differ ↦ elim (sharing_by_consent s e slot other w (λ x. differ.0 (sym x)) h) [
-    | inl before ↦ grind arith
-    | inr joins ↦ elim joins [
-      | inl one ↦ absurd (no_accept one.giver.pid one.giver.page slot.page one.call)
-      | inr two ↦ absurd (no_accept two.giver.pid two.giver.page other.page two.call)
-    ]
-  ]
+  | inr differ ↦ grind (arith, (sharing_by_consent s e slot other w (λ x. differ.0 (sym x)) h))
 ]
 
 -- what holds a page of a cell, or of a new one, is in its group
@@ -208,15 +202,24 @@ module _ (s : State) (e : Event) (w : IsWellFormed s) (live : is_live s e.pid �
       → completes (answer_of s e.pid (call.Store address size value)) ≡ true
       → next s e ≡ after_store s e.pid address size value
       → Does s (next s e) e.pid (call.Store address size value)
-  store_does address size value is h goes a place c = (
-    record {
-      has = new_flags;
-      alone = λ free. alone s e slot w (no_value (map.get s.spaces slot) free)
-          (λ giver page own takes. let x = is in let y = takes in cc);
-    },
-    ap (λ (t : State). byte_in t slot (offset_number a)) goes ∙ written,
-    bytes,
-  )
+  store_does address size value is h goes a place c =
+      let marks : IsDirty U slot = subst (λ b. IsDirty U (slot_at e.pid b)) here (stored_marks T e.pid address _ value
+      _ inside) in
+      let new_flags : flags_at (next s e) slot
+      ≡ Some (record (flags_of (cell_or_fresh s.spaces slot)) { accessed = true; dirty = true }) =
+      grind (
+        arith,
+        (marks_all_stored T e.pid address (bytes_of (byte_count size) value) slot (cell_or_fresh T slot) at),
+        marks,
+        cell_is,
+      ) in (
+        record {
+          has = new_flags;
+          alone = grind (arith, alone);
+        },
+        ap (λ (t : State). byte_in t slot (offset_number a)) goes ∙ written,
+        bytes,
+      )
     where
       slot : Slot
       slot = slot_at e.pid a
@@ -257,23 +260,6 @@ module _ (s : State) (e : Event) (w : IsWellFormed s) (live : is_live s e.pid �
           (touched-there s.spaces e.pid address size) a c) in
           x.1 ∙ ap (λ (y : Option Cell). Some (unwrap_or y (fresh slot true))) (sym x.1)
 
-      marks : IsDirty U slot
-      marks = subst (λ b. IsDirty U (slot_at e.pid b)) here
-          (stored_marks T e.pid address (byte_count size) value (a - address) inside)
-
-      new_flags : flags_at (next s e) slot
-          ≡ Some (record (flags_of (cell_or_fresh s.spaces slot)) { accessed = true; dirty = true })
-      new_flags =
-          let m = marks_all_stored T e.pid address (bytes_of (byte_count size) value) slot (cell_or_fresh T slot) at in
-          let same : marks.cell ≡ m.0 = same_Some marks.cell m.0 (sym marks.there ∙ m.1) in
-          ap (λ (t : State). flags_at t slot) goes ∙ ap (option_map flags_of) m.1
-          ∙ (λ i. Some (record {
-            write = (m.2.write ∙ ap (λ (c : Cell). c.write) cell_is) i;
-            may = (m.2.may ∙ ap (λ (c : Cell). c.may) cell_is) i;
-            accessed = (ap (λ (c : Cell). c.accessed) (sym same) ∙ marks.accessed) i;
-            dirty = (ap (λ (c : Cell). c.dirty) (sym same) ∙ marks.dirty) i;
-          }))
-
       written : byte_in (after_store s e.pid address size value) slot (offset_number a)
           ≡ slice_index (bytes_of (byte_count size) value) (a - address)
       written = subst (λ b. Written U e.pid b (slice_index (bytes_of (byte_count size) value) (a - address))) here
@@ -285,9 +271,8 @@ module _ (s : State) (e : Event) (w : IsWellFormed s) (live : is_live s e.pid �
           × (byte_in (next s e) slot place ≡ slice_index (bytes_of (byte_count size) value) (b - address)))
       bytes = elim (many_bytes (record s { spaces = T }) e.pid address (byte_count size) value well there slot
           (cell_or_fresh T slot) place at) [
-            | inl same ↦ inl (ap (λ (t : State). byte_in t slot place) goes ∙ same
-                ∙ ap (λ (c : Cell). slice_index c.bytes place) cell_is)
-            | inr r ↦ grind (arith, there, together, slot, same_cells)
+            | inl same ↦ grind (arith, cell_is)
+            | inr r ↦ grind (arith, together, same_cells)
           ]
 
   map_does : (page : ℕ) (write : Bool) → e.call ≡ call.Map page write → is_mapped s (at_page e.pid page) ≡ false
@@ -307,48 +292,33 @@ module _ (s : State) (e : Event) (w : IsWellFormed s) (live : is_live s e.pid �
       → accept_refusal s e.pid giver giver_page page ≡ None → answer s e ≡ reply.Done
       → next s e ≡ after_accept s e.pid giver giver_page page
       → Does s (next s e) e.pid (call.Accept giver giver_page page)
-  accept_does giver giver_page page is allowed told goes = record {
-    right = pending.0;
-    offered = pending.1;
-    has = grind (arith, at, right_is);
-    group = grind (arith, c, from, at, contains-insert, slot, given);
-    gone = offers_end s e (offer_key giver giver_page e.pid) (inr (refl, (page, is))) told;
-  }
-    where
-      slot : Slot
-      slot = at_page e.pid page
-
-      from : Slot
-      from = at_page giver giver_page
-
-      c : Cell
-      c = cell_or_fresh s.spaces from
-
-      pending : (b : Bool) × (map.get s.offers (offer_key giver giver_page e.pid) ≡ Some b)
-      pending = some_value _ (may_accept s e.pid giver giver_page page allowed).there
-
-      given : (c : Cell) × (map.get s.spaces from ≡ Some c) × (IsTrue pending.0 → IsTrue c.may)
-      given = (w.offers (offer_key giver giver_page e.pid) pending.0 pending.1).offered
-
-      right : Bool
-      right = offered s giver giver_page e.pid
-
-      right_is : right ≡ pending.0
-      right_is = ap (λ (x : Option Bool). unwrap_or x false) pending.1
-
-      new : Cell
-      new = record {
+  accept_does giver giver_page page is allowed told goes =
+      let slot : Slot = at_page e.pid page in
+      let from : Slot = at_page giver giver_page in
+      let c : Cell = cell_or_fresh s.spaces from in
+      let pending : (b : Bool) × (map.get s.offers (offer_key giver giver_page e.pid) ≡ Some b) = some_value _
+      (may_accept s e.pid giver giver_page page allowed).there in
+      let given : (c : Cell) × (map.get s.spaces from ≡ Some c) × (IsTrue pending.0 → IsTrue c.may) = (w.offers
+      (offer_key giver giver_page e.pid) pending.0 pending.1).offered in
+      let right : Bool = offered s giver giver_page e.pid in
+      let new : Cell = record {
         write = right;
         may = right;
         accessed = false;
         dirty = false;
         bytes = c.bytes;
-        holders = set.insert c.holders slot;
+        holders =
+            set.insert c.holders slot;
+      } in
+      let at : map.get (next s e).spaces slot ≡ Some new = ap (λ (t : State). map.get t.spaces slot) goes ∙
+      get-inserted (set_holders s.spaces c.holders _) slot new in
+      record {
+        right = pending.0;
+        offered = pending.1;
+        has = grind (arith, at);
+        group = grind (arith, at, contains-insert, given);
+        gone = offers_end s e (offer_key giver giver_page e.pid) (inr (refl, (page, is))) told;
       }
-
-      at : map.get (next s e).spaces slot ≡ Some new
-      at = ap (λ (t : State). map.get t.spaces slot) goes
-          ∙ get-inserted (set_holders s.spaces c.holders (set.insert c.holders slot)) slot new
 
   does : (c : Call) → e.call ≡ c → completes (answer_of s e.pid c) ≡ true → next s e ≡ after s e.pid c
       → Tells s e.pid c (answer s e) → Does s (next s e) e.pid c
@@ -376,11 +346,8 @@ slots_go s e slot w was now =
     ap (λ (x : Option Cell). unwrap_or (option_map (λ (c : Cell). set.contains c.holders slot) x) false) c.1
     ∙ (w.cells slot c.0 c.1).own in
     elim (sharing_stays s e slot slot w own) [
-      | inl still ↦ grind (arith, no_value)
-      | inr leaves ↦ elim leaves [
-        | inl left ↦ left
-        | inr left ↦ left
-      ]
+      | inl still ↦ grind arith
+      | inr leaves ↦ grind arith
     ]
 
 insert_comes : (S : Spaces) (at : Slot) (c : Cell) (slot : Slot) → map.contains_key (map.insert S at c) slot ≡ true
@@ -416,7 +383,7 @@ module _ (s : State) (e : Event) (slot : Slot) (was : is_mapped s slot ≡ false
 
   comes : (c : Call) → completes (answer_of s e.pid c) ≡ true → Tells s e.pid c (answer s e)
       → (answer s e ≡ answer_of s e.pid c) → map.contains_key (after s e.pid c).spaces slot ≡ true → Comes c
-  comes (call.Load address size) h told is now = grind (arith, pages_come, key-all_accessed, touched-there, same_slots)
+  comes (call.Load address size) h told is now = grind (arith, pages_come, key-all_accessed, touched-there)
   comes (call.Store address size value) h told is now = elim (pages_come s.spaces e.pid address size slot
       (sym (key-all_stored (with_pages s.spaces e.pid (touched address size)) e.pid address (byte_count size) value
       (bytes_there (with_pages s.spaces e.pid (touched address size)) e.pid address size
@@ -424,9 +391,9 @@ module _ (s : State) (e : Event) (slot : Slot) (was : is_mapped s slot ≡ false
         | inl before ↦ absurd (same_slots s.spaces refl before)
         | inr came ↦ inl came
       ]
-  comes (call.Map page write) h told is now = grind (arith, insert_comes, same_slots, own_page)
+  comes (call.Map page write) h told is now = grind (arith, insert_comes)
   comes (call.Unmap page) h told is now = absurd (without_comes (is_slot e.pid page) now)
-  comes (call.Protect page write) h told is now = grind (arith, insert_comes, same_slots, may_protect, not-refused)
+  comes (call.Protect page write) h told is now = grind (arith, insert_comes)
   comes (call.Accept giver giver_page page) h told is now =
       let c : Cell = cell_or_fresh s.spaces (at_page giver giver_page) in
       let holders = set.insert c.holders (at_page e.pid page) in
@@ -440,17 +407,11 @@ module _ (s : State) (e : Event) (slot : Slot) (was : is_mapped s slot ≡ false
         bytes = c.bytes;
         holders = holders;
       }) slot now) [
-        | inl before ↦ absurd (same_slots s.spaces refl
-            (sym (ap is_some (get-map_values slot_order f s.spaces slot)
-            ∙ is_some-map (f slot) (map.get s.spaces slot)) ∙ before))
+        | inl before ↦ grind (arith, (same_slots s.spaces refl (grind (arith, get-map_values))))
         | inr here ↦ inl (own_page page here)
       ]
-  comes (call.Fork quota) h told is now = elim (cases_eq slot.pid (child_of s)) [
-    | inl here ↦ grind (arith, not-refused)
-    | inr other ↦ grind (arith, same_slots, copied-other)
-  ]
-  comes call.Exit h told is now = absurd (without_comes (is_of e.pid) now)
-  comes _ h told is now = absurd (same_slots s.spaces refl now)
+  comes (call.Fork quota) h told is now = grind (arith, (cases_eq slot.pid (child_of s)), not-refused, copied-other)
+  comes _ h told is now = grind (arith, without_comes)
 
 pub slots_come : SlotsCome
 slots_come s e slot was now = grind (arith, caller_live, comes, completes_by_kind, next-goes, next-stays)

@@ -1,18 +1,19 @@
 -- An access and an event of another process, in either order.
 use Rattle.kernel_calls.proofs.Prelude
 use Prelude.{◌≡◌, ◌≢◌, ℕ, ◌+◌, ◌<◌, ◌≤◌, ◌||◌, Bool, true, false, refl, ap, sym, ◌∙◌, inr, arith, Option, Some, None}
-use Prelude.{unwrap_or, is_some, subst, List, length, eq-eqb, eqb-true, ne_eqb, option_map, byte_count, touched, Size}
-use Prelude.{same, Set, contains-insert, same-true, same_apart, Slot, slot_order, Cell, Spaces, at_page, slot_at}
-use Prelude.{cell_or_fresh, fresh, bytes_of, with_pages, all_accessed, all_stored, without, is_slot, is_of}
-use Prelude.{length-bytes_of, offer_key, State, is_live, child_of, IsWellFormed, get-inserted_other, HaveTheSame}
-use Prelude.{LooksSame, Sees, IsUnseen, IsQuietCall, is_offered, found, accept_refusal, offered, fork_refusal}
-use Prelude.{child_free, no_page, may_fork, may_accept, answer, answer_of, after, next, completes, Call, Event, or-true}
+use Prelude.{unwrap_or, is_some, subst, length, eq-eqb, eqb-true, ne_eqb, option_map, byte_count, touched, Size, same}
+use Prelude.{Set, contains-insert, same-true, same_apart, Slot, slot_order, Cell, Spaces, at_page, slot_at}
+use Prelude.{cell_or_fresh, fresh, bytes_of, without, is_slot, is_of, length-bytes_of, offer_key, State, is_live}
+use Prelude.{child_of, IsWellFormed, HaveTheSame, LooksSame, Sees, IsUnseen, IsQuietCall, is_offered, found}
+use Prelude.{accept_refusal, offered, fork_refusal, child_free, no_page, may_fork, may_accept, answer, answer_of, after}
+use Prelude.{next, completes, Call, Event, or-true}
 use Rattle.kernel_calls.specs.Beside.{only, InEitherOrder, AccessesBeside, OrdersEndTheSame, is_access}
-use Rattle.kernel_calls.proofs.Commuting.{at_slot, IsFree, load_apart, store_apart, loads_commute, pages_commute}
-use Rattle.kernel_calls.proofs.CommutingForks.{load_copied, store_copied}
-use Rattle.kernel_calls.proofs.CommutingGone.{NoneWith, load_gone, store_gone}
-use Rattle.kernel_calls.proofs.CommutingJoins.{load_joined, store_joined}
-use Rattle.kernel_calls.proofs.CommutingStores.{group_at, apart_by, group_paged, StoresApart, stores_beside}
+use Rattle.kernel_calls.proofs.Commuting.{at_slot, group_at, Commutes, EachFree, IsOut, load_through, store_through}
+use Rattle.kernel_calls.proofs.Commuting.{slot_commutes, load_commutes}
+use Rattle.kernel_calls.proofs.CommutingForks.{copied_commutes}
+use Rattle.kernel_calls.proofs.CommutingGone.{NoneWith, gone_commutes}
+use Rattle.kernel_calls.proofs.CommutingJoins.{joined_commutes}
+use Rattle.kernel_calls.proofs.CommutingStores.{IsBeside, store_commutes}
 use Rattle.kernel_calls.proofs.Decided.{next-stays, next-goes}
 use Rattle.kernel_calls.proofs.Outsiders.{outsiders_unseen}
 use Rattle.kernel_calls.proofs.Runs.{not-refused}
@@ -69,34 +70,24 @@ slots_only call.Quota = true
 slots_only _ = false
 
 -- such a call, and what commutes with changes of its process's slots, in either order
-by_slots : (s : State) (p : ℕ) (c : Call) (O : Spaces → Spaces) (Good : Spaces → Type 0)
-    → ((a : Slot) → a.pid ≡ p → (f : Option Cell → Cell) (S : Spaces) → Good S → Good (at_slot a f S))
-    → ((a : Slot) → a.pid ≡ p → (f : Option Cell → Cell) (S : Spaces) → Good S → O (at_slot a f S) ≡ at_slot a f (O S))
+by_slots : (s : State) (p : ℕ) (c : Call) (O : Spaces → Spaces) (Good : Spaces → Type 0) (Free : Spaces → Slot → Type 0)
+    → Commutes p O Good Free
+    → ((page : ℕ) (f : Option Cell → Cell) → O (at_slot (at_page p page) f s.spaces) ≡ at_slot (at_page p page) f (O s.spaces))
     → Good s.spaces → slots_only c ≡ true
     → after (record s { spaces = O s.spaces }) p c ≡ record (after s p c) { spaces = O (after s p c).spaces }
-by_slots s p (call.Load addr size) O Good stays commutes good keeps =
-    ap (λ (S : Spaces). record s { spaces = S }) (sym (loads_commute p O Good stays commutes (touched addr size) s.spaces good))
-by_slots s p (call.Map page write) O Good stays commutes good keeps =
+by_slots s p (call.Load addr size) O Good Free through slots good keeps =
+    ap (λ (S : Spaces). record s { spaces = S }) (sym (load_through p O Good Free through (touched addr size) s.spaces good))
+by_slots s p (call.Map page write) O Good Free through slots good keeps =
+    ap (λ (S : Spaces). record s { spaces = S }) (sym (slots page (λ _. fresh (at_page p page) write)))
+by_slots s p (call.Protect page write) O Good Free through slots good keeps =
     ap (λ (S : Spaces). record s { spaces = S })
-    (sym (commutes (at_page p page) refl (λ _. fresh (at_page p page) write) s.spaces good))
-by_slots s p (call.Protect page write) O Good stays commutes good keeps =
-    ap (λ (S : Spaces). record s { spaces = S })
-    (sym (commutes (at_page p page) refl (λ x. record (unwrap_or x (fresh (at_page p page) true)) { write = write }) s.spaces good))
-by_slots s p (call.Info page) O Good stays commutes good keeps = refl
-by_slots s p (call.Offer page target write) O Good stays commutes good keeps = refl
-by_slots s p (call.Withdraw page target) O Good stays commutes good keeps = refl
-by_slots s p (call.Spawn quota) O Good stays commutes good keeps = refl
-by_slots s p call.Quota O Good stays commutes good keeps = refl
-by_slots s p (call.Store addr size value) O Good stays commutes good keeps = cc
-by_slots s p (call.Unmap page) O Good stays commutes good keeps = cc
-by_slots s p (call.Accept giver giver_page page) O Good stays commutes good keeps = cc
-by_slots s p (call.Fork quota) O Good stays commutes good keeps = cc
-by_slots s p call.Exit O Good stays commutes good keeps = cc
+    (sym (slots page (λ x. record (unwrap_or x (fresh (at_page p page) true)) { write = write })))
+by_slots s p _ O Good Free through slots good keeps = grind arith
 
 -- a slot that a process has is in no group of bytes that it doesn't see
 free_unseen : (s : State) (p q addr : ℕ) (size : Size) (value : ℕ) → p ≢ q
     → ((byte : ℕ) → addr ≤ byte → byte < addr + byte_count size → IsUnseen s (only p) (slot_at q byte))
-    → (a : Slot) → a.pid ≡ p → IsFree s.spaces a q addr (bytes_of (byte_count size) value)
+    → (a : Slot) → a.pid ≡ p → EachFree (IsOut a) s.spaces q addr (bytes_of (byte_count size) value)
 free_unseen s p q addr size value differ unseen a own i l =
     by (map.get s.spaces (slot_at q (addr + i))) refl
   where
@@ -121,33 +112,30 @@ free_unseen s p q addr size value differ unseen a own i l =
 slot_calls_commute : (s : State) (p q : ℕ) (c d : Call) → p ≢ q → slots_only c ≡ true → is_access d ≡ true
     → IsQuietCall s (only p) q d → after (after s q d) p c ≡ after (after s p c) q d
 slot_calls_commute s p q c (call.Load addr size) differ keeps h quiet =
-    by_slots s p c (λ S. all_accessed (with_pages S q (touched addr size)) q (touched addr size)) (λ _. Unit {0})
-    (λ a own f S good. tt) (λ a own f S good. load_apart a q (λ is. differ (sym own ∙ is)) f (touched addr size) S) tt keeps
+    by_slots s p c _ _ _ (load_commutes p q (touched addr size) differ)
+    (λ page f. sym (load_through q _ _ _ (slot_commutes (at_page p page) q differ f) (touched addr size) s.spaces tt))
+    tt keeps
 slot_calls_commute s p q c (call.Store addr size value) differ keeps h quiet =
-    by_slots s p c (λ S. all_stored (with_pages S q (touched addr size)) q addr (bytes_of (byte_count size) value))
-    (λ S. (a : Slot) → a.pid ≡ p → IsFree S a q addr (bytes_of (byte_count size) value))
-    (λ a own f S good x mine i l. ap (λ (k : Cell). set.contains k.holders x)
-    (ap (λ (z : Option Cell). unwrap_or z (fresh (slot_at q (addr + i)) true))
-    (get-inserted_other S a (f (map.get S a)) (slot_at q (addr + i))
-    (λ is. differ (sym own ∙ ap (λ (y : Slot). y.pid) (sym is))))) ∙ good x mine i l)
-    (λ a own f S good. store_apart a q (λ is. differ (sym own ∙ is)) f (touched addr size) S addr (bytes_of (byte_count size) value) (good a own))
-    (free_unseen s p q addr size value differ quiet) keeps
+    let free = λ (page : ℕ). free_unseen s p q addr size value differ quiet (at_page p page) refl in
+    by_slots s p c _ _ _ (store_commutes p q addr (bytes_of (byte_count size) value) (touched addr size) differ)
+    (λ page f. sym (store_through q _ _ _ (slot_commutes (at_page p page) q differ f) (touched addr size) s.spaces addr
+    (bytes_of (byte_count size) value) tt (free page))) free keeps
 slot_calls_commute s p q c _ differ keeps h quiet = cc
 
 -- two stores into groups that have nothing in common
 stores_apart : (s : State) (p q from to : ℕ) (size n : Size) (value v : ℕ) → IsWellFormed s → p ≢ q
     → IsQuietCall s (only p) q (call.Store to n v) → IsQuietCall s (only q) p (call.Store from size value)
-    → StoresApart s.spaces p q from to (bytes_of (byte_count size) value) (bytes_of (byte_count n) v)
-stores_apart s p q from to size n value v w differ quiet heard = record {
-  free = λ i l m. free_unseen s q p from size value back heard (at_page q m) refl i l;
-  apart = λ i l j k. record {
+    → EachFree (IsBeside q to (bytes_of (byte_count n) v)) s.spaces p from (bytes_of (byte_count size) value)
+stores_apart s p q from to size n value v w differ quiet heard i l = (
+  λ m. free_unseen s q p from size value back heard (at_page q m) refl i l,
+  λ j k. record {
     differ = λ is. differ (ap (λ (x : Slot). x.pid) is);
     first = first i j k;
     second = second i j l;
     none = λ x one two. none x i j (first i j k) (second i j l) one two
         (map.get s.spaces (slot_at p (from + i))) refl (map.get s.spaces (slot_at q (to + j))) refl;
-  };
-}
+  },
+)
   where
     back : q ≢ p
     back is = differ (sym is)
@@ -195,42 +183,10 @@ stores_commute : (s : State) (p q from to : ℕ) (size n : Size) (value v : ℕ)
     ≡ after (after s p (call.Store from size value)) q (call.Store to n v)
 stores_commute s p q from to size n value v w differ quiet heard =
     ap (λ (S : Spaces). record s { spaces = S })
-    (sym (ap (λ (S : Spaces). all_stored S p from xs) pages.0)
-    ∙ sym (stores_beside p q differ to ys Q xs (with_pages s.spaces p P) from (record {
-      free = λ i l m. ap (λ (g : Set slot_order). set.contains g (at_page q m)) (group_paged P s.spaces p (slot_at p (from + i))) ∙ apart.free i l m;
-      apart = λ i l j k. apart_by s.spaces (with_pages s.spaces p P) (slot_at p (from + i)) (slot_at q (to + j))
-          (group_paged P s.spaces p) (apart.apart i l j k);
-    })))
-  where
-    xs : List ℕ
-    xs = bytes_of (byte_count size) value
-
-    ys : List ℕ
-    ys = bytes_of (byte_count n) v
-
-    P : List ℕ
-    P = touched from size
-
-    Q : List ℕ
-    Q = touched to n
-
-    apart : StoresApart s.spaces p q from to xs ys
-    apart = stores_apart s p q from to size n value v w differ quiet heard
-
-    O : Spaces → Spaces
-    O S = all_stored (with_pages S q Q) q to ys
-
-    Good : Spaces → Type 0
-    Good S = (a : Slot) → a.pid ≡ p → IsFree S a q to ys
-
-    pages : (O (with_pages s.spaces p P) ≡ with_pages (O s.spaces) p P) × Good (with_pages s.spaces p P)
-    pages = pages_commute p O Good
-        (λ a own f S good x mine i l. ap (λ (k : Cell). set.contains k.holders x)
-        (ap (λ (z : Option Cell). unwrap_or z (fresh (slot_at q (to + i)) true))
-        (get-inserted_other S a (f (map.get S a)) (slot_at q (to + i))
-        (λ is. differ (sym own ∙ ap (λ (y : Slot). y.pid) (sym is))))) ∙ good x mine i l)
-        (λ a own f S good. store_apart a q (λ is. differ (sym own ∙ is)) f Q S to ys (good a own))
-        P s.spaces (free_unseen s p q to n v differ quiet)
+    (sym (store_through p _ _ _ (store_commutes p q to (bytes_of (byte_count n) v) (touched to n) differ) (touched from size)
+    s.spaces from (bytes_of (byte_count size) value)
+    (λ m. free_unseen s p q to n v differ quiet (at_page p m) refl)
+    (stores_apart s p q from to size n value v w differ quiet heard)))
 
 -- no slot that goes is in a group of a process which sees none of them
 none_with : (s : State) (q : ℕ) (gone : Slot → Bool) → IsWellFormed s → ((n : ℕ) → gone (at_page q n) ≡ false)
@@ -261,7 +217,12 @@ none_with s q gone w stays unseen n x held = by (gone x) refl (map.get s.spaces 
 -- slots go, and an access
 gone_commute : (s : State) (q : ℕ) (gone : Slot → Bool) (d : Call) → is_access d ≡ true → ((n : ℕ) → gone (at_page q n) ≡ false)
     → NoneWith gone q s.spaces → without (after s q d).spaces gone ≡ (after (record s { spaces = without s.spaces gone }) q d).spaces
-gone_commute s q gone d h stays none = grind (arith, load_gone, store_gone)
+gone_commute s q gone (call.Load addr size) h stays none =
+    load_through q _ _ _ (gone_commutes gone q stays) (touched addr size) s.spaces none
+gone_commute s q gone (call.Store addr size value) h stays none =
+    store_through q _ _ _ (gone_commutes gone q stays) (touched addr size) s.spaces addr
+    (bytes_of (byte_count size) value) none (λ i l. tt)
+gone_commute s q gone _ h stays none = cc
 
 unmap_commutes : (s : State) (p q page : ℕ) (d : Call) → IsWellFormed s → p ≢ q → is_access d ≡ true
     → IsUnseen s (only q) (at_page p page)
@@ -340,15 +301,18 @@ accept_commutes s p q giver giver_page page d w differ h done quiet heard = by d
 
     by : (d : Call) → is_access d ≡ true → IsQuietCall s (only p) q d
         → after (after s q d) p (call.Accept giver giver_page page) ≡ after (after s p (call.Accept giver giver_page page)) q d
-    by (call.Load addr size) k quiet = grind (arith, load_joined, from, to, right, far, none)
+    by (call.Load addr size) k quiet =
+        ap (λ (S : Spaces). record (after s p (call.Accept giver giver_page page)) { spaces = S })
+        (load_through q _ _ _ (joined_commutes from to right q far differ) (touched addr size) s.spaces none)
     by (call.Store addr size value) k quiet =
         ap (λ (S : Spaces). record (after s p (call.Accept giver giver_page page)) { spaces = S })
-        (store_joined from to right q far differ (touched addr size) s.spaces addr (bytes_of (byte_count size) value) none
-        (λ i l.
-        let long = length-bytes_of (byte_count size) value in
-        unseen_none s (only p) (slot_at q (addr + i)) from (quiet (addr + i) (omega arith) (omega (arith, l, long)))
-        (offered_seen s p giver giver_page offer) (λ is. far (sym (ap (λ (x : Slot). x.pid) is))))
-        (free_unseen s p q addr size value differ quiet to refl))
+        (store_through q _ _ _ (joined_commutes from to right q far differ) (touched addr size) s.spaces addr
+        (bytes_of (byte_count size) value) none (λ i l. (
+          (let long = length-bytes_of (byte_count size) value in
+              unseen_none s (only p) (slot_at q (addr + i)) from (quiet (addr + i) (omega arith) (omega (arith, l, long)))
+              (offered_seen s p giver giver_page offer) (λ is. far (sym (ap (λ (x : Slot). x.pid) is)))),
+          free_unseen s p q addr size value differ quiet to refl i l,
+        )))
     by _ k quiet = cc
 
 fork_commutes : (s : State) (p q quota : ℕ) (d : Call) → IsWellFormed s → p ≢ q → is_access d ≡ true
@@ -386,11 +350,13 @@ fork_commutes s p q quota d w differ h done quiet heard = by d h quiet
 
     by : (d : Call) → is_access d ≡ true → IsQuietCall s (only p) q d
         → after (after s q d) p (call.Fork quota) ≡ after (after s p (call.Fork quota)) q d
-    by (call.Load addr size) h quiet = grind (arith, load_copied, k, other, old)
+    by (call.Load addr size) h quiet =
+        ap (λ (S : Spaces). record (after s p (call.Fork quota)) { spaces = S })
+        (load_through q _ _ _ (copied_commutes p k q other old) (touched addr size) s.spaces tt)
     by (call.Store addr size value) h quiet =
         ap (λ (S : Spaces). record (after s p (call.Fork quota)) { spaces = S })
-        (store_copied p k q other old (touched addr size) s.spaces addr (bytes_of (byte_count size) value)
-        (λ i l. (
+        (store_through q _ _ _ (copied_commutes p k q other old) (touched addr size) s.spaces addr
+        (bytes_of (byte_count size) value) tt (λ i l. (
           λ n. free_unseen s p q addr size value differ quiet (at_page p n) refl i l,
           λ n. new (slot_at q (addr + i)) n refl (map.get s.spaces (slot_at q (addr + i))) refl
               (set.contains (group_at s.spaces (slot_at q (addr + i))) (at_page k n)) refl,

@@ -5,11 +5,11 @@ use Prelude.{refl, ap, sym, ◌∙◌, arith, inl, inr, Option, Some, None, is_s
 use Prelude.{option_map, page_number, offset_number, second_page, byte_count, touched, Size, crosses, some_bytes}
 use Prelude.{same-true, same_itself, get-map_values, contains-insert, Access, Read, Write, walk_of, directory_at}
 use Prelude.{is_lazy_at, takes_stores, Slot, slot_order, Cell, Spaces, at_page, slot_at, is_slot, cell_or_fresh, fresh}
-use Prelude.{with_pages, with_holders, set_bytes, set_holders, write_at, stored, all_stored, bytes_of, protected}
-use Prelude.{joined, without, way_of, WaysAgree, WalksAgree, length-bytes_of, StandsFor, image_of, memory_of, offered}
-use Prelude.{State, is_mapped, View, IsWellFormed, get-inserted, get-inserted_other, without-was, may_accept}
-use Prelude.{giver_mapped, goes_on, plan_at, step_at, ready, plan_of_call, answer, answer_of, after, next, completes}
-use Prelude.{is_ended, page_filled, second_filled, of_pages, of_plan, of_call, ended_by, EndsNoMore, Call, Event}
+use Prelude.{with_pages, with_holders, set_bytes, set_holders, write_at, stored, all_stored, bytes_of, joined, without}
+use Prelude.{way_of, WaysAgree, WalksAgree, length-bytes_of, StandsFor, image_of, memory_of, offered, is_mapped, View}
+use Prelude.{IsWellFormed, get-inserted, get-inserted_other, without-was, may_accept, giver_mapped, goes_on, plan_at}
+use Prelude.{step_at, ready, plan_of_call, answer, answer_of, after, next, completes, is_ended, page_filled}
+use Prelude.{second_filled, of_pages, of_plan, of_call, ended_by, EndsNoMore, Call, Event}
 use Rattle.kernel_calls.proofs.Decided.{goes-event, next-goes}
 use Rattle.kernel_calls.proofs.Flags.{has, dirty_is_flag, keeps_all_stored}
 use Rattle.kernel_calls.proofs.Translated.{way_mapped, walk_takes, walk_finds, has_right}
@@ -83,11 +83,6 @@ module _ (w : View) (stands : StandsFor (image_of w) w.state) (walks : WalksAgre
   -- a dirty slot
   dirty_real : (slot : Slot) → has dirty (map.get w.state.spaces slot) ≡ true → is_lazy_at (memory_of w) slot ≡ false
   dirty_real slot h = grind (arith, has)
-
-  -- a slot with another in its group
-  shared_real : (slot other : Slot) (c : Cell) → map.get w.state.spaces slot ≡ Some c
-      → set.contains c.holders other ≡ true → other ≢ slot → is_lazy_at (memory_of w) slot ≡ false
-  shared_real slot other c there held differ = grind arith
 
   -- a walk to frame 0 is of a lazy slot
   walk_lazy : (p d a f : ℕ) → directory_at (memory_of w) p ≡ Some d → a < 2 ^ 32 → walk_of w.bytes d a Read ≡ Ok f
@@ -215,9 +210,7 @@ module _ (v w : View) (stands : StandsFor (image_of v) v.state) (walks : WalksAg
         | inl first ↦
             let there = filled q (page_number addr) first in
             lost_filled there.1 (dirty_real w stands' walks' ways' slot
-            (ap (λ (t : State). has dirty (map.get t.spaces slot)) state
-            ∙ sym (ap (λ s. has dirty (map.get (all_stored S q addr (bytes_of (byte_count size) value)) s)) there.0)
-            ∙ dirty_first S q addr size value))
+            (grind (arith, dirty_first)))
         | inr second ↦ by (second_page addr size) refl second
       ]
     where
@@ -230,12 +223,9 @@ module _ (v w : View) (stands : StandsFor (image_of v) v.state) (walks : WalksAg
       by (Some page) is k =
           let there = filled q page k in
           lost_filled there.1 (dirty_real w stands' walks' ways' slot
-          (ap (λ (t : State). has dirty (map.get t.spaces slot)) state
-          ∙ sym (ap (λ s. has dirty (map.get (all_stored S q addr (bytes_of (byte_count size) value)) s)) there.0)
-          ∙ dirty_second S q addr size value page is))
+          (grind (arith, dirty_second)))
   lost_call q (call.Unmap page) done goes state h = grind (arith, lost_gone, without_gone)
-  lost_call q (call.Protect page write) done goes state h =
-      by write (takes_stores v.state.spaces (memory_of v) (at_page q page)) refl refl h
+  lost_call q (call.Protect page write) done goes state h = by write _ refl refl h
     where
       by : (x y : Bool) → write ≡ x → takes_stores v.state.spaces (memory_of v) (at_page q page) ≡ y
           → is_ended (if not x && y then end.Page q page else end.Nothing) slot ≡ true → Lost
@@ -244,12 +234,8 @@ module _ (v w : View) (stands : StandsFor (image_of v) v.state) (walks : WalksAg
       by false true is takes k =
           let here = same-true slot_order (at_page q page) slot k in
           lost_right (sym (ap (takes_stores v.state.spaces (memory_of v)) here) ∙ takes)
-          (ap (λ (t : State). has (λ c. c.write) (map.get t.spaces slot)) state
-          ∙ sym (ap (λ s. has (λ c. c.write) (map.get (protected v.state.spaces (at_page q page) write) s)) here)
-          ∙ ap (has (λ c. c.write)) (get-inserted v.state.spaces (at_page q page)
-          (record (cell_or_fresh v.state.spaces (at_page q page)) { write = write })) ∙ is)
-  lost_call q (call.Accept giver giver_page page) done goes state h =
-      by (is_lazy_at (memory_of v) (at_page giver giver_page)) refl h
+          (grind (arith, get-inserted))
+  lost_call q (call.Accept giver giver_page page) done goes state h = by _ refl h
     where
       by : (x : Bool) → is_lazy_at (memory_of v) (at_page giver giver_page) ≡ x
           → is_ended (if x then end.Page giver giver_page else end.Nothing) slot ≡ true → Lost
@@ -263,13 +249,8 @@ module _ (v w : View) (stands : StandsFor (image_of v) v.state) (walks : WalksAg
           let j = giver_joined v.state.spaces (at_page giver giver_page) (at_page q page)
           (offered v.state giver giver_page q) g.0 g.1 (well.cells (at_page giver giver_page) g.0 g.1).own differ in
           lost_filled (sym (ap (is_lazy_at (memory_of v)) here) ∙ lazy)
-          (shared_real w stands' walks' ways' slot (at_page q page) j.0
-          (ap (λ (t : State). map.get t.spaces slot) state
-          ∙ sym (ap (map.get (joined v.state.spaces (at_page giver giver_page) (at_page q page)
-          (offered v.state giver giver_page q))) here) ∙ j.1) j.2
-          (λ e. differ (here ∙ sym e)))
-  lost_call q call.Exit done goes state h = grind (arith, lost_gone, without_gone)
-  lost_call q _ done goes state h = cc
+          (grind arith)
+  lost_call q _ done goes state h = grind (arith, lost_gone, without_gone)
 
   pub lost : (e : Event) → w.state ≡ next v.state e → is_ended (ended_by v e) slot ≡ true → Lost
   lost e state h = by (completes (answer v.state e)) refl h
@@ -281,8 +262,7 @@ module _ (v w : View) (stands : StandsFor (image_of v) v.state) (walks : WalksAg
           lost_call e.pid e.call (caller_live v.state e is).1
           (λ addr size value store.
           sym (ap (λ c. goes_on (plan_of_call v e.pid c)) store)
-          ∙ sym (ap (λ b. goes_on (if b then plan_of_call v e.pid e.call else plan.Refused cause.NoProcess))
-          (caller_live v.state e is).0) ∙ goes-event v e ∙ is)
+          ∙ sym (grind arith) ∙ goes-event v e ∙ is)
           (state ∙ next-goes v.state e is) k
 
 pub ends_no_more : (v w : View) (e : Event) → StandsFor (image_of v) v.state → WalksAgree (memory_of v) v.state.spaces

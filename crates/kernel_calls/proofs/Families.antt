@@ -34,33 +34,8 @@ module _ (s : State) (e : Event) (C : ℕ → Bool) (w : IsWellFormed s) (family
     -- a child of a member that was there is a member, and so is a new one
     child_member : (p q : ℕ) → members_after s C e p ≡ true → is_child_of (next s e) p q ≡ true
         → members_after s C e q ≡ true
-    child_member p q member is = elim (place_of s e q) [
-      | inl same_place ↦ (
-          let m = child_place p q (map.get s.book q) (sym (ap (child_in p q) same_place) ∙ is) in
-          let parent = parents_in s w q m.0 m.1 in
-          let live_p : is_live s p ≡ true = ap (is_live s) (sym m.2) ∙ ap is_some parent.1 in
-          let live_q : is_live s q ≡ true = ap is_some m.1 in
-          let old : C p ≡ true = sym (λ i. if live_p i then C p else C e.pid) ∙ was.1 in
-          (λ i. now i && (if live_q i then C q else C e.pid))
-          ∙ family.children p q old (sym (ap (child_in p q) same_place) ∙ is))
-      | inr differs ↦ elim differs [
-        | inl born ↦ (
-            let b = children_are_their_makers s e q born in
-            let m = child_place p q (map.get (next s e).book q) is in
-            let mother : e.pid ≡ p = ap (λ (x : Option Member). (unwrap_or x m.0).parent) (sym b.member ∙ m.1) ∙ m.2 in
-            let live_p : is_live s p ≡ true = ap (is_live s) (sym mother) ∙ (maker_of s e q born).live in
-            let old : C p ≡ true = sym (λ i. if live_p i then C p else C e.pid) ∙ was.1 in
-            let dead = child_dead s e q born in
-            (λ i. now i && (if dead i then C q else C e.pid)) ∙ ap C mother ∙ old)
-        | inr gone ↦ absurd (let x = ap (child_in p q) gone.2 in let y = is in cc)
-      ]
-    ]
-      where
-        was : (is_live (next s e) p ≡ true) × ((if is_live s p then C p else C e.pid) ≡ true)
-        was = and_parts (is_live (next s e) p) (if is_live s p then C p else C e.pid) member
-
-        now : is_live (next s e) q ≡ true
-        now = ap is_some (child_place p q (map.get (next s e).book q) is).1
+    child_member p q member is =
+        grind (arith, place_of, child_place, parents_in, children_are_their_makers, maker_of, child_dead, and_parts)
 
     pub next_family : IsFamily (next s e) (members_after s C e)
     next_family = record {
@@ -82,10 +57,7 @@ module _ (s : State) (e : Event) (C : ℕ → Bool) (w : IsWellFormed s) (family
         × (number_of_children s.book q ≡ number_of_children (next s e).book q)
 
     gives_same : (q : ℕ) → C q ≡ true → GivesTheSame q
-    gives_same q h = let u = leaves_all s e q w (family.live q h) apart in elim u.given [
-      | inl same_given ↦ (sym same_given.0, sym same_given.1)
-      | inr exits ↦ absurd (let inside = family.children q e.pid h exits.0 in let o = out in cc)
-    ]
+    gives_same q h = grind (arith, (leaves_all s e q w (family.live q h) apart))
       where
         apart : q ≢ e.pid
         apart x = let a = ap C x in let b = h in let o = out in cc
@@ -137,9 +109,7 @@ offer_within Q s key h = get-retain_keys s.offers (by_member Q) key ∙ ap (λ b
 
 none_within : (Q : ℕ → Bool) (s : State) (key : OfferKey) → IsWellFormed s → is_live s key.offerer ≡ false
     → map.get (within Q s).offers key ≡ map.get s.offers key
-none_within Q s key w dead =
-    no_offer_by (within Q s) key.offerer key.page key.target (well_within Q s w) dead
-    ∙ sym (no_offer_by s key.offerer key.page key.target w dead)
+none_within Q s key w dead = grind (arith, (no_offer_by s key.offerer key.page key.target w dead), (well_within Q s w))
 
 module _ (s t : State) (Q : ℕ → Bool) (l : HaveTheSame s t Q) where
   offers_within : (key : OfferKey) → map.get (within Q s).offers key ≡ map.get (within Q t).offers key
@@ -150,14 +120,7 @@ module _ (s t : State) (Q : ℕ → Bool) (l : HaveTheSame s t Q) where
   own_within slot v = grind (arith, eqb-true, some_value, retained)
 
   looks_within : LooksSame (within Q s) (within Q t) Q
-  looks_within = record {
-    standing = l.standing;
-    families = l.families;
-    flags = l.flags;
-    offers = λ key h. offers_within key;
-    pages = λ slot v. l.pages slot (own_within slot v);
-    same_page = λ slot other v o. l.same_page slot other (own_within slot v) (own_within other o);
-  }
+  looks_within = grind (arith, offers_within, own_within)
 
 -- ---- A member's event does the same there
 
@@ -179,21 +142,10 @@ record Follows (s u v : State) (Q : ℕ → Bool) : Type 0 where
 
 module _ (s : State) (e : Event) (Q : ℕ → Bool) (mine : Q e.pid ≡ true) (keeps : keeps_within Q e.call ≡ true) where
   has_within : HasTheSame (within Q s) s e.pid
-  has_within = record {
-    live = refl;
-    quota = refl;
-    given = refl;
-    children = refl;
-    flags = λ page. refl;
-    pages = λ page. refl;
-    same_page = λ page other. refl;
-    made = λ page target. offer_within Q s (offer_key e.pid page target) mine;
-  }
+  has_within = grind (arith, offer_within)
 
   told_within : answer (within Q s) e ≡ answer s e
-  told_within = process_told (within Q s) s e has_within refl
-      (λ giver page own is. ap is_some (offer_within Q s (offer_key giver page e.pid) (sym (ap (keeps_within Q) is)
-      ∙ keeps)))
+  told_within = process_told _ s e has_within refl (λ giver page own is. ap is_some (grind (arith, offer_within)))
 
   after_within : (c : Call) → keeps_within Q c ≡ true → Follows s (after (within Q s) e.pid c) (after s e.pid c) Q
   after_within (call.Unmap page) h = record {
@@ -265,13 +217,7 @@ module _ (s t : State) (e : Event) (Q : ℕ → Bool) (w : IsWellFormed s) (v : 
       by : (b : Bool) → is_live s p ≡ b → (if b then Q p else Q e.pid) ≡ true
           → (Q p ≡ true) ⊎ ((is_live s p ≡ false) × (is_live t p ≡ false))
       by true is k = inl k
-      by false is k = elim (place_of s e p) [
-        | inl same_place ↦ absurd (let a = ap is_some same_place in let n = kept.0 in let f = is in cc)
-        | inr differs ↦ elim differs [
-          | inl born ↦ inr (is, child_dead t e p (sym (family_told s t e Q l mine keeps finds) ∙ born))
-          | inr gone ↦ absurd (let a = ap is_some gone.2 in let n = kept.0 in cc)
-        ]
-      ]
+      by false is k = grind (arith, (family_told s t e Q l mine keeps finds), (place_of s e p), kept, child_dead)
 
   offers_same : (u : State) → IsWellFormed u → Follows u (next (within Q u) e) (next u e) Q → (key : OfferKey)
       → (Q key.offerer ≡ true) ⊎ (is_live u key.offerer ≡ false)
@@ -287,26 +233,16 @@ module _ (s t : State) (e : Event) (Q : ℕ → Bool) (w : IsWellFormed s) (v : 
       (looks_within s t Q l) mine finds) in
       record {
         standing = λ q h. sym (ap (standing_in q) one.book) ∙ m.standing q h ∙ ap (standing_in q) two.book;
-        families = λ p q hp hq d. sym (ap (λ (b : Book). child_in p q (map.get b q)) one.book) ∙ m.families p q hp hq d
-            ∙ ap (λ (b : Book). child_in p q (map.get b q)) two.book;
-        flags = λ slot h. sym (ap (λ S. option_map flags_of (map.get S slot)) one.spaces) ∙ m.flags slot h
-            ∙ ap (λ S. option_map flags_of (map.get S slot)) two.spaces;
-        offers = λ key h. sym (offers_same s w one key (in_one (offerer_of finds key.offerer h)))
-            ∙ m.offers key (inl h) ∙ offers_same t v two key (in_two (offerer_of finds key.offerer h));
+        families = grind (arith, one, two);
+        flags = grind (arith, one, two);
+        offers = grind (arith, offers_same, one, offerer_of, two);
         pages = λ slot h. sym (ap (λ S. option_map shown_of (map.get S slot)) one.spaces) ∙ m.pages slot (own slot h)
             ∙ ap (λ S. option_map shown_of (map.get S slot)) two.spaces;
         same_page = λ slot other h k.
-            sym (ap (λ S. unwrap_or (option_map (λ (c : Cell). set.contains c.holders other) (map.get S slot)) false)
-            one.spaces) ∙ m.same_page slot other (own slot h) (own other k)
+            sym (grind (arith, one)) ∙ m.same_page slot other (own slot h) (own other k)
             ∙ ap (λ S. unwrap_or (option_map (λ (c : Cell). set.contains c.holders other) (map.get S slot)) false)
             two.spaces;
       }
     where
-      in_one : {A B C : Type 0} → A ⊎ (B × C) → A ⊎ B
-      in_one h = grind arith
-
-      in_two : {A B C : Type 0} → A ⊎ (B × C) → A ⊎ C
-      in_two h = grind arith
-
       own : (slot : Slot) → D slot.pid ≡ true → Sees (next (within Q s) e) D slot
       own slot h = grind (arith, eq-eqb)

@@ -4,10 +4,10 @@ use Prelude.{◌≡◌, ◌≢◌, ℕ, ◌≤◌, Bool, true, false, cond, not,
 use Prelude.{subst, ◌∙◌, is_some, Option, Some, None, unwrap_or, arith, inl, inr, ◌⊎◌, if◌then◌else◌, option_map}
 use Prelude.{ne_eqb, map-append, list_any-append, Set, same_map, same_set, get-retain_keys, contains-retain, some_value}
 use Prelude.{get-remove, get-remove_other, Slot, slot_order, Cell, Spaces, without, with_holders, is_of, left}
-use Prelude.{get-without, Book, Member, is_child, given, quota_of, number_of_children, given-remove, without_process}
-use Prelude.{State, is_live, after_exit, View, IsWellFormed, exit_of, exits, Descends, itself, child, ungrouped}
-use Prelude.{EndsFamily, is_child_of, answer, answers, next, end_of, completes, ended_by, Ends, EndAlong, Event, Ended}
-use Prelude.{eqb-true, eq-eqb, or-true, and-true, or-false}
+use Prelude.{get-without, Member, is_child, given, quota_of, number_of_children, given-remove, without_process, State}
+use Prelude.{is_live, after_exit, View, IsWellFormed, exit_of, exits, Descends, itself, child, ungrouped, EndsFamily}
+use Prelude.{is_child_of, answer, answers, next, end_of, completes, ended_by, Ends, EndAlong, Event, Ended, eqb-true}
+use Prelude.{eq-eqb, or-true, and-true, or-false}
 use Rattle.kernel_calls.specs.Acts.{all_done, is_among, ChildrenFirst, without_processes}
 use Rattle.std.specs.Cmp.{unsigned_tied}
 use Rattle.kernel_calls.proofs.Decided.{next-goes}
@@ -37,27 +37,17 @@ descends_live {s} live (child {q = a} {r = b} d c) = ap is_some (child_entry s a
 
 pub descends_quota : {s : State} {p q : ℕ} → IsWellFormed s → Descends s p q → quota_of s.book q ≤ quota_of s.book p
 descends_quota w itself = omega arith
-descends_quota {s} w (child {q = a} {r = b} d c) =
-    let rest = descends_quota w d in
-    let less = quota_below s a b w c in
-    omega (arith, rest, less)
+descends_quota {s} w (child {q = a} {r = b} d c) = grind (arith, (quota_below s a b w c), (descends_quota w d))
 
 -- the parent of a descendant descends too
 pub descends_parent : {s : State} {p q : ℕ} → q ≢ p → (m : Member) → map.get s.book q ≡ Some m → Descends s p q → Descends s p m.parent
 descends_parent n m at itself = absurd (n refl)
-descends_parent {s} {p} n m at (child {q = a} {r = b} d c) =
-    let e = child_entry s a b c in
-    let same : Some e.member ≡ Some m = sym e.at ∙ at in
-    let parent : a ≡ m.parent = sym e.parent ∙ (let k : e.member ≡ m = cc in ap (λ (x : Member). x.parent) k) in
-    subst (λ n. Descends s p n) parent d
+descends_parent {s} {p} n m at (child {q = a} {r = b} d c) = grind arith
 
 -- from who has no child nobody else descends
 pub descends_alone : {s : State} {p q : ℕ} → ((r : ℕ) → is_child_of s p r ≡ false) → Descends s p q → q ≡ p
 descends_alone none itself = refl
-descends_alone {s} none (child {q = a} {r = b} d c) = absurd (
-    let same = descends_alone none d in
-    let no : is_child_of s a b ≡ false = ap (λ x. is_child_of s x b) same ∙ none b in
-    cc)
+descends_alone {s} none (child {q = a} {r = b} d c) = grind (arith, (descends_alone none d))
 
 -- without one that has no child all others descend as before
 pub descends_less : (s t : State) (a : ℕ) → t.book ≡ map.remove s.book a → ((r : ℕ) → is_child_of s a r ≡ false)
@@ -68,10 +58,7 @@ descends_less s t a is none {p} (child {q = x} {r = y} d c) = by (descends_less 
     by : (x ≡ a) ⊎ Descends t p x → (b : Bool) → (y == a) ≡ b → (y ≡ a) ⊎ Descends t p y
     by (inl same) b h = absurd (let no : is_child_of s x y ≡ false = ap (λ n. is_child_of s n y) same ∙ none y in cc)
     by (inr d') true h = inl (eqb-true y a h)
-    by (inr d') false h = inr (child {q = x} {r = y} d' (
-        ap (λ (b : Book). unwrap_or (option_map (λ (m : Member). is_child x (y, m)) (map.get b y)) false) is
-        ∙ ap (λ (o : Option Member). unwrap_or (option_map (λ (m : Member). is_child x (y, m)) o) false) (get-remove_other s.book a y (apart h))
-        ∙ c))
+    by (inr d') false h = inr (child {q = x} {r = y} d' (grind (arith, get-remove_other)))
       where
         apart : (y == a) ≡ false → y ≢ a
         apart h e = absurd (let k : (y == a) ≡ true = eq-eqb y a e in cc)
@@ -93,11 +80,7 @@ module _ (S : Spaces) (first second : Slot → Bool) where
       ∙ sym (contains-retain h (λ x. not (all x)) x))
 
   two : (b c : Bool) (x : Option Cell) → cond (not c) (option_map (left second) (cond (not b) (option_map (left first) x) None)) None ≡ cond (not (b || c)) (option_map (left all) x) None
-  two true true x = refl
-  two true false x = refl
-  two false true x = refl
-  two false false None = refl
-  two false false (Some c) = ap (λ h. Some (with_holders c h)) (fewer c.holders)
+  two b c x = grind (arith, fewer)
 
   pub without_both : without (without S first) second ≡ without S all
   without_both = same_map _ _ (λ q.
@@ -164,8 +147,7 @@ along_more [] [] v w u e x along is state ends =
     (u, is ∙ ap (λ k. ended_by k e) (sym along), state ∙ ap (λ (k : View). next k.state e) (sym along), subst (λ k. Ends x k u) (sym along) ends, refl)
 along_more (f ∷ events) (y ∷ ended) v w u e x along is state ends =
     (along.0, along.1, along.2, along.3, along_more events ended along.0 w u e x along.4 is state ends)
-along_more [] (y ∷ ended) v w u e x along is state ends = absurd along
-along_more (f ∷ events) [] v w u e x along is state ends = absurd along
+along_more _ _ v w u e x along is state ends = grind arith
 
 first_more : (s : State) (order : List ℕ) (a : ℕ) → ChildrenFirst s order → ((q : ℕ) → is_among order q ≡ true → is_child_of s q a ≡ false)
     → ChildrenFirst s (order ++ a ∷ [])

@@ -4,10 +4,10 @@ use Prelude.{◌≡◌, ℕ, zero, suc, ◌+◌, ◌<◌, ◌≤◌, ◌/◌, �
 use Prelude.{Some, None, arith, inl, inr, ◌⊎◌, if◌then◌else◌, IfSome, option_map, page_number, offset_number}
 use Prelude.{second_page, page_and, touched, Size, Set, get-map_values, some_value, same_cases, Slot, slot_order, Cell}
 use Prelude.{Spaces, at_page, slot_at, cell_or_fresh, bytes_of, with_page, with_pages, with_bytes, with_holders}
-use Prelude.{set_holders, set_bytes, write_at, accessed, stored, all_accessed, all_stored, without, is_slot, is_of}
-use Prelude.{copied-other, with_page-keeps, left, get-without, State, is_mapped, child_of, fork_refusal, offered}
-use Prelude.{IsWellFormed, fork_free, live_differ, get-inserted_other, Flags, flags_of, flags_at, Maps, FlagsChange}
-use Prelude.{answer, answer_of, after, next, completes, Call, Event}
+use Prelude.{set_holders, set_bytes, write_at, accessed, stored, all_accessed, all_stored, without, copied-other}
+use Prelude.{with_page-keeps, left, get-without, State, is_mapped, child_of, fork_refusal, offered, IsWellFormed}
+use Prelude.{fork_free, live_differ, get-inserted_other, Flags, flags_of, flags_at, Maps, FlagsChange, answer}
+use Prelude.{answer_of, after, next, completes, Call, Event}
 use Rattle.kernel_calls.proofs.Decided.{next-stays, next-goes}
 use Rattle.kernel_calls.proofs.Effects.{Touches, first_touched, second_touched}
 use Rattle.kernel_calls.proofs.Runs.{not-refused}
@@ -114,11 +114,6 @@ module _ (s : State) (e : Event) (slot : Slot) (w : IsWellFormed s) (was : is_ma
 
   flags_by : (c : Call) → completes (answer_of s e.pid c) ≡ true
       → map.contains_key (after s e.pid c).spaces slot ≡ true → Stays c
-  flags_by (call.Load address size) h now = grind (arith, accessed_flags, pages_flags)
-  flags_by (call.Store address size value) h now = grind (arith, stored_flags, pages_flags)
-  flags_by (call.Map page write) h now = grind (arith, insert_flags)
-  flags_by (call.Unmap page) h now = inl (without_flags (is_slot e.pid page) now)
-  flags_by (call.Protect page write) h now = grind (arith, insert_flags)
   flags_by (call.Accept giver giver_page page) h now =
       let c : Cell = cell_or_fresh s.spaces (at_page giver giver_page) in
       let holders = set.insert c.holders (at_page e.pid page) in
@@ -144,8 +139,7 @@ module _ (s : State) (e : Event) (slot : Slot) (w : IsWellFormed s) (was : is_ma
       let free = fork_free s e.pid quota (not-refused (fork_refusal s e.pid quota) _ h) in
       inl (ap (option_map flags_of) (copied-other s.spaces e.pid (child_of s) slot
       (live_differ s slot.pid (child_of s) (w.owners slot c.0 c.1) free)))
-  flags_by call.Exit h now = inl (without_flags (is_of e.pid) now)
-  flags_by _ h now = inl refl
+  flags_by _ h now = grind (arith, accessed_flags, pages_flags, stored_flags, insert_flags, without_flags)
 
 pub flags_change : FlagsChange
 flags_change s e slot w was now = by (completes (answer s e)) refl

@@ -143,13 +143,20 @@ module _ (flag : Cell → Bool) (F : IsFlag flag) where
   pub keeps_call : (s : State) (p : ℕ) (c : Call) (q : Slot) → IsWellFormed s → completes (answer_of s p c) ≡ true
       → Spared s p c q
       → has flag (map.get s.spaces q) ≡ true → has flag (map.get (after s p c).spaces q) ≡ true
-  keeps_call s p (call.Load addr size) q w goes spared h = grind (arith, keeps_all_accessed, keeps_pages)
-  keeps_call s p (call.Store addr size value) q w goes spared h = grind (arith, keeps_all_stored, keeps_pages)
-  keeps_call s p (call.Map page write) q w goes spared h = grind (arith, keeps_new, may_map, not-refused)
-  keeps_call s p (call.Unmap page) q w goes spared h = keeps_without s.spaces (is_slot p page) q spared h
-  keeps_call s p (call.Protect page write) q w goes spared h = grind (arith, keeps_protected)
   keeps_call s p (call.Accept giver giver_page page) q w goes spared h =
       grind (arith, keeps_joined, may_accept, not-refused)
-  keeps_call s p (call.Fork quota) q w goes spared h = grind (arith, keeps_copied, no_page, fork_free, not-refused)
-  keeps_call s p call.Exit q w goes spared h = keeps_without s.spaces (is_of p) q spared h
-  keeps_call s p _ q w goes spared h = h
+  keeps_call s p _ q w goes spared h =
+      grind (
+        arith,
+        keeps_all_accessed,
+        keeps_pages,
+        keeps_all_stored,
+        keeps_new,
+        may_map,
+        not-refused,
+        keeps_without,
+        keeps_protected,
+        keeps_copied,
+        no_page,
+        fork_free,
+      )

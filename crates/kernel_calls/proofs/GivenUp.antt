@@ -6,7 +6,7 @@ use Prelude.{same_cases, get-removed, get-remove_other, Slot, slot_order, Cell, 
 use Prelude.{at_page, left, get-without, Member, is_child, given-remove, OfferKey, offer_order, offer_key, State}
 use Prelude.{exit_refusal, after_unmap, after_exit, may_offer, HasExited, ExitsEnd, HasLeft, UnmapsEnd, Settles}
 use Prelude.{OffersEnd, IsLeave, OffersStay, answer, answer_of, after, next, completes, Call, Event, eqb-true, eq-eqb}
-use Rattle.kernel_calls.proofs.Decided.{next-stays, next-goes}
+use Rattle.kernel_calls.proofs.Decided.{by_next, next-goes}
 use Rattle.kernel_calls.proofs.Runs.{not-refused}
 use Rattle.kernel_calls.proofs.Untouched.{caller_live}
 use Rattle.page_words.specs.FiniteMap as map
@@ -125,8 +125,5 @@ module _ (s : State) (e : Event) (key : OfferKey) (right : Bool) (at : map.get s
   after_stays _ is h = inl at
 
 pub offers_stay : OffersStay
-offers_stay s e key right at = by (completes (answer s e)) refl
-  where
-    by : (b : Bool) → completes (answer s e) ≡ b → Stays s (next s e) e key right
-    by true h = grind (arith, next-goes, after_stays, caller_live)
-    by false h = inl (ap (λ (t : State). map.get t.offers key) (next-stays s e h) ∙ at)
+offers_stay s e key right at = by_next (λ t. Stays s t e key right) s e (inl at)
+    (λ live h. after_stays s e key right at e.call refl h)

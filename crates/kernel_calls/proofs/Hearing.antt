@@ -1,9 +1,9 @@
 -- Members of a set that make the same calls in two runs get the same replies, if outsiders use no channel.
 use Rattle.kernel_calls.proofs.Prelude
-use Prelude.{◌≡◌, ℕ, ◌&&◌, Bool, true, false, List, [], ◌∷◌, refl, sym, ap, subst, ◌∙◌, is_some, inl, inr, arith}
-use Prelude.{if◌then◌else◌, State, is_live, IsWellFormed, LooksSame, found, members_after, members_at_end, IsQuiet}
-use Prelude.{Along, Heard, heard, AskAlike, MembersHearTheSame, HaveTheSame, KeepsWithin, IsFamily}
-use Prelude.{FamiliesHearTheirOwn, FamiliesEndTheSame, exchanges, answer, next, end_of, Event, and_parts}
+use Prelude.{◌≡◌, ℕ, ◌&&◌, Bool, true, false, List, [], ◌∷◌, refl, sym, ap, subst, ◌∙◌, arith, if◌then◌else◌, State}
+use Prelude.{is_live, IsWellFormed, LooksSame, found, members_after, members_at_end, IsQuiet, Along, Heard, heard}
+use Prelude.{AskAlike, MembersHearTheSame, HaveTheSame, KeepsWithin, IsFamily, FamiliesHearTheirOwn, FamiliesEndTheSame}
+use Prelude.{exchanges, answer, next, end_of, Event, and_parts}
 use Rattle.kernel_calls.proofs.Outsiders.{outsiders_unseen}
 use Rattle.kernel_calls.proofs.Standings.{live_in}
 use Rattle.kernel_calls.proofs.Runs.{kept-next}
@@ -80,16 +80,7 @@ module _ (View : State → State → (ℕ → Bool) → Type 0) (Stands : State 
             ∙ now
 
         by : (b : Bool) → is_live s p ≡ b → (if b then Q p else Q e.pid) ≡ true → members_after t Q e p ≡ true
-        by true is old = (λ i. now_too i && (if (sym (lives s t Q l p old) ∙ is) i then Q p else Q e.pid)) ∙ old
-        by false is new = elim (places_stay s e p) [
-          | inl same_place ↦ absurd (let a = ap is_some same_place in let n = now in let f = is in cc)
-          | inr differs ↦ elim differs [
-            | inl born ↦ (
-                let dead = child_dead t e p (sym (told s t e Q l good mine finds) ∙ born) in
-                (λ i. now_too i && (if dead i then Q p else Q e.pid)) ∙ mine)
-            | inr gone ↦ absurd (let a = alive s Q w e.pid mine in let b = ap (is_live s) gone.0 in let f = is in cc)
-          ]
-        ]
+        by b is old = grind (arith, now_too, places_stay, now, child_dead)
 
   -- the law, at the events of the first run
   abbrev Hear : List Event → Type 0
@@ -118,21 +109,7 @@ module _ (View : State → State → (ℕ → Bool) → Type 0) (Stands : State 
   ends : (others : List Event) (s t : State) (Q : ℕ → Bool) → Stands t Q → View s t Q → Along IsGood t Q others
       → AskAlike [] (heard t Q (exchanges t others)) → View s (end_of t others) Q
   ends [] s t Q v l good alike = l
-  ends (o ∷ os) s t Q v l good alike = by (ends os) (Q o.pid) refl alike
-    where
-      by : ((s t : State) (Q : ℕ → Bool) → Stands t Q → View s t Q → Along IsGood t Q os
-          → AskAlike [] (heard t Q (exchanges t os)) → View s (end_of t os) Q)
-          → (b : Bool) → Q o.pid ≡ b
-          → AskAlike [] (if b then first_of t o ∷ heard (next t o) (members_after t Q o) (exchanges (next t o) os)
-          else heard (next t o) (members_after t Q o) (exchanges (next t o) os))
-          → View s (end_of (next t o) os) Q
-      by go_on true is h = absurd h
-      by go_on false out h =
-          go_on s (next t o) Q (stands_later t o os Q v out good)
-          (onward s t (next t o) Q l (unseen t o os Q v out good))
-          (good_later t o os Q v out good)
-          (subst (λ D. AskAlike [] (heard (next t o) D (exchanges (next t o) os)))
-          (same_set_then t o os Q v out good) h)
+  ends (o ∷ os) s t Q v l good alike = grind (arith, stands_later, unseen, good_later, same_set_then, (ends os))
 
   -- a member's event at the head of the first run: the second comes to it
   module _ (events : List Event) (law : Hear events) (s : State) (e : Event) (Q : ℕ → Bool) (w : Stands s Q)
@@ -176,10 +153,7 @@ module _ (View : State → State → (ℕ → Bool) → Type 0) (Stands : State 
           good_too = subst (IsGood t Q) (sym same_event) good_o
 
           both : (p : ℕ) (a b : Bool) → members_after s Q e p ≡ a → members_after t Q e p ≡ b → a ≡ b
-          both p true true x y = refl
-          both p false false x y = refl
-          both p true false x y = sym (too s t e Q w v mine l good finds p x) ∙ y
-          both p false true x y = sym x ∙ too t s e Q v w mine (back s t Q l) good_too (sym finds) p y
+          both p _ _ x y = grind (arith, too)
 
           sets : members_after s Q e ≡ members_after t Q e
           sets = λ i. λ p. both p (members_after s Q e p) (members_after t Q e p) refl refl i
@@ -191,14 +165,7 @@ module _ (View : State → State → (ℕ → Bool) → Type 0) (Stands : State 
 
           later : (heard (next s e) (members_after s Q e) (exchanges (next s e) events) ≡ heard (next t e)
               (members_after s Q e) (exchanges (next t e) os)) × EndsWith (end_of (next t e) os)
-          later =
-              law (next s e) (next t e) (members_after s Q e) os (lasts s Q e w good)
-              (subst (λ D. Stands (next t e) D) (sym sets) (lasts t Q e v good_too))
-              after good_s
-              (subst (λ D. Along IsGood (next t e) D os) (sym sets)
-              (subst (λ (x : Event). Along IsGood (next t x) (members_after t Q x) os) (sym same_event) good_t))
-              (subst (λ xs. AskAlike (heard (next s e) (members_after s Q e) (exchanges (next s e) events)) xs) heard_is
-              (alike.2 same_first))
+          later = grind (arith, sets, good_too, after, same_event, heard_is, same_first)
 
       comes : (others : List Event) (t : State) → Stands t Q → View s t Q → Along IsGood t Q others
           → AskAlike first (heard t Q (exchanges t others))
@@ -216,13 +183,13 @@ module _ (View : State → State → (ℕ → Bool) → Type 0) (Stands : State 
               else heard (next t o) (members_after t Q o) (exchanges (next t o) os))) × EndsWith (end_of (next t o) os)
           by go_on true is h = meets t o os v l good_t.0 good_t.1 h
           by go_on false out h =
-              let same_later = ap (λ D. heard (next t o) D (exchanges (next t o) os))
-              (same_set_then t o os Q v out good_t) in
-              let rest = go_on (next t o) (stands_later t o os Q v out good_t)
-              (onward s t (next t o) Q l (unseen t o os Q v out good_t))
-              (good_later t o os Q v out good_t)
-              (subst (λ xs. AskAlike first xs) same_later h) in
-              (rest.0 ∙ sym same_later, rest.1)
+              grind (
+                arith,
+                (same_set_then t o os Q v out good_t),
+                (stands_later t o os Q v out good_t),
+                (good_later t o os Q v out good_t),
+                (unseen t o os Q v out good_t),
+              )
 
   pub hear_the_same : (events : List Event) → Hear events
   hear_the_same [] s t Q others w v l good good_t alike = grind (arith, nothing_heard, ends)
@@ -236,15 +203,12 @@ module _ (View : State → State → (ℕ → Bool) → Type 0) (Stands : State 
           × View (end_of (next s e) events) (end_of t others) (members_at_end (next s e) (members_after s Q e) events)
       by law true mine h = comes events law s e Q w mine good.0 good.1 others t v l good_t h
       by law false out h =
-          let same_later = ap (λ D. heard (next s e) D (exchanges (next s e) events))
-          (same_set_then s e events Q w out good) in
-          let rest = law (next s e) t Q others (stands_later s e events Q w out good) v
-          (onward (next s e) s t Q (back s (next s e) Q (unseen s e events Q w out good)) l)
-          (good_later s e events Q w out good) good_t
-          (subst (λ xs. AskAlike xs (heard t Q (exchanges t others))) same_later h) in (
-            same_later ∙ rest.0,
-            subst (λ D. View (end_of (next s e) events) (end_of t others) (members_at_end (next s e) D events))
-                (sym (same_set_then s e events Q w out good)) rest.1,
+          grind (
+            arith,
+            (same_set_then s e events Q w out good),
+            (stands_later s e events Q w out good),
+            (good_later s e events Q w out good),
+            (unseen s e events Q w out good),
           )
 
 -- ---- What members see, where outsiders use no channel

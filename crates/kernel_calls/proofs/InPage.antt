@@ -1,10 +1,13 @@
 -- An access that is carried out in one step: its reply and the state after it are the definition's.
-use Rattle.kernel_calls.proofs.Prelude.{◌≡◌, ℕ, true, ap, sym, ◌∙◌, Err, arith, Result, Ok, Size, FramesStay}
-use Rattle.kernel_calls.proofs.Prelude.{stays_more, Access, access_value, View, lazy_written, plan_of, settled}
-use Rattle.kernel_calls.proofs.Prelude.{access_result, Plan, call_of, reply_to, gone_by, answer, answer_of, completes}
-use Rattle.kernel_calls.proofs.Prelude.{planned_or, Event, Reply, Image}
+use Rattle.kernel_calls.proofs.Prelude.{◌≡◌, ℕ, true, false, ap, sym, ◌∙◌, Err, arith, Result, Ok, IsOk, IsErr, Size}
+use Rattle.kernel_calls.proofs.Prelude.{FramesStay, Slot, memory_of, after, gone_of_call, Access, access_value, View}
+use Rattle.kernel_calls.proofs.Prelude.{lazy_written, plan_of, settled, access_result, Plan, call_of, reply_to, answer}
+use Rattle.kernel_calls.proofs.Prelude.{answer_of, completes, planned_or, Event, Reply}
 use Rattle.fault_handler.specs.declared.plans.Stop.{Stop}
+use Rattle.process_table.specs.Calls.{after_access}
+use Rattle.kernel_calls.specs.Replied.{IsReplied}
 use Rattle.kernel_calls.proofs.Planned.{same_reply}
+use Rattle.kernel_calls.proofs.Tried.{is_replied}
 use Rattle.process_table.specs.declared.causes.Cause.TheVariants as cause
 use Rattle.fault_handler.specs.declared.plans.Stop.TheVariants as stop
 use Rattle.kernel_calls.specs.declared.calls.Reply.TheVariants as reply
@@ -31,9 +34,23 @@ module _ (v : View) (e : Event) (address : ℕ) (size : Size) (access : Access) 
   told : answer v.state e ≡ reply_by access (access_result v e.pid address size access)
   told = grind (arith, of_call, same_reply, of_plan)
 
-  -- the answer is told of what became of it
-  pub answer_is : (r : Result ℕ Stop) → r ≡ access_result v e.pid address size access → reply_by access r ≡ answer v.state e
-  answer_is r is = ap (reply_by access) is ∙ sym told
+  -- what is shown of it, by what became of it
+  pub is_accessed : (w : View) (r : Result ℕ Stop) (q : Reply) → r ≡ access_result v e.pid address size access
+      → (IsOk r → w.state ≡ after_access v.state e.pid address size access value)
+      → FramesStay (lazy_written access e.pid address size) (memory_of v) (memory_of w) → (IsErr r → w ≡ v)
+      → q ≡ reply_by access r → IsReplied v e q w
+  is_accessed w r q result state =
+      is_replied (reply_by access) (value_goes access) (stops access) v w e (call_of access address size value)
+      (lazy_written access e.pid address size) r q is (goes access) (ap (reply_by access) result ∙ sym told)
+      (λ ok. state ok ∙ there access)
+    where
+      stops : (a : Access) (k : Stop) → completes (reply_by a (Err k)) ≡ false
+      stops a k = grind arith
 
-  pub stay_is : (a b : Image) → completes (answer v.state e) ≡ true → FramesStay (lazy_written access e.pid address size) a b → FramesStay (gone_by v.state e) a b
-  stay_is a b goes stay = grind (arith, stays_more)
+      goes : (a : Access) (slot : Slot) (f : ℕ)
+          → gone_of_call e.pid (call_of a address size value) slot f ≡ lazy_written a e.pid address size slot f
+      goes a slot f = grind arith
+
+      there : (a : Access) → after_access v.state e.pid address size a value
+          ≡ after v.state e.pid (call_of a address size value)
+      there a = grind arith

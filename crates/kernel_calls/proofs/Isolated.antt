@@ -2,22 +2,19 @@
 use Rattle.kernel_calls.proofs.Prelude
 use Prelude.{◌≡◌, ◌≢◌, ℕ, ◌==◌, Bool, true, false, refl, sym, ap, subst, ◌∙◌, List, [], ◌∷◌, ◌++◌, length, map, filter}
 use Prelude.{take, drop, zero, suc, ◌+◌, add-one, Some, arith, if◌then◌else◌, slice_get, eqb-true, eqb-false, All-head}
-use Prelude.{All-tail, same_Some, Size, Cell, cost, cell_or_fresh, at_page, given, quota_of, Access, Read, Write}
-use Prelude.{IsApart, AreAlike, Held, pages_held, alone_with, State, is_live, child_of, map_refusal, unmap_refusal}
-use Prelude.{protect_refusal, offer_refusal, withdraw_refusal, accept_refusal, spawn_refusal, fork_refusal}
-use Prelude.{exit_refusal, loaded, after_spawn, after_fork, IsWellFormed, spawn_alike, fork_alike, plan_of, exchanges}
-use Prelude.{quota_asked, answer, answer_of, answers, after, next, end_of, completes, refused_or, planned_or, info_of}
-use Prelude.{Call, Event, Reply}
+use Prelude.{All-tail, same_Some, Size, Access, Read, Write, IsApart, AreAlike, pages_held, alone_with, State, is_live}
+use Prelude.{child_of, accept_refusal, spawn_refusal, fork_refusal, after_spawn, after_fork, IsWellFormed, spawn_alike}
+use Prelude.{fork_alike, plan_of, exchanges, quota_asked, answer, answer_of, answers, after, next, end_of, completes}
+use Prelude.{planned_or, Call, Event, Reply}
 use Rattle.process_table.proofs.ApartOthers.{load_leaves, store_leaves, map_leaves, unmap_leaves, protect_leaves}
 use Rattle.process_table.proofs.ApartOthers.{offer_leaves, withdraw_leaves, accept_leaves, spawn_leaves, fork_leaves}
 use Rattle.process_table.proofs.ApartOthers.{exit_leaves}
 use Rattle.kernel_calls.specs.Isolation.{Exchange, own, is_exit, involves_others, events_in, calls_of, replies_of}
 use Rattle.kernel_calls.specs.Isolation.{InvolvesNobody, solo, pages_given, RunsAreIsolated, OthersMakeNoDifference}
-use Rattle.process_table.proofs.Apart.{mapped_alike, cost_alike, given_alike, lacks_room_alike, cell_alike, group_alike}
-use Rattle.process_table.proofs.Apart.{loaded_alike, map_refusal_alike, unmap_refusal_alike, protect_refusal_alike}
-use Rattle.process_table.proofs.Apart.{withdraw_refusal_alike, exit_refusal_alike, map_alike, protect_alike, load_alike}
+use Rattle.process_table.proofs.Apart.{mapped_alike, cost_alike, given_alike, lacks_room_alike, cell_alike}
+use Rattle.process_table.proofs.Apart.{loaded_alike, map_refusal_alike, map_alike, protect_alike, load_alike}
 use Rattle.process_table.proofs.Apart.{store_alike, unmap_alike, withdraw_alike}
-use Rattle.kernel_calls.proofs.Decided.{next-stays, next-goes}
+use Rattle.kernel_calls.proofs.Decided.{by_next, next-stays, next-goes}
 use Rattle.kernel_calls.proofs.Runs.{not-refused, kept-next, kept-run}
 use Rattle.page_words.specs.FiniteMap as map
 use Rattle.process_table.specs.declared.causes.Cause.TheVariants as cause
@@ -35,17 +32,8 @@ module _ (s t : State) (p q : ℕ) (a : AreAlike s p t q) where
   answer_of_alike : (c : Call) → involves_others c ≡ false → answer_of s p c ≡ answer_of t q c
   answer_of_alike (call.Load addr size) h = λ i. planned_or (plan_alike addr size Read i) (reply.Value (loaded_alike s t p q a addr size i))
   answer_of_alike (call.Store addr size value) h = λ i. planned_or (plan_alike addr size Write i) reply.Done
-  answer_of_alike (call.Map page write) h = λ i. refused_or (map_refusal_alike s t p q a page i) reply.Done
-  answer_of_alike (call.Unmap page) h = λ i. refused_or (unmap_refusal_alike s t p q a page i) reply.Done
-  answer_of_alike (call.Protect page write) h = λ i. refused_or (protect_refusal_alike s t p q a page write i) reply.Done
-  answer_of_alike (call.Info page) h = λ i. refused_or (protect_refusal_alike s t p q a page false i) (told (cell_alike s t p q a page i) (group_alike s t p q a page i))
-    where
-      told : Held → ℕ → Reply
-      told cell size = reply.Info cell.write cell.may cell.accessed cell.dirty size
-  answer_of_alike (call.Withdraw page target) h = λ i. refused_or (withdraw_refusal_alike s t p q a page target i) reply.Done
-  answer_of_alike call.Exit h = λ i. refused_or (exit_refusal_alike s t p q a i) reply.Done
-  answer_of_alike call.Quota h = λ i. reply.Quota (a.quota i) (cost_alike s t p q a i) (given_alike s t p q a i)
-  answer_of_alike _ h = cc
+  answer_of_alike _ h =
+      grind (arith, map_refusal_alike, cost_alike, given_alike)
 
   after_alike : (c : Call) → involves_others c ≡ false → is_exit c ≡ false → AreAlike (after s p c) p (after t q c) q
   after_alike (call.Load addr size) h stays = load_alike s t p q addr size a
@@ -55,8 +43,7 @@ module _ (s t : State) (p q : ℕ) (a : AreAlike s p t q) where
   after_alike (call.Protect page write) h stays = protect_alike s t p q a page write
   after_alike (call.Info page) h stays = a
   after_alike (call.Withdraw page target) h stays = withdraw_alike s t p q page target a
-  after_alike call.Quota h stays = a
-  after_alike _ h stays = cc
+  after_alike _ h stays = grind arith
 
 -- two alike processes are told the same, whatever CPU they call on
 pub answer_alike : (s t : State) (e f : Event) → AreAlike s e.pid t f.pid → e.call ≡ f.call → involves_others e.call ≡ false → answer s e ≡ answer t f
@@ -96,11 +83,7 @@ after_leaves s p q call.Exit w a d live h = exit_leaves s p q a d live
 after_leaves s p q _ w a d live h = alike_itself s p a
 
 pub next_leaves : (s : State) (p : ℕ) (e : Event) → IsWellFormed s → IsApart s p → e.pid ≢ p → AreAlike s p (next s e) p
-next_leaves s p e w a d = by (completes (answer s e)) refl
-  where
-    by : (b : Bool) → completes (answer s e) ≡ b → AreAlike s p (next s e) p
-    by true h = let l = caller_live s e h in subst (λ t. AreAlike s p t p) (sym (next-goes s e h)) (after_leaves s p e.pid e.call w a d l.0 l.1)
-    by false h = subst (λ t. AreAlike s p t p) (sym (next-stays s e h)) (alike_itself s p a)
+next_leaves s p e w a d = by_next (λ t. AreAlike s p t p) s e (alike_itself s p a) (after_leaves s p e.pid e.call w a d)
 
 -- ---- A run
 
@@ -198,32 +181,13 @@ done_not : (k : ℕ) → reply.Done ≡ reply.Child k → ⊥
 done_not k h = cc
 
 made : (root : ℕ) (s : State) (p : ℕ) (c : Call) (k : ℕ) → IsWellFormed s → is_live s p ≡ true → answer_of s p c ≡ reply.Child k → IsMade root s p c k
-made root s p (call.Load addr size) k w live h = absurd (value_not (loaded s p addr size) k (planned_child (plan_of s p addr size Read) (reply.Value (loaded s p addr size)) k h))
-  where
-    value_not : (v k : ℕ) → reply.Value v ≡ reply.Child k → ⊥
-    value_not v k h = cc
-made root s p (call.Store addr size value) k w live h = absurd (done_not k (planned_child (plan_of s p addr size Write) reply.Done k h))
-made root s p (call.Map page write) k w live h = absurd (done_not k (refused_child (map_refusal s p page) reply.Done k h).1)
-made root s p (call.Unmap page) k w live h = absurd (done_not k (refused_child (unmap_refusal s p page) reply.Done k h).1)
-made root s p (call.Protect page write) k w live h = absurd (done_not k (refused_child (protect_refusal s p page write) reply.Done k h).1)
-made root s p (call.Info page) k w live h = absurd (info_not (cell_or_fresh s.spaces (at_page p page)) k (refused_child (protect_refusal s p page false) (info_of (cell_or_fresh s.spaces (at_page p page))) k h).1)
-  where
-    info_not : (c : Cell) (k : ℕ) → info_of c ≡ reply.Child k → ⊥
-    info_not c k h = cc
-made root s p (call.Offer page target write) k w live h = absurd (done_not k (refused_child (offer_refusal s p page target write) reply.Done k h).1)
-made root s p (call.Withdraw page target) k w live h = absurd (done_not k (refused_child (withdraw_refusal s p page target) reply.Done k h).1)
-made root s p (call.Accept giver giver_page page) k w live h = absurd (done_not k (refused_child (accept_refusal s p giver giver_page page) reply.Done k h).1)
 made root s p (call.Spawn quota) k w live h =
     let n = refused_child (spawn_refusal s p quota) (reply.Child (child_of s)) k h in
     subst (λ c. AreAlike (after_spawn s p quota) c (alone_with root quota map.empty) 1) (child_value (child_of s) k n.1) (spawn_alike s p root quota w live n.0)
 made root s p (call.Fork quota) k w live h =
     let n = refused_child (fork_refusal s p quota) (reply.Child (child_of s)) k h in
     subst (λ c. AreAlike (after_fork s p quota) c (alone_with root quota (pages_held s p)) 1) (child_value (child_of s) k n.1) (fork_alike s p root quota w live n.0)
-made root s p call.Exit k w live h = absurd (done_not k (refused_child (exit_refusal s p) reply.Done k h).1)
-made root s p call.Quota k w live h = absurd (quota_not (quota_of s.book p) (cost s.spaces p) (given s.book p) k h)
-  where
-    quota_not : (q u g k : ℕ) → reply.Quota q u g ≡ reply.Child k → ⊥
-    quota_not q u g k h = cc
+made root s p _ k w live h = grind (arith, done_not, planned_child, refused_child)
 
 child_alike : (root : ℕ) (s : State) (e : Event) (p : ℕ) → IsWellFormed s → answer s e ≡ reply.Child p → AreAlike (next s e) p (alone_with root (quota_asked e.call) (pages_given s e.pid e.call)) 1
 child_alike root s e p w h =

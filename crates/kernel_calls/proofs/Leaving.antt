@@ -89,36 +89,30 @@ nothing_ends v w now later state stay =
 
 -- what is given stays given, where it isn't invalidated
 given_stays : (ended : Ended) (v w : View) (t : Translation) → Ends ended v w → is_ended ended t.slot ≡ false → IsGiven v t → IsGiven w t
-given_stays ended v w t ends spared given = record {
-  page = given.page;
-  directory = given.directory;
-  live = (ends.translations t.slot.pid given.directory first t.frame Read first_small (at first first_page) (given.live, given.read first first_small first_page)).0;
-  read = λ a small page. (ends.translations t.slot.pid given.directory a t.frame Read small (at a page) (given.live, given.read a small page)).1;
-  written = λ w a small page. (ends.translations t.slot.pid given.directory a t.frame Write small (at a page) (given.live, given.written w a small page)).1;
-  cell = there.0;
-  mapped = there.1;
-  accessed = (ends.flags t.slot given.cell there.0 given.mapped there.1).0 given.accessed;
-  dirty = λ kept. (ends.flags t.slot given.cell there.0 given.mapped there.1).1 (given.dirty kept);
-}
+given_stays ended v w t ends spared given =
+    let first : ℕ = start_number t.slot.page in
+    let first_small : first < 2 ^ 32 = let l = given.page in omega (arith, l) in
+    let first_page : page_number first ≡ t.slot.page = omega arith in
+    let there : (d : Cell) × (map.get w.state.spaces t.slot ≡ Some d) = some_cell (map.get w.state.spaces t.slot)
+    (ends.slots t.slot spared (ap is_some given.mapped)) in
+    record {
+      page = given.page;
+      directory = given.directory;
+      live = (ends.translations t.slot.pid given.directory first t.frame Read first_small (at first first_page) (given.live, given.read first first_small first_page)).0;
+      read = λ a small page. (ends.translations t.slot.pid given.directory a t.frame Read small (at a page) (given.live, given.read a small page)).1;
+      written = λ w a small page. (ends.translations t.slot.pid given.directory a t.frame Write small (at a page) (given.live, given.written w a small page)).1;
+      cell = there.0;
+      mapped = there.1;
+      accessed = (ends.flags t.slot given.cell there.0 given.mapped there.1).0 given.accessed;
+      dirty = λ kept. (ends.flags t.slot given.cell there.0 given.mapped there.1).1 (given.dirty kept);
+    }
   where
-    first : ℕ
-    first = start_number t.slot.page
-
-    first_small : first < 2 ^ 32
-    first_small = let l = given.page in omega (arith, l)
-
-    first_page : page_number first ≡ t.slot.page
-    first_page = omega arith
-
     at : (a : ℕ) → page_number a ≡ t.slot.page → is_ended ended (slot_at t.slot.pid a) ≡ false
     at a page = ap (λ n. is_ended ended (at_page t.slot.pid n)) page ∙ spared
 
     some_cell : (x : Option Cell) → is_some x ≡ true → (d : Cell) × (x ≡ Some d)
     some_cell None h = cc
     some_cell (Some d) h = (d, refl)
-
-    there : (d : Cell) × (map.get w.state.spaces t.slot ≡ Some d)
-    there = some_cell (map.get w.state.spaces t.slot) (ends.slots t.slot spared (ap is_some given.mapped))
 
 -- no slot of a region is ended, where none of its pages is
 pub region_spared : (ended : Ended) (p page : ℕ) → ends_in_region ended p (slot_number page) ≡ false
@@ -168,8 +162,6 @@ pub kept_given : KeptAreGiven
 kept_given v x kept last keeping given = through Ends left_read keeping given
 
 pub kept_through_runs : KeptThroughRuns
-kept_through_runs v w [] [] kept along given = subst (λ x. AreRead x kept) along given
 kept_through_runs v w (e ∷ events) (x ∷ ended) kept along given =
     kept_through_runs along.0 w events ended (left_by x kept) along.4 (left_read x v along.0 kept along.3 given)
-kept_through_runs v w [] (x ∷ ended) kept along given = absurd along
-kept_through_runs v w (e ∷ events) [] kept along given = absurd along
+kept_through_runs v w _ _ kept along given = grind arith

@@ -6,7 +6,7 @@ use Rattle.kernel_calls.proofs.Prelude.{offset_number, page_stays, Slot, slot_or
 use Rattle.kernel_calls.proofs.Prelude.{byte_at, State, View, IsWellFormed, shares, EndsMarks, installed, Installs}
 use Rattle.std.proofs.Math.Seq.{take-add}
 use Rattle.kernel_calls.specs.Loaded.{Loads, no_page, page_more, IsLastThere}
-use Rattle.kernel_calls.proofs.CommutingStores.{group_at}
+use Rattle.kernel_calls.proofs.Commuting.{group_at}
 use Rattle.kernel_calls.proofs.LoadedBytes.{written_inside, written_outside, Outside, bytes_in, right_in, shares_group}
 use Rattle.kernel_calls.proofs.LoadedBytes.{page_long, alike, installed_groups, installed_rights, installed_right}
 use Rattle.kernel_calls.proofs.LoadedBytes.{own_written, beside_written}

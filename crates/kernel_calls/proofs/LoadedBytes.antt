@@ -6,7 +6,7 @@ use Prelude.{length-take-le, length-append, get_or_append_left, get_or-append-ad
 use Prelude.{get_or-drop, offset_number, same, get-map_values, contains-insert, same_cases, same_apart, Slot}
 use Prelude.{slot_order, Spaces, Cell, slot_at, fresh, cell_or_fresh, with_bytes, set_bytes, write_at, protected}
 use Prelude.{stored, State, IsWellFormed, get-inserted, get-inserted_other, shares, installed}
-use Rattle.kernel_calls.proofs.CommutingStores.{group_at, group_stored}
+use Rattle.kernel_calls.proofs.Commuting.{group_at, group_stored}
 use Rattle.page_words.specs.FiniteMap as map
 use Rattle.page_words.specs.FiniteSet as set
 

@@ -32,12 +32,7 @@ module _ (s : State) (e : Event) (Q : ℕ → Bool) (w : IsWellFormed s) (out : 
 
   -- no member's number is a new child's
   no_birth : (q : ℕ) → Q q ≡ true → answer s e ≡ reply.Child q → ⊥
-  no_birth q member told =
-      let b = (maker_of s e q told).birth in
-      elim b.1 [
-        | inl spawned ↦ (let free = quiet_as (call.Spawn spawned.0) spawned.1 in let x = ap Q b.0 in cc)
-        | inr forked ↦ (let free = quiet_as (call.Fork forked.0) forked.1 in let x = ap Q b.0 in cc)
-      ]
+  no_birth q member told = grind (arith, (maker_of s e q told), quiet_as)
 
   -- a member's place in the book stays
   place_same : (q : ℕ) → Q q ≡ true → map.get s.book q ≡ map.get (next s e).book q
@@ -116,13 +111,8 @@ module _ (s : State) (e : Event) (Q : ℕ → Bool) (w : IsWellFormed s) (out : 
         by : (a b : Bool) → shares s slot other ≡ a → shares (next s e) slot other ≡ b → a ≡ b
         by true true before after = refl
         by false false before after = refl
-        by true false before after = elim (sharing_stays s e slot other w before) [
-          | inl still ↦ sym still ∙ after
-          | inr leave ↦ elim leave [
-            | inl first ↦ absurd (no_leave slot slot seen self first)
-            | inr second ↦ absurd (no_leave slot other seen (back s slot other w before) second)
-          ]
-        ]
+        by true false before after =
+            grind (arith, (sharing_stays s e slot other w before), (back s slot other w before), no_leave, self)
         by false true before after = elim (same_cases slot_order slot other) [
           | inl same_slot ↦ sym before ∙ ap (shares s slot) (sym same_slot.0) ∙ self
           | inr differ ↦ elim (sharing_by_consent s e slot other w differ.0 after) [
@@ -228,16 +218,7 @@ module _ (s : State) (e : Event) (Q : ℕ → Bool) (w : IsWellFormed s) (out : 
       by : (x y : Option Bool) → map.get s.offers key ≡ x → map.get (next s e).offers key ≡ y → x ≡ y
       by None None before after = refl
       by None (Some right) before after = grind (arith, offers_by_offerer, no_new)
-      by (Some right) y before after = elim (offers_stay s e key right before) [
-        | inl still ↦ sym still ∙ after
-        | inr ends ↦ elim ends [
-          | inl settled ↦ absurd (no_settled key theirs settled)
-          | inr gone ↦ elim gone [
-            | inl leave ↦ absurd (no_left key right theirs before leave)
-            | inr exit ↦ absurd (no_exit key right theirs before exit)
-          ]
-        ]
-      ]
+      by (Some right) y before after = grind (arith, (offers_stay s e key right before), no_settled, no_left, no_exit)
 
   done_unseen : LooksSame s (next s e) Q
   done_unseen = record {

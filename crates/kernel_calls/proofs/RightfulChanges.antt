@@ -7,11 +7,11 @@ use Prelude.{with_bytes, with_holders, write_at, bytes_of, without, is_slot, is_
 use Prelude.{with_page, with_pages, all_accessed, all_stored, copied-other, left, get-without, State, child_of}
 use Prelude.{accept_refusal, fork_refusal, map_refusal, offered, after_load, after_store, after_map, after_accept}
 use Prelude.{after_fork, IsWellFormed, child_free, live_differ, get-inserted, get-inserted_other, may_fork, may_accept}
-use Prelude.{may_map, giver_mapped, ChangesAreRightful, answer, answer_of, after, next, completes, Call, Event}
-use Rattle.kernel_calls.proofs.Decided.{next-stays, next-goes}
+use Prelude.{may_map, giver_mapped, ChangesAreRightful, answer_of, after, next, completes, Call, Event}
+use Rattle.kernel_calls.proofs.Decided.{by_next}
 use Rattle.kernel_calls.proofs.Runs.{not-refused}
 use Rattle.kernel_calls.proofs.Stays.{next_stays}
-use Rattle.kernel_calls.proofs.Untouched.{caller_live, get_joined, widen}
+use Rattle.kernel_calls.proofs.Untouched.{get_joined, widen}
 use Rattle.page_words.specs.FiniteMap as map
 use Rattle.page_words.specs.FiniteSet as set
 use Rattle.kernel_calls.specs.declared.calls.Call.TheVariants as call
@@ -219,11 +219,7 @@ module _ (s : State) (e : Event) (w : IsWellFormed s) where
   after_keeps _ is h = all_keep s refl
 
   next_keeps : Keeps s (next s e) e
-  next_keeps = by (completes (answer s e)) refl
-    where
-      by : (b : Bool) → completes (answer s e) ≡ b → Keeps s (next s e) e
-      by true h = subst (λ t. Keeps s t e) (sym (next-goes s e h)) (after_keeps e.call refl (caller_live s e h).1)
-      by false h = all_keep (next s e) (ap (λ (t : State). t.spaces) (next-stays s e h))
+  next_keeps = by_next (λ t. Keeps s t e) s e (all_keep s refl) (λ live h. after_keeps e.call refl h)
 
 pub changes_are_rightful : ChangesAreRightful
 changes_are_rightful s e slot before after w at_s at_t =

@@ -1,15 +1,15 @@
 -- Each event keeps states well formed and leaves the root's entry in the book, and so does every run.
 use Rattle.kernel_calls.proofs.Prelude
-use Prelude.{◌≡◌, ℕ, ◌+◌, Bool, true, false, refl, sym, ap, subst, ◌∙◌, List, [], ◌∷◌, ◌++◌, Option, None, unwrap_or}
-use Prelude.{arith, if◌then◌else◌, option_map, Member, quota_of, Write, State, open_with, is_live, map_refusal}
-use Prelude.{protect_refusal, offer_refusal, accept_refusal, spawn_refusal, exit_refusal, fork_refusal, IsWellFormed}
-use Prelude.{Cause, well_formed-fork, root-fork, well_formed-open, well_formed-unmap, well_formed-spawn}
-use Prelude.{well_formed-exit, root-spawn, root-exit, total-within, well_formed-protect, well_formed-offer}
-use Prelude.{well_formed-withdraw, well_formed-accept, plan_of, step_of, goes_on, Plan, ready, all_user, answer}
-use Prelude.{answer_of, answers, after, next, end_of, completes, refused_or, planned_or, Call, Event, Reply}
+use Prelude.{◌≡◌, ℕ, ◌+◌, true, refl, ap, ◌∙◌, List, [], ◌∷◌, ◌++◌, Option, None, unwrap_or, arith, option_map, Member}
+use Prelude.{quota_of, Write, State, open_with, is_live, map_refusal, protect_refusal, offer_refusal, accept_refusal}
+use Prelude.{spawn_refusal, exit_refusal, fork_refusal, IsWellFormed, Cause, well_formed-fork, root-fork}
+use Prelude.{well_formed-open, well_formed-unmap, well_formed-spawn, well_formed-exit, root-spawn, root-exit}
+use Prelude.{total-within, well_formed-protect, well_formed-offer, well_formed-withdraw, well_formed-accept, plan_of}
+use Prelude.{step_of, goes_on, Plan, ready, all_user, answer, answer_of, answers, after, next, end_of, completes}
+use Prelude.{refused_or, planned_or, Call, Event, Reply}
 use Rattle.process_table.proofs.SpaceLaws.{well_formed-map, well_formed-load, well_formed-store}
 use Rattle.kernel_calls.specs.Laws.{RunsStayWellFormed}
-use Rattle.kernel_calls.proofs.Decided.{next-stays, next-goes}
+use Rattle.kernel_calls.proofs.Decided.{by_next}
 use Rattle.page_words.specs.FiniteMap as map
 use Rattle.process_table.specs.declared.causes.Cause.TheVariants as cause
 use Rattle.kernel_calls.specs.declared.calls.Call.TheVariants as call
@@ -60,14 +60,7 @@ kept-call s p call.Exit w live h =
 kept-call s p _ w live h = (w, refl)
 
 pub kept-next : (s : State) (e : Event) → IsWellFormed s → KeepsRoot s (next s e)
-kept-next s e w = by (completes (answer s e)) refl
-  where
-    live : (b : Bool) → completes (if b then answer_of s e.pid e.call else reply.Refused cause.NoProcess) ≡ true → (b ≡ true) × (completes (answer_of s e.pid e.call) ≡ true)
-    live b h = grind arith
-
-    by : (b : Bool) → completes (answer s e) ≡ b → KeepsRoot s (next s e)
-    by true h = let l = live (is_live s e.pid) h in subst (KeepsRoot s) (sym (next-goes s e h)) (kept-call s e.pid e.call w l.0 l.1)
-    by false h = subst (KeepsRoot s) (sym (next-stays s e h)) (w, refl)
+kept-next s e w = by_next (KeepsRoot s) s e (w, refl) (kept-call s e.pid e.call w)
 
 pub kept-run : (s : State) (events : List Event) → IsWellFormed s → KeepsRoot s (end_of s events)
 kept-run s [] w = (w, refl)

@@ -1,8 +1,7 @@
 -- What is left of offers, and of a process that exits.
 use Rattle.kernel_calls.proofs.Prelude
-use Prelude.{◌≡◌, ℕ, Bool, true, List, [], ◌∷◌, length, refl, ap, Option, None, unwrap_or, sum_by, arith, option_map}
-use Prelude.{get-retain_keys, some_value, get-removed, Slot, without, is_of, left, get-without, Book, Member, given}
-use Prelude.{number_of_children, quota_of, number-remove, OfferKey, Offers, State, is_live, exit_refusal, not_less}
+use Prelude.{◌≡◌, ℕ, Bool, true, List, [], ◌∷◌, length, refl, sum_by, arith, get-retain_keys, some_value, Book, Member}
+use Prelude.{given, number_of_children, number-remove, OfferKey, Offers, State, is_live}
 use Rattle.quota_tree.specs.Book.{children}
 use Rattle.page_words.specs.FiniteMap as map
 
@@ -16,10 +15,6 @@ pub kept_key : (O : Offers) (stay : OfferKey → Bool) (key : OfferKey)
 kept_key O stay key h = grind (arith, get-retain_keys)
 
 -- ---- An exit: nothing of it is left
-
--- who may exit has no child
-pub no_children : (s : State) (q : ℕ) → exit_refusal s q ≡ None → number_of_children s.book q ≡ 0
-no_children s q allowed = grind (arith, not_less)
 
 given_none : (book : Book) (p : ℕ) → number_of_children book p ≡ 0 → given book p ≡ 0
 given_none book p h = by (children book p) h
@@ -35,10 +30,3 @@ module _ (s : State) (q : ℕ) (live : is_live s q ≡ true) (childless : number
 
   pub exit_given : given (map.remove s.book q) q ≡ 0
   exit_given = given_none (map.remove s.book q) q exit_children
-
-  pub exit_quota : quota_of (map.remove s.book q) q ≡ 0
-  exit_quota = ap (λ (x : Option Member). unwrap_or (option_map (λ (m : Member). m.quota) x) 0) (get-removed s.book q)
-
-pub exit_slot : (s : State) (q : ℕ) (slot : Slot) → is_of q slot ≡ true
-    → map.get (without s.spaces (is_of q)) slot ≡ None
-exit_slot s q slot is = grind (arith, get-without, left)

@@ -1,17 +1,17 @@
 -- What stays of a page, whichever process has it, while it is mapped.
 use Rattle.kernel_calls.proofs.Prelude
-use Prelude.{◌≡◌, ◌≢◌, ℕ, ◌+◌, ◌||◌, Bool, true, false, List, [], ◌∷◌, refl, sym, ap, subst, ◌∙◌, Option, Some, None}
-use Prelude.{is_some, unwrap_or, inl, inr, arith, ◌⊎◌, if◌then◌else◌, slice_index, option_map, ne_eqb, same_Some}
-use Prelude.{offset_number, byte_count, touched, Size, same, nat_order, Set, same-true, get-insert, get-map_values}
-use Prelude.{contains-retain, some_value, no_value, same_cases, same_apart, get-remove_other, Slot, slot_order, Cell}
-use Prelude.{Spaces, fresh, cell_or_fresh, with_bytes, write_at, bytes_of, without, is_slot, is_of, at_page, slot_at}
-use Prelude.{accessed, stored, with_page, with_pages, all_accessed, all_stored, copied, copied-other, left, get-without}
-use Prelude.{offer_key, State, is_live, child_of, accept_refusal, fork_refusal, map_refusal, offered, after_load}
-use Prelude.{after_store, after_map, after_unmap, after_protect, after_offer, after_withdraw, after_accept, after_spawn}
-use Prelude.{after_fork, after_exit, IsWellFormed, child_free, live_differ, get-inserted, get-inserted_other, may_fork}
-use Prelude.{may_accept, may_map, giver_mapped, shares, is_offered, IsStoreInto, IsLeave, SharingStays, answer}
-use Prelude.{answer_of, after, next, completes, Call, Event, eqb-true}
-use Rattle.kernel_calls.proofs.Decided.{next-stays, next-goes}
+use Prelude.{◌≡◌, ◌≢◌, ℕ, ◌+◌, ◌||◌, Bool, true, false, List, [], ◌∷◌, refl, sym, ap, ◌∙◌, Option, Some, None, is_some}
+use Prelude.{unwrap_or, inl, inr, arith, ◌⊎◌, if◌then◌else◌, slice_index, option_map, ne_eqb, same_Some, offset_number}
+use Prelude.{byte_count, touched, Size, same, nat_order, Set, same-true, get-insert, get-map_values, contains-retain}
+use Prelude.{some_value, no_value, same_cases, same_apart, get-remove_other, Slot, slot_order, Cell, Spaces, fresh}
+use Prelude.{cell_or_fresh, with_bytes, write_at, bytes_of, without, is_slot, is_of, at_page, slot_at, accessed, stored}
+use Prelude.{with_page, with_pages, all_accessed, all_stored, copied, copied-other, left, get-without, offer_key, State}
+use Prelude.{is_live, child_of, accept_refusal, fork_refusal, map_refusal, offered, after_load, after_store, after_map}
+use Prelude.{after_unmap, after_protect, after_offer, after_withdraw, after_accept, after_spawn, after_fork, after_exit}
+use Prelude.{IsWellFormed, child_free, live_differ, get-inserted, get-inserted_other, may_fork, may_accept, may_map}
+use Prelude.{giver_mapped, shares, is_offered, IsStoreInto, IsLeave, SharingStays, answer_of, after, next, completes}
+use Prelude.{Call, Event, eqb-true}
+use Rattle.kernel_calls.proofs.Decided.{by_next, next-stays, next-goes}
 use Rattle.kernel_calls.proofs.Runs.{not-refused}
 use Rattle.kernel_calls.proofs.UntouchedSlots.{store_bytes, Untouched}
 use Rattle.kernel_calls.proofs.Untouched.{caller_live, get_joined, widen, widen_kept}
@@ -234,12 +234,8 @@ module _ (s : State) (e : Event) (w : IsWellFormed s) (live : is_live s e.pid �
 
 -- after any event, at a slot that is mapped before and after it
 pub next_stays : (s : State) (e : Event) → IsWellFormed s → Stays s e (next s e)
-next_stays s e w = by (completes (answer s e)) refl
-  where
-    by : (b : Bool) → completes (answer s e) ≡ b → Stays s e (next s e)
-    by true h = let l = caller_live s e h in subst (Stays s e) (sym (next-goes s e h))
-        (after_stays s e w l.0 e.call refl l.1)
-    by false h = grind (arith, next-stays, kept_stays)
+next_stays s e w = by_next (Stays s e) s e (kept_stays s e s (λ other o slot c at. ap (option_map (whole_of other)) at))
+    (λ live. after_stays s e w live e.call refl)
 
 -- ---- Slots that go
 
@@ -368,8 +364,4 @@ after_live s e call.Exit is = λ p. elim (same_cases nat_order p e.pid) [
 after_live s e _ is = λ p. inl refl
 
 pub next_live : (s : State) (e : Event) → LiveBut s (next s e) e
-next_live s e = by (completes (answer s e)) refl
-  where
-    by : (b : Bool) → completes (answer s e) ≡ b → LiveBut s (next s e) e
-    by true h = subst (λ t. LiveBut s t e) (sym (next-goes s e h)) (after_live s e e.call refl)
-    by false h = subst (λ t. LiveBut s t e) (sym (next-stays s e h)) (λ p. inl refl)
+next_live s e = by_next (λ t. LiveBut s t e) s e (λ p. inl refl) (λ live h. after_live s e e.call refl)

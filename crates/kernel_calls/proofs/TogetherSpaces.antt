@@ -6,10 +6,18 @@ use Prelude.{page_number, offset_number, same, Set, get-map_values, contains-ins
 use Prelude.{is_some-map, same_cases, Slot, slot_order, Cell, Spaces, fresh, cell_or_fresh, with_bytes, with_holders}
 use Prelude.{set_bytes, set_holders, write_at, without, at_page, slot_at, accessed, stored, with_page, with_pages}
 use Prelude.{all_accessed, all_stored, joined, left, get-without, get-inserted, get-inserted_other, Flags, flags_of}
-use Prelude.{Shown, shown_of}
+use Prelude.{Shown, shown_of, subst, ◌==◌, eqb-true, some_value, get-insert, get-remove, nat_order, Size, is_of, Member}
+use Prelude.{is_child, quota_of, given, number_of_children, given-remove, number-remove, OfferKey, Offers, offer_key}
+use Prelude.{State, is_live, exit_refusal, after_load, after_store, after_map, after_unmap, after_protect, after_offer}
+use Prelude.{after_withdraw, after_accept, after_exit, answer_of, after, completes, Call}
+use Rattle.kernel_calls.specs.Authority.{AreOne}
+use Rattle.kernel_calls.proofs.Seen.{kept_offers, exit_children, exit_given}
+use Rattle.kernel_calls.proofs.Standings.{live_in}
+use Rattle.kernel_calls.proofs.Stays.{makes_child}
 use Rattle.page_words.proofs.MapLemmas.{len-insert}
 use Rattle.page_words.specs.FiniteMap as map
 use Rattle.page_words.specs.FiniteSet as set
+use Rattle.kernel_calls.specs.declared.calls.Call.TheVariants as call
 
 -- ---- How many of a set pass a test, and how many don't
 
@@ -17,15 +25,7 @@ split_list : (p : Slot → Bool) (es : List (Slot × Unit {0}))
     → length es ≡ length (filter (λ (e : Slot × Unit {0}). p e.0) es) + length
     (filter (λ (e : Slot × Unit {0}). not (p e.0)) es)
 split_list p [] = omega arith
-split_list p (e ∷ es) = by (p e.0) (split_list p es)
-  where
-    by : (b : Bool) → length es ≡ length (filter (λ (e : Slot × Unit {0}). p e.0) es) + length
-        (filter (λ (e : Slot × Unit {0}). not (p e.0)) es)
-        → length (e ∷ es) ≡ length (cond b (e ∷ filter (λ (e : Slot × Unit {0}). p e.0) es)
-        (filter (λ (e : Slot × Unit {0}). p e.0) es)) + length
-        (cond (not b) (e ∷ filter (λ (e : Slot × Unit {0}). not (p e.0)) es)
-        (filter (λ (e : Slot × Unit {0}). not (p e.0)) es))
-    by b rest = grind arith
+split_list p (e ∷ es) = grind (arith, (split_list p es))
 
 len_split : (g : Set slot_order) (p : Slot → Bool)
     → set.len g ≡ set.len (set.retain g p) + set.len (set.retain g (λ x. not (p x)))
@@ -59,81 +59,21 @@ module _ (Q : ℕ → Bool) (q : ℕ) (mine : Q q ≡ true) (seen : Slot → Typ
             (option_map (λ (c : Cell). set.contains c.holders other) y) false
             → set.contains (unwrap_or x (fresh slot true)).holders other ≡ set.contains
             (unwrap_or y (fresh slot true)).holders other
-        by None None h k = refl
-        by None (Some d) h k = cc
-        by (Some c) None h k = cc
-        by (Some c) (Some d) h k = k
+        by x y h k = grind arith
 
     shown_same : (S T : Spaces) → SameSpaces Q seen S T → (slot : Slot) → seen slot
         → shown_of (cell_or_fresh S slot) ≡ shown_of (cell_or_fresh T slot)
-    shown_same S T l slot v = by (map.get S slot) (map.get T slot) (l.pages slot v)
-      where
-        by : (x y : Option Cell) → option_map shown_of x ≡ option_map shown_of y
-            → shown_of (unwrap_or x (fresh slot true)) ≡ shown_of (unwrap_or y (fresh slot true))
-        by None None h = refl
-        by None (Some d) h = cc
-        by (Some c) None h = cc
-        by (Some c) (Some d) h = same_Some (shown_of c) (shown_of d) h
+    shown_same S T l slot v = grind (arith, same_Some)
 
     own_flags : (S T : Spaces) → SameSpaces Q seen S T → (page : ℕ)
         → flags_of (cell_or_fresh S (at_page q page)) ≡ flags_of (cell_or_fresh T (at_page q page))
-    own_flags S T l page = by (map.get S (at_page q page)) (map.get T (at_page q page)) (l.flags (at_page q page) mine)
-      where
-        by : (x y : Option Cell) → option_map flags_of x ≡ option_map flags_of y
-            → flags_of (unwrap_or x (fresh (at_page q page) true)) ≡ flags_of
-            (unwrap_or y (fresh (at_page q page) true))
-        by None None h = refl
-        by None (Some d) h = cc
-        by (Some c) None h = cc
-        by (Some c) (Some d) h = same_Some (flags_of c) (flags_of d) h
+    own_flags S T l page = grind (arith, same_Some)
 
     -- one cell of q, put in both
     pub put_same : (S T : Spaces) (page : ℕ) (c d : Cell) → SameSpaces Q seen S T → flags_of c ≡ flags_of d
         → shown_of c ≡ shown_of d → SameGroups seen c.holders d.holders
         → SameSpaces Q seen (map.insert S (at_page q page) c) (map.insert T (at_page q page) d)
-    put_same S T page c d l flags shown groups = record {
-      flags = λ slot h. by_flags slot h (same_cases slot_order slot (at_page q page));
-      pages = λ slot v. by_pages slot v (same_cases slot_order slot (at_page q page));
-      groups = λ slot other v o. by_groups slot other v o (same_cases slot_order slot (at_page q page));
-    }
-      where
-        x : Slot
-        x = at_page q page
-
-        here : (R : Spaces) (e : Cell) (slot : Slot) → slot ≡ x → map.get (map.insert R x e) slot ≡ Some e
-        here R e slot is = ap (map.get (map.insert R x e)) is ∙ get-inserted R x e
-
-        by_flags : (slot : Slot) → Q slot.pid ≡ true → ((slot ≡ x) × (same slot_order slot x ≡ true))
-            ⊎ ((slot ≢ x) × (same slot_order slot x ≡ false))
-            → option_map flags_of (map.get (map.insert S x c) slot) ≡ option_map flags_of
-            (map.get (map.insert T x d) slot)
-        by_flags slot h (inl is) = ap (option_map flags_of) (here S c slot is.0) ∙ ap Some flags
-            ∙ sym (ap (option_map flags_of) (here T d slot is.0))
-        by_flags slot h (inr other) = ap (option_map flags_of) (get-inserted_other S x c slot other.0) ∙ l.flags slot h
-            ∙ sym (ap (option_map flags_of) (get-inserted_other T x d slot other.0))
-
-        by_pages : (slot : Slot) → seen slot → ((slot ≡ x) × (same slot_order slot x ≡ true))
-            ⊎ ((slot ≢ x) × (same slot_order slot x ≡ false))
-            → option_map shown_of (map.get (map.insert S x c) slot) ≡ option_map shown_of
-            (map.get (map.insert T x d) slot)
-        by_pages slot v (inl is) = ap (option_map shown_of) (here S c slot is.0) ∙ ap Some shown
-            ∙ sym (ap (option_map shown_of) (here T d slot is.0))
-        by_pages slot v (inr other) = ap (option_map shown_of) (get-inserted_other S x c slot other.0) ∙ l.pages slot v
-            ∙ sym (ap (option_map shown_of) (get-inserted_other T x d slot other.0))
-
-        by_groups : (slot other : Slot) → seen slot → seen other
-            → ((slot ≡ x) × (same slot_order slot x ≡ true)) ⊎ ((slot ≢ x) × (same slot_order slot x ≡ false))
-            → shares_in (map.insert S x c) slot other ≡ shares_in (map.insert T x d) slot other
-        by_groups slot other v o (inl is) =
-            ap (λ (y : Option Cell). unwrap_or (option_map (λ (e : Cell). set.contains e.holders other) y) false)
-            (here S c slot is.0) ∙ groups other o
-            ∙ sym (ap (λ (y : Option Cell). unwrap_or (option_map (λ (e : Cell). set.contains e.holders other) y) false)
-            (here T d slot is.0))
-        by_groups slot other v o (inr apart) =
-            ap (λ (y : Option Cell). unwrap_or (option_map (λ (e : Cell). set.contains e.holders other) y) false)
-            (get-inserted_other S x c slot apart.0) ∙ l.groups slot other v o
-            ∙ sym (ap (λ (y : Option Cell). unwrap_or (option_map (λ (e : Cell). set.contains e.holders other) y) false)
-            (get-inserted_other T x d slot apart.0))
+    put_same S T page c d l flags shown groups = grind (arith, same_cases, get-inserted, get-inserted_other)
 
     -- a group that gets other bytes
     bytes_same : (S T : Spaces) (g h : Set slot_order) (xs ys : List ℕ) → SameSpaces Q seen S T → SameGroups seen g h
@@ -154,47 +94,16 @@ module _ (Q : ℕ → Bool) (q : ℕ) (mine : Q q ≡ true) (seen : Slot → Typ
 
         flags_in : (R : Spaces) (k : Set slot_order) (zs : List ℕ) (slot : Slot)
             → option_map flags_of (map.get (set_bytes R k zs) slot) ≡ option_map flags_of (map.get R slot)
-        flags_in R k zs slot = ap (option_map flags_of) (get-map_values slot_order (change k zs) R slot)
-            ∙ by (map.get R slot)
-          where
-            either : (b : Bool) (c : Cell) → flags_of (if b then with_bytes c zs else c) ≡ flags_of c
-            either true c = refl
-            either false c = refl
-
-            by : (y : Option Cell) → option_map flags_of (option_map (change k zs slot) y) ≡ option_map flags_of y
-            by None = refl
-            by (Some c) = ap Some (either (set.contains k slot) c)
+        flags_in R k zs slot = grind (arith, get-map_values, change)
 
         shown_in : (R : Spaces) (k : Set slot_order) (zs : List ℕ) (slot : Slot)
             → option_map shown_of (map.get (set_bytes R k zs) slot) ≡ option_map (renew (set.contains k slot) zs)
             (option_map shown_of (map.get R slot))
-        shown_in R k zs slot = ap (option_map shown_of) (get-map_values slot_order (change k zs) R slot)
-            ∙ by (map.get R slot)
-          where
-            either : (b : Bool) (c : Cell) → shown_of (if b then with_bytes c zs else c) ≡ renew b zs (shown_of c)
-            either true c = refl
-            either false c = refl
-
-            by : (y : Option Cell) → option_map shown_of (option_map (change k zs slot) y) ≡ option_map
-                (renew (set.contains k slot) zs) (option_map shown_of y)
-            by None = refl
-            by (Some c) = ap Some (either (set.contains k slot) c)
+        shown_in R k zs slot = grind (arith, get-map_values, change, renew)
 
         shares_of : (R : Spaces) (k : Set slot_order) (zs : List ℕ) (slot other : Slot)
             → shares_in (set_bytes R k zs) slot other ≡ shares_in R slot other
-        shares_of R k zs slot other =
-            ap (λ (y : Option Cell). unwrap_or (option_map (λ (e : Cell). set.contains e.holders other) y) false)
-            (get-map_values slot_order (change k zs) R slot) ∙ by (map.get R slot)
-          where
-            either : (b : Bool) (c : Cell) → (if b then with_bytes c zs else c).holders ≡ c.holders
-            either true c = refl
-            either false c = refl
-
-            by : (y : Option Cell) → unwrap_or (option_map (λ (e : Cell). set.contains e.holders other)
-                (option_map (change k zs slot) y)) false ≡ unwrap_or
-                (option_map (λ (e : Cell). set.contains e.holders other) y) false
-            by None = refl
-            by (Some c) = ap (λ (k : Set slot_order). set.contains k other) (either (set.contains k slot) c)
+        shares_of R k zs slot other = grind (arith, get-map_values, change)
 
     -- a group that becomes another
     holders_same : (S T : Spaces) (g h wide wider : Set slot_order) → SameSpaces Q seen S T → SameGroups seen g h
@@ -216,32 +125,18 @@ module _ (Q : ℕ → Bool) (q : ℕ) (mine : Q q ≡ true) (seen : Slot → Typ
 
         flags_in : (R : Spaces) (k to : Set slot_order) (slot : Slot)
             → option_map flags_of (map.get (set_holders R k to) slot) ≡ option_map flags_of (map.get R slot)
-        flags_in R k to slot = ap (option_map flags_of) (get-map_values slot_order (change k to) R slot)
-            ∙ by (map.get R slot)
+        flags_in R k to slot = grind (arith, get-map_values, change, by)
           where
             either : (b : Bool) (c : Cell) → flags_of (if b then with_holders c to else c) ≡ flags_of c
-            either true c = refl
-            either false c = refl
+            either b c = grind arith
 
             by : (y : Option Cell) → option_map flags_of (option_map (change k to slot) y) ≡ option_map flags_of y
-            by None = refl
-            by (Some c) = ap Some (either (set.contains k slot) c)
+            by y = grind (arith, either)
 
         shown_in : (R : Spaces) (k to : Set slot_order) (slot : Slot)
             → option_map shown_of (map.get (set_holders R k to) slot) ≡ option_map
             (renew (set.contains k slot) (set.len to)) (option_map shown_of (map.get R slot))
-        shown_in R k to slot = ap (option_map shown_of) (get-map_values slot_order (change k to) R slot)
-            ∙ by (map.get R slot)
-          where
-            either : (b : Bool) (c : Cell) → shown_of (if b then with_holders c to else c) ≡ renew b (set.len to)
-                (shown_of c)
-            either true c = refl
-            either false c = refl
-
-            by : (y : Option Cell) → option_map shown_of (option_map (change k to slot) y) ≡ option_map
-                (renew (set.contains k slot) (set.len to)) (option_map shown_of y)
-            by None = refl
-            by (Some c) = ap Some (either (set.contains k slot) c)
+        shown_in R k to slot = grind (arith, get-map_values, change, renew)
 
         -- what is in the group of a slot then
         new_shares : Spaces → Set slot_order → Set slot_order → Slot → Slot → Bool
@@ -250,47 +145,20 @@ module _ (Q : ℕ → Bool) (q : ℕ) (mine : Q q ≡ true) (seen : Slot → Typ
 
         shares_of : (R : Spaces) (k to : Set slot_order) (slot other : Slot)
             → shares_in (set_holders R k to) slot other ≡ new_shares R k to slot other
-        shares_of R k to slot other =
-            ap (λ (y : Option Cell). unwrap_or (option_map (λ (e : Cell). set.contains e.holders other) y) false)
-            (get-map_values slot_order (change k to) R slot) ∙ by (set.contains k slot) (map.get R slot)
-          where
-            by : (b : Bool) (y : Option Cell) → unwrap_or
-                (option_map (λ (e : Cell). set.contains e.holders other)
-                (option_map (λ (c : Cell). if b then with_holders c to else c) y)) false
-                ≡ (if b && is_some y then set.contains to other else unwrap_or
-                (option_map (λ (e : Cell). set.contains e.holders other) y) false)
-            by true None = refl
-            by false None = refl
-            by true (Some c) = refl
-            by false (Some c) = refl
+        shares_of R k to slot other = grind (arith, get-map_values, change)
 
         there : (slot : Slot) → seen slot → is_some (map.get S slot) ≡ is_some (map.get T slot)
-        there slot v = sym (is_some-map shown_of (map.get S slot)) ∙ ap is_some (l.pages slot v)
-            ∙ is_some-map shown_of (map.get T slot)
+        there slot v = grind (arith, is_some-map)
 
         mixed : (slot other : Slot) → seen slot → seen other
             → new_shares S g wide slot other ≡ new_shares T h wider slot other
-        mixed slot other v o = λ i. if groups slot v i && there slot v i then more other o i else l.groups slot other v
-            o
-            i
+        mixed slot other v o = grind (arith, there)
 
     -- ---- Accesses
 
     page_same : (S T : Spaces) (page : ℕ) → SameSpaces Q seen S T
         → SameSpaces Q seen (with_page S q page) (with_page T q page)
-    page_same S T page l = by (map.contains_key S (at_page q page)) (map.contains_key T (at_page q page))
-        (sym (is_some-map flags_of (map.get S (at_page q page))) ∙ ap is_some (l.flags (at_page q page) mine)
-        ∙ is_some-map flags_of (map.get T (at_page q page)))
-      where
-        new : Cell
-        new = fresh (at_page q page) true
-
-        by : (b c : Bool) → b ≡ c → SameSpaces Q seen (if b then S else map.insert S (at_page q page) new)
-            (if c then T else map.insert T (at_page q page) new)
-        by true true h = l
-        by true false h = cc
-        by false true h = cc
-        by false false h = put_same S T page new new l refl refl (λ other o. refl)
+    page_same S T page l = grind (arith, is_some-map, put_same)
 
     pub pages_same : (S T : Spaces) (pages : List ℕ) → SameSpaces Q seen S T
         → SameSpaces Q seen (with_pages S q pages) (with_pages T q pages)
@@ -304,14 +172,7 @@ module _ (Q : ℕ → Bool) (q : ℕ) (mine : Q q ≡ true) (seen : Slot → Typ
         → SameSpaces Q seen S T → SameSpaces Q seen (map.insert S (at_page q page)
         (set_flags (cell_or_fresh S (at_page q page))))
         (map.insert T (at_page q page) (set_flags (cell_or_fresh T (at_page q page))))
-    set_same S T page f flags shown group l =
-        let c : Cell = cell_or_fresh S (at_page q page) in
-        let d : Cell = cell_or_fresh T (at_page q page) in
-        put_same S T page (f c) (f d) l (flags c d (own_flags S T l page))
-        (shown c ∙ shown_same S T l (at_page q page) (own page) ∙ sym (shown d))
-        (λ other o. ap (λ (g : Set slot_order). set.contains g other) (group c)
-        ∙ groups_same S T l (at_page q page) (own page) other o
-        ∙ sym (ap (λ (g : Set slot_order). set.contains g other) (group d)))
+    set_same S T page f flags shown group l = grind (arith, put_same, own_flags, shown_same, groups_same)
 
     pub accessed_same : (S T : Spaces) (pages : List ℕ) → SameSpaces Q seen S T
         → SameSpaces Q seen (all_accessed S q pages) (all_accessed T q pages)
@@ -360,37 +221,11 @@ module _ (Q : ℕ → Bool) (q : ℕ) (mine : Q q ≡ true) (seen : Slot → Typ
       where
         flags_in : (R : Spaces) (slot : Slot) → option_map flags_of (map.get (without R gone) slot) ≡ cond
             (not (gone slot)) (option_map flags_of (map.get R slot)) None
-        flags_in R slot = ap (option_map flags_of) (get-without R gone slot) ∙ by (not (gone slot)) (map.get R slot)
-          where
-            by : (b : Bool) (y : Option Cell) → option_map flags_of (cond b (option_map (left gone) y) None) ≡ cond b
-                (option_map flags_of y) None
-            by false y = refl
-            by true None = refl
-            by true (Some c) = refl
+        flags_in R slot = grind (arith, get-without)
 
         shares_of : (R : Spaces) (slot other : Slot) → shares_in (without R gone) slot
             other ≡ ((shares_in R slot other && not (gone other)) && not (gone slot))
-        shares_of R slot other = ap (λ (y : Option Cell).
-            unwrap_or (option_map (λ (e : Cell). set.contains e.holders other) y) false) (get-without R gone slot)
-            ∙ by (not (gone slot)) (map.get R slot)
-          where
-            never : (b : Bool) → false ≡ (b && false)
-            never true = refl
-            never false = refl
-
-            always : (b : Bool) → b ≡ (b && true)
-            always true = refl
-            always false = refl
-
-            by : (b : Bool) (y : Option Cell) → unwrap_or
-                (option_map (λ (e : Cell). set.contains e.holders other) (cond b (option_map (left gone) y) None)) false
-                ≡ ((unwrap_or (option_map (λ (e : Cell). set.contains e.holders other) y) false && not (gone other))
-                && b)
-            by false y = never (unwrap_or (option_map (λ (e : Cell). set.contains e.holders other) y) false && not
-                (gone other))
-            by true None = refl
-            by true (Some c) = contains-retain c.holders (λ s. not (gone s)) other
-                ∙ always (set.contains c.holders other && not (gone other))
+        shares_of R slot other = grind (arith, get-without, contains-retain)
 
         fewer : (c d : Cell) → shown_of c ≡ shown_of d → SameGroups seen c.holders d.holders
             → shown_of (left gone c) ≡ shown_of (left gone d)
@@ -401,18 +236,9 @@ module _ (Q : ℕ → Bool) (q : ℕ) (mine : Q q ≡ true) (seen : Slot → Typ
                 (λ other. contains-retain c.holders gone other ∙ by other (gone other) refl
                 ∙ sym (contains-retain d.holders gone other))
               where
-                out : (a b : Bool) → (a && false) ≡ (b && false)
-                out true true = refl
-                out true false = refl
-                out false true = refl
-                out false false = refl
-
                 by : (other : Slot) (b : Bool) → gone other ≡ b
                     → (set.contains c.holders other && gone other) ≡ (set.contains d.holders other && gone other)
-                by other true is = λ i. groups other (goes other is) i && gone other
-                by other false is = (λ i. set.contains c.holders other && is i)
-                    ∙ out (set.contains c.holders other) (set.contains d.holders other)
-                    ∙ sym (λ i. set.contains d.holders other && is i)
+                by other b is = grind arith
 
             less : set.len (set.retain c.holders (λ s. not (gone s))) ≡ set.len
                 (set.retain d.holders (λ s. not (gone s)))
@@ -426,21 +252,19 @@ module _ (Q : ℕ → Bool) (q : ℕ) (mine : Q q ≡ true) (seen : Slot → Typ
         pages : (slot : Slot) → seen slot → option_map shown_of (map.get (without S gone) slot) ≡ option_map shown_of
             (map.get (without T gone) slot)
         pages slot v =
-            ap (option_map shown_of) (get-without S gone slot)
-            ∙ by (not (gone slot)) (map.get S slot) (map.get T slot) (l.pages slot v)
-            (λ other o. l.groups slot other v o)
-            ∙ sym (ap (option_map shown_of) (get-without T gone slot))
+            grind (
+              arith,
+              (by (not (gone slot)) (map.get S slot) (map.get T slot) (l.pages slot v) (λ other o. l.groups slot other v o)),
+              (get-without S gone slot),
+              (get-without T gone slot),
+            )
           where
             by : (b : Bool) (x y : Option Cell) → option_map shown_of x ≡ option_map shown_of y
                 → ((other : Slot) → seen other → unwrap_or (option_map (λ (e : Cell). set.contains e.holders other) x)
                 false ≡ unwrap_or (option_map (λ (e : Cell). set.contains e.holders other) y) false)
                 → option_map shown_of (cond b (option_map (left gone) x) None) ≡ option_map shown_of
                 (cond b (option_map (left gone) y) None)
-            by false x y h k = refl
-            by true None None h k = refl
-            by true None (Some d) h k = cc
-            by true (Some c) None h k = cc
-            by true (Some c) (Some d) h k = ap Some (fewer c d (same_Some (shown_of c) (shown_of d) h) k)
+            by b x y h k = grind (arith, fewer)
 
     -- ---- A slot of q that joins the group of a slot that is seen
 
@@ -467,3 +291,140 @@ module _ (Q : ℕ → Bool) (q : ℕ) (mine : Q q ≡ true) (seen : Slot → Typ
         (λ i. record { write = rights i; may = rights i; accessed = false; dirty = false })
         (λ i. record { bytes = (shown i).bytes; holders = len i })
         more
+
+    -- ---- States that are one
+
+    module _ (s t : State) (Known : OfferKey → Type 0) (l : AreOne s t Q Known seen) where
+      start : SameSpaces Q seen s.spaces t.spaces
+      start = record { flags = l.flags; pages = l.pages; groups = l.same_page }
+
+      own_slots : (slot : Slot) → is_of q slot ≡ true → seen slot
+      own_slots slot h = subst seen (λ i. record { pid = sym (eqb-true slot.pid q h) i; page = slot.page }) (own slot.page)
+
+      -- where the book stays
+      looks : (S T : Spaces) (O P : Offers)
+          → ((key : OfferKey) → map.get s.offers key ≡ map.get t.offers key → map.get O key ≡ map.get P key)
+          → SameSpaces Q seen S T
+          → AreOne (record s { spaces = S; offers = O }) (record t { spaces = T; offers = P }) Q Known seen
+      looks S T O P offers spaces = record {
+        standing = l.standing;
+        families = l.families;
+        flags = spaces.flags;
+        offers = λ key h. offers key (l.offers key h);
+        pages = spaces.pages;
+        same_page = spaces.groups;
+      }
+
+      looks_spaces : (S T : Spaces) → SameSpaces Q seen S T
+          → AreOne (record s { spaces = S }) (record t { spaces = T }) Q Known seen
+      looks_spaces S T = looks S T s.offers t.offers (λ key h. h)
+
+      load_one : (addr : ℕ) (size : Size) → AreOne (after_load s q addr size) (after_load t q addr size) Q Known seen
+      load_one addr size = grind (arith, looks_spaces, accessed_same, pages_same, start)
+
+      store_one : (addr : ℕ) (size : Size) (value : ℕ)
+          → AreOne (after_store s q addr size value) (after_store t q addr size value) Q Known seen
+      store_one addr size value = grind (arith, looks_spaces, all_stored_same, pages_same, start)
+
+      map_one : (page : ℕ) (write : Bool) → AreOne (after_map s q page write) (after_map t q page write) Q Known seen
+      map_one page write = grind (arith, looks_spaces, put_same)
+
+      protect_one : (page : ℕ) (write : Bool)
+          → AreOne (after_protect s q page write) (after_protect t q page write) Q Known seen
+      protect_one page write =
+          looks_spaces _ _ (set_same s.spaces t.spaces page (λ c. record c { write = write })
+          (λ c d h. ap (λ (f : Flags). record f { write = write }) h) (λ c. refl) (λ c. refl) start)
+
+      unmap_one : (page : ℕ) → AreOne (after_unmap s q page) (after_unmap t q page) Q Known seen
+      unmap_one page = grind (arith, looks, kept_offers, gone_same)
+
+      withdraw_one : (page target : ℕ) → AreOne (after_withdraw s q page target) (after_withdraw t q page target) Q Known seen
+      withdraw_one page target = grind (arith, looks, kept_offers, start)
+
+      offer_one : (page target : ℕ) (write : Bool)
+          → AreOne (after_offer s q page target write) (after_offer t q page target write) Q Known seen
+      offer_one page target write = grind (arith, looks, get-insert, start)
+
+      accept_one : (giver giver_page page : ℕ) → seen (at_page giver giver_page) → Known (offer_key giver giver_page q)
+          → AreOne (after_accept s q giver giver_page page) (after_accept t q giver giver_page page) Q Known seen
+      accept_one giver giver_page page there known = grind (arith, looks, kept_offers, joined_same, start)
+
+      exit_one : is_live s q ≡ true → exit_refusal s q ≡ None → AreOne (after_exit s q) (after_exit t q) Q Known seen
+      exit_one live allowed =
+          let stay : OfferKey → Bool = (λ (k : OfferKey). not ((k.offerer == q) || (k.target == q))) in
+          let spaces = gone_same s.spaces t.spaces (is_of q) own_slots start in
+          record {
+            standing = grind (arith, live_same, quota_same, given_same, children_same);
+            families = λ p r hp hr d.
+                ap (λ (x : Option Member). unwrap_or (option_map (λ (m : Member). is_child p (r, m)) x) false)
+                (get-remove s.book q r)
+                ∙ by_family (same nat_order r q) p r hp hr d
+                ∙ sym (grind (arith, (get-remove t.book q r)));
+            flags = spaces.flags;
+            offers = λ key h. kept_offers s.offers t.offers stay key (l.offers key h);
+            pages = spaces.pages;
+            same_page = spaces.groups;
+          }
+        where
+          by_live : (b : Bool) (p : ℕ) → Q p ≡ true
+              → is_some (cond b None (map.get s.book p)) ≡ is_some (cond b None (map.get t.book p))
+          by_live b p h = grind arith
+
+          by_quota : (b : Bool) (r : ℕ) → Q r ≡ true → unwrap_or
+              (option_map (λ (m : Member). m.quota) (cond b None (map.get s.book r))) 0 ≡ unwrap_or
+              (option_map (λ (m : Member). m.quota) (cond b None (map.get t.book r))) 0
+          by_quota b r h = grind arith
+
+          live_same : (p : ℕ) → Q p ≡ true → map.contains_key (map.remove s.book q) p ≡ map.contains_key (map.remove t.book q) p
+          live_same p h = ap is_some (get-remove s.book q p) ∙ by_live (same nat_order p q) p h
+              ∙ sym (ap is_some (get-remove t.book q p))
+
+          quota_same : (r : ℕ) → Q r ≡ true → quota_of (map.remove s.book q) r ≡ quota_of (map.remove t.book q) r
+          quota_same r h = ap (λ (x : Option Member). unwrap_or (option_map (λ (m : Member). m.quota) x) 0)
+              (get-remove s.book q r) ∙ by_quota (same nat_order r q) r h
+              ∙ sym (ap (λ (x : Option Member). unwrap_or (option_map (λ (m : Member). m.quota) x) 0)
+              (get-remove t.book q r))
+
+          by_family : (b : Bool) (p r : ℕ) → Q p ≡ true → Q r ≡ true → p ≢ r → unwrap_or
+              (option_map (λ (m : Member). is_child p (r, m)) (cond b None (map.get s.book r))) false ≡ unwrap_or
+              (option_map (λ (m : Member). is_child p (r, m)) (cond b None (map.get t.book r))) false
+          by_family true p r hp hr d = refl
+          by_family false p r hp hr d = l.families p r hp hr d
+
+          live_t : is_live t q ≡ true
+          live_t = sym (ap live_in (l.standing q mine)) ∙ live
+
+          -- q's entries in both books
+          m : (m : Member) × (map.get s.book q ≡ Some m)
+          m = some_value (map.get s.book q) live
+
+          n : (m : Member) × (map.get t.book q ≡ Some m)
+          n = some_value (map.get t.book q) live_t
+
+          same_parent : (r : ℕ) → Q r ≡ true → r ≢ q → is_child r (q, m.0) ≡ is_child r (q, n.0)
+          same_parent r h d =
+              sym (ap (λ (x : Option Member). unwrap_or (option_map (λ (m : Member). is_child r (q, m)) x) false) m.1)
+              ∙ l.families r q h mine d
+              ∙ ap (λ (x : Option Member). unwrap_or (option_map (λ (m : Member). is_child r (q, m)) x) false) n.1
+
+          given_same : (r : ℕ) → Q r ≡ true → (r ≡ q) ⊎ (r ≢ q)
+              → given (map.remove s.book q) r ≡ given (map.remove t.book q) r
+          given_same r h (inl is) = grind (arith, exit_given)
+          given_same r h (inr d) =
+              grind (arith, (given-remove s.book q m.0 m.1 r), (given-remove t.book q n.0 n.1 r), same_parent)
+
+          children_same : (r : ℕ) → Q r ≡ true → (r ≡ q) ⊎ (r ≢ q)
+              → number_of_children (map.remove s.book q) r ≡ number_of_children (map.remove t.book q) r
+          children_same r h (inl is) = grind (arith, exit_children)
+          children_same r h (inr d) =
+              grind (arith, (number-remove s.book q m.0 m.1 r), (number-remove t.book q n.0 n.1 r), same_parent)
+
+      -- any call that makes no child; of one that takes an offer, this and its page are known
+      pub after_one : (c : Call) → makes_child c ≡ false → is_live s q ≡ true → completes (answer_of s q c) ≡ true
+          → ((giver giver_page page : ℕ) → c ≡ call.Accept giver giver_page page
+          → seen (at_page giver giver_page) × Known (offer_key giver giver_page q))
+          → AreOne (after s q c) (after t q c) Q Known seen
+      after_one (call.Accept giver giver_page page) none live h taken =
+          let known = taken giver giver_page page refl in accept_one giver giver_page page known.0 known.1
+      after_one _ none live h taken =
+          grind (arith, load_one, store_one, map_one, unmap_one, protect_one, offer_one, withdraw_one, exit_one)

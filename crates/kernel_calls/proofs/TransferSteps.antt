@@ -118,6 +118,24 @@ pub record FirstLoaded (s t : State) (p a n : ℕ) : Type 0 where
 
 pub first_loaded : (s t : State) (p a n : ℕ) → completes (answer s (load_byte p a)) ≡ true → t ≡ next s (load_byte p a) → offset_number a + suc n ≤ 4096 → FirstLoaded s t p a n
 first_loaded s t p a n done is fits =
+    let e : Event = load_byte p a in
+    let slot : Slot = slot_at p a in
+    let W : Spaces = with_pages s.spaces p (touched a One) in
+    let u : State = record s { spaces = accessed W slot } in
+    let c : Completes s e = completed s e done in
+    let g : Goes (step_of s p) s p a One Read = ready (step_of s p) s p a One Read (went-on (plan_of s p a One Read) _
+    c.goes) in
+    let user : IsUserPage (page_number a) = (all_user a One g.outside).0 in
+    let mapped : IsThere W p (page_number a) = (touched-there s.spaces p a One).0 in
+    let there : is_mapped u slot ≡ true = kept W slot _ mapped slot ∙ mapped in
+    let moved : next s e ≡ u = next-goes s e done ∙ ap (λ x. record s {
+      spaces = all_accessed W p (page_and
+          (page_number a) x);
+    }) (one_page a) in
+    let again : after_loads u p a ≡ u = ap (λ (T : Spaces). record s { spaces = T }) (accessed_twice W slot) in
+    let same : byte_at s.spaces p a ≡ byte_at u.spaces p a = sym (byte_accessed W slot p a ∙ ap (λ (x : Cell).
+    slice_index x.bytes (offset_number a)) (same_cells s.spaces p (touched a One) slot)) in
+    let told : answer s e ≡ reply.Value (byte_at u.spaces p a) = grind (arith, e, c, g, plain, same) in
     subst (λ (x : State). FirstLoaded s x p a n) (sym (is ∙ moved))
     (record {
       user = user;
@@ -127,47 +145,8 @@ first_loaded s t p a n done is fits =
           (rest_loaded u p (page_number a) (a + 1) n c.live user there (others_in_page a n fits) (accessed_twice W slot)));
     })
   where
-    e : Event
-    e = load_byte p a
-
-    slot : Slot
-    slot = slot_at p a
-
-    W : Spaces
-    W = with_pages s.spaces p (touched a One)
-
-    u : State
-    u = record s { spaces = accessed W slot }
-
-    c : Completes s e
-    c = completed s e done
-
-    g : Goes (step_of s p) s p a One Read
-    g = ready (step_of s p) s p a One Read (went-on (plan_of s p a One Read) _ c.goes)
-
-    user : IsUserPage (page_number a)
-    user = (all_user a One g.outside).0
-
-    mapped : IsThere W p (page_number a)
-    mapped = (touched-there s.spaces p a One).0
-
-    there : is_mapped u slot ≡ true
-    there = kept W slot _ mapped slot ∙ mapped
-
-    moved : next s e ≡ u
-    moved = next-goes s e done ∙ ap (λ x. record s { spaces = all_accessed W p (page_and (page_number a) x) }) (one_page a)
-
-    again : after_loads u p a ≡ u
-    again = ap (λ (T : Spaces). record s { spaces = T }) (accessed_twice W slot)
-
     plain : (b : ℕ) → b + 256 * 0 ≡ b
     plain b = omega arith
-
-    same : byte_at s.spaces p a ≡ byte_at u.spaces p a
-    same = sym (byte_accessed W slot p a ∙ ap (λ (x : Cell). slice_index x.bytes (offset_number a)) (same_cells s.spaces p (touched a One) slot))
-
-    told : answer s e ≡ reply.Value (byte_at u.spaces p a)
-    told = grind (arith, e, c, g, plain, same)
 
 -- ---- Stores to a page
 
@@ -239,6 +218,16 @@ pub record FirstStored (s t : State) (p a b : ℕ) : Type 0 where
 
 pub first_stored : (s t : State) (p a b : ℕ) → completes (answer s (store_byte p a b)) ≡ true → t ≡ next s (store_byte p a b) → FirstStored s t p a b
 first_stored s t p a b done is =
+    let e : Event = store_byte p a b in
+    let slot : Slot = slot_at p a in
+    let W : Spaces = with_pages s.spaces p (touched a One) in
+    let bytes : List ℕ = b % 256 ∷ [] in
+    let u : State = record s { spaces = stored W slot (offset_number a) bytes } in
+    let c : Completes s e = completed s e done in
+    let g : Goes (step_of s p) s p a One Write = ready (step_of s p) s p a One Write (went-on (plan_of s p a One Write)
+    _ c.goes) in
+    let mapped : IsThere W p (page_number a) = (touched-there s.spaces p a One).0 in
+    let moved : next s e ≡ u = next-goes s e done in
     subst (λ (x : State). FirstStored s x p a b) (sym (is ∙ moved))
     (record {
       live = c.live;
@@ -249,33 +238,6 @@ first_stored s t p a b done is =
       told = ap (λ b. if b then answer_of s p e.call else reply.Refused cause.NoProcess) c.live ∙ ap (λ x. planned_or x reply.Done) g.is;
       moved = moved;
     })
-  where
-    e : Event
-    e = store_byte p a b
-
-    slot : Slot
-    slot = slot_at p a
-
-    W : Spaces
-    W = with_pages s.spaces p (touched a One)
-
-    bytes : List ℕ
-    bytes = b % 256 ∷ []
-
-    u : State
-    u = record s { spaces = stored W slot (offset_number a) bytes }
-
-    c : Completes s e
-    c = completed s e done
-
-    g : Goes (step_of s p) s p a One Write
-    g = ready (step_of s p) s p a One Write (went-on (plan_of s p a One Write) _ c.goes)
-
-    mapped : IsThere W p (page_number a)
-    mapped = (touched-there s.spaces p a One).0
-
-    moved : next s e ≡ u
-    moved = next-goes s e done
 
 -- ---- As the code has it
 

@@ -160,11 +160,9 @@ module _ (v : View) (stands : StandsFor (image_of v) v.state) (walks : WalksAgre
       → is_ended (of_call v p c) slot ≡ false → gone_of_call p c slot f ≡ false
   call_spared p (call.Store addr size value) slot d f way goes stays =
       store_spared p addr size slot d f way (goes addr size value refl) stays
-  call_spared p (call.Unmap page) slot d f way goes stays = stays
   call_spared p (call.Accept giver giver_page page) slot d f way goes stays =
       accept_spared giver giver_page slot d f way stays
-  call_spared p call.Exit slot d f way goes stays = stays
-  call_spared p _ slot d f way goes stays = refl
+  call_spared p _ slot d f way goes stays = grind arith
 
   pub event_spared : (e : Event) (slot : Slot) (d f : ℕ) → way_of (memory_of v) slot ≡ Some (d, f)
       → is_ended (ended_by v e) slot ≡ false → gone_by v.state e slot f ≡ false
@@ -186,11 +184,6 @@ module _ (v : View) (stands : StandsFor (image_of v) v.state) (walks : WalksAgre
 
   right_spared : (p : ℕ) (c : Call) (slot : Slot) → takes_stores v.state.spaces (memory_of v) slot ≡ true
       → is_ended (of_call v p c) slot ≡ false → Spared (λ c. c.write) right_is_flag v.state p c slot
-  right_spared p (call.Load addr size) slot takes stays = tt
-  right_spared p (call.Store addr size value) slot takes stays = tt
-  right_spared p (call.Map page write) slot takes stays = tt
-  right_spared p (call.Unmap page) slot takes stays = stays
-  right_spared p (call.Protect page true) slot takes stays = λ here. refl
   right_spared p (call.Protect page false) slot takes stays = λ here. absurd (
       let test : takes_stores v.state.spaces (memory_of v) (at_page p page) ≡ true =
       sym (ap (takes_stores v.state.spaces (memory_of v)) here) ∙ takes in
@@ -198,14 +191,7 @@ module _ (v : View) (stands : StandsFor (image_of v) v.state) (walks : WalksAgre
       let k : false ≡ true = sym stays ∙ ap (λ b. is_ended (if b then end.Page p page else end.Nothing) slot) test
       ∙ own in
       cc)
-  right_spared p (call.Info page) slot takes stays = tt
-  right_spared p (call.Offer page target write) slot takes stays = tt
-  right_spared p (call.Withdraw page target) slot takes stays = tt
-  right_spared p (call.Accept giver giver_page page) slot takes stays = tt
-  right_spared p (call.Spawn quota) slot takes stays = tt
-  right_spared p (call.Fork quota) slot takes stays = tt
-  right_spared p call.Exit slot takes stays = stays
-  right_spared p call.Quota slot takes stays = tt
+  right_spared p _ slot takes stays = grind arith
 
   pub has_right : (slot : Slot) → takes_stores v.state.spaces (memory_of v) slot ≡ true
       → (has (λ c. c.write) (map.get v.state.spaces slot) ≡ true) × (is_lazy_at (memory_of v) slot ≡ false)

@@ -1,33 +1,54 @@
 -- A call that one function tests and carries out: its reply, and the state after it, are the definition's.
-use Rattle.kernel_calls.proofs.Prelude.{◌≡◌, ℕ, true, false, refl, ap, sym, subst, Option, is_err, Err, arith, Result}
-use Rattle.kernel_calls.proofs.Prelude.{Ok, IsOk, IsErr, Pid, Slot, FramesStay, Gone, stays_more, stays_same, memory_of}
-use Rattle.kernel_calls.proofs.Prelude.{State, View, Cause, done_told, child_told, gone_of_call, gone_by, answer}
-use Rattle.kernel_calls.proofs.Prelude.{answer_of, after, next, completes, refused_or, Call, Event, Reply}
-use Rattle.process_table.specs.TestAnswers.{first_cause, done_unless, child_unless}
-use Rattle.kernel_calls.proofs.Decided.{next-stays, next-goes}
+use Rattle.kernel_calls.proofs.Prelude.{◌≡◌, ◌∙◌, ℕ, true, false, refl, ap, sym, subst, Option, is_err, Err, arith}
+use Rattle.kernel_calls.proofs.Prelude.{Result, Ok, IsOk, IsErr, Pid, Slot, FramesStay, Gone, stays_more, stays_same}
+use Rattle.kernel_calls.proofs.Prelude.{memory_of, View, Cause, done_told, child_told, gone_of_call, gone_by, answer}
+use Rattle.kernel_calls.proofs.Prelude.{answer_of, after, completes, refused_or, Call, Event, Reply}
+use Rattle.process_table.specs.TestAnswers.{first_cause, done_unless, number_unless, child_unless}
+use Rattle.kernel_calls.specs.Replied.{IsReplied}
+use Rattle.kernel_calls.proofs.Decided.{next-stays, next-goes, done_by}
 use Rattle.kernel_calls.specs.declared.calls.Reply.TheVariants as reply
 
--- what a call that is done or refused is told
-pub done-told : (s : State) (e : Event) (c : Call) (x : Option Cause) → e.call ≡ c → answer_of s e.pid c ≡ refused_or x reply.Done
-    → (r : Result (Unit {0}) Cause) → r ≡ done_unless (first_cause s e.pid x) → done_told r ≡ answer s e
-done-told s e c x is asks r h = grind arith
-
--- what a call that makes a child or is refused is told
-pub child-told : (s : State) (e : Event) (c : Call) (x : Option Cause) (child : ℕ) → e.call ≡ c → answer_of s e.pid c ≡ refused_or x (reply.Child child)
-    → (r : Result Pid Cause) → r ≡ child_unless (first_cause s e.pid x) child → child_told r ≡ answer s e
-child-told s e c x child is asks r h = grind arith
-
-module _ {A : Type 0} (say : Result A Cause → Reply) (goes : (a : A) → completes (say (Ok a)) ≡ true) (stops : (k : Cause) → completes (say (Err k)) ≡ false)
-    (v w : View) (e : Event) (c : Call) (is : e.call ≡ c) (r : Result A Cause) (told : say r ≡ answer v.state e) (kept : IsErr r → w ≡ v) where
-  pub state_is : (IsOk r → w.state ≡ after v.state e.pid c) → w.state ≡ next v.state e
-  state_is done = grind (arith, next-goes, next-stays)
-
-  pub stay_is : (gone : Gone) → ((slot : Slot) (f : ℕ) → gone_of_call e.pid c slot f ≡ gone slot f) → FramesStay gone (memory_of v) (memory_of w) → FramesStay (gone_by v.state e) (memory_of v) (memory_of w)
-  stay_is gone same stay = by r refl
+-- what is shown of a call that one function tests and carries out, by what it is told
+module _ {A B : Type 0} (say : Result A B → Reply) (goes : (a : A) → completes (say (Ok a)) ≡ true)
+    (stops : (k : B) → completes (say (Err k)) ≡ false) (v w : View) (e : Event) (c : Call) (gone : Gone)
+    (r : Result A B) (q : Reply) (is : e.call ≡ c)
+    (same : (slot : Slot) (f : ℕ) → gone_of_call e.pid c slot f ≡ gone slot f) (told : say r ≡ answer v.state e)
+    (state : IsOk r → w.state ≡ after v.state e.pid c) (stay : FramesStay gone (memory_of v) (memory_of w))
+    (kept : IsErr r → w ≡ v) (said : q ≡ say r) where
+  frames_stay : FramesStay (gone_by v.state e) (memory_of v) (memory_of w)
+  frames_stay = by r refl
     where
-      by : (x : Result A Cause) → r ≡ x → FramesStay (gone_by v.state e) (memory_of v) (memory_of w)
+      by : (x : Result A B) → r ≡ x → FramesStay (gone_by v.state e) (memory_of v) (memory_of w)
       by (Ok a) h = grind (arith, stays_more)
-      by (Err k) h = subst (λ (x : View). FramesStay (gone_by v.state e) (memory_of v) (memory_of x)) (sym (kept (ap is_err h))) stays_same
+      by (Err k) h = subst (λ (x : View). FramesStay (gone_by v.state e) (memory_of v) (memory_of x))
+          (sym (kept (ap is_err h))) stays_same
 
-  pub kept_is : completes (say r) ≡ false → w ≡ v
-  kept_is = grind arith
+  pub is_replied : IsReplied v e q w
+  is_replied = record {
+    reply = said ∙ told;
+    state = grind (arith, next-goes, next-stays);
+    stay = frames_stay;
+    kept = grind arith;
+  }
+
+module _ (v w : View) (e : Event) (c : Call) (x : Option Cause) (gone : Gone) (q : Reply) (is : e.call ≡ c) where
+  -- of one that is done or refused
+  pub is_done : (r : Result (Unit {0}) Cause) → answer_of v.state e.pid c ≡ refused_or x reply.Done
+      → ((slot : Slot) (f : ℕ) → gone_of_call e.pid c slot f ≡ gone slot f)
+      → r ≡ done_unless (first_cause v.state e.pid x) → (IsOk r → w.state ≡ after v.state e.pid c)
+      → FramesStay gone (memory_of v) (memory_of w) → (IsErr r → w ≡ v) → q ≡ done_told r → IsReplied v e q w
+  is_done r asks same result = is_replied done_told (λ a. refl) (λ k. refl) v w e c gone r q is same (grind arith)
+
+  -- of one that answers with a charge or is refused
+  pub has_charge : (r : Result ℕ Cause) (charge : ℕ) → answer_of v.state e.pid c ≡ refused_or x reply.Done
+      → ((slot : Slot) (f : ℕ) → gone_of_call e.pid c slot f ≡ gone slot f)
+      → r ≡ number_unless (first_cause v.state e.pid x) charge → (IsOk r → w.state ≡ after v.state e.pid c)
+      → FramesStay gone (memory_of v) (memory_of w) → (IsErr r → w ≡ v) → q ≡ done_by r → IsReplied v e q w
+  has_charge r charge asks same result = is_replied done_by (λ a. refl) (λ k. refl) v w e c gone r q is same (grind arith)
+
+  -- of one that makes a child or is refused
+  pub has_child : (r : Result Pid Cause) (child : ℕ) → answer_of v.state e.pid c ≡ refused_or x (reply.Child child)
+      → ((slot : Slot) (f : ℕ) → gone_of_call e.pid c slot f ≡ gone slot f)
+      → r ≡ child_unless (first_cause v.state e.pid x) child → (IsOk r → w.state ≡ after v.state e.pid c)
+      → FramesStay gone (memory_of v) (memory_of w) → (IsErr r → w ≡ v) → q ≡ child_told r → IsReplied v e q w
+  has_child r child asks same result = is_replied child_told (λ a. refl) (λ k. refl) v w e c gone r q is same (grind arith)

@@ -1,20 +1,20 @@
 -- What an event leaves of the other processes.
 use Rattle.kernel_calls.proofs.Prelude
-use Prelude.{◌≡◌, ◌≢◌, ℕ, ◌&&◌, ◌||◌, ◌==◌, not, Bool, true, false, cond, [], ◌∷◌, refl, sym, ap, subst, ◌∙◌, Option}
-use Prelude.{Some, None, is_some, unwrap_or, arith, inl, inr, ◌⊎◌, if◌then◌else◌, slice_index, option_map, ne_eqb}
-use Prelude.{All-head, All-tail, same_Some, byte_count, touched, Size, same, Set, get-insert, get-map_values}
-use Prelude.{contains-insert, get-retain_keys, some_value, no_value, is_some-map, same_cases, same_apart}
-use Prelude.{get-remove_other, get-removed, Slot, slot_order, Cell, Spaces, cost, fresh, cell_or_fresh, with_holders}
-use Prelude.{set_holders, bytes_of, is_slot, is_of, at_page, with_pages, all_stored, joined, copied, same_pages}
-use Prelude.{copied-other, Member, given, is_child, number_of_children, child_no, get-insert_other, given-insert}
-use Prelude.{given-remove, number-insert, number-remove, OfferKey, Offers, offer_order, offer_key, State, is_live}
-use Prelude.{child_of, accept_refusal, spawn_refusal, fork_refusal, offered, after_load, after_store, after_unmap}
-use Prelude.{after_offer, after_withdraw, after_accept, after_exit, IsWellFormed, child_free, live_differ}
-use Prelude.{get-inserted_other, may_fork, may_accept, giver_mapped, flags_of, flags_at, byte_in, shares, is_child_of}
-use Prelude.{IsStoreInto, Integrity, NobodyTakesBack, answer, answer_of, after, next, completes, Call, Event, eqb-true}
-use Rattle.kernel_calls.proofs.Decided.{next-stays, next-goes}
+use Prelude.{◌≡◌, ◌≢◌, ℕ, ◌==◌, Bool, true, false, cond, [], ◌∷◌, refl, sym, ap, ◌∙◌, Option, Some, None, is_some}
+use Prelude.{unwrap_or, arith, inl, inr, ◌⊎◌, if◌then◌else◌, slice_index, option_map, ne_eqb, All-head, All-tail}
+use Prelude.{same_Some, byte_count, touched, Size, same, Set, get-insert, get-map_values, contains-insert}
+use Prelude.{get-retain_keys, some_value, no_value, is_some-map, same_cases, same_apart, get-remove_other, get-removed}
+use Prelude.{Slot, slot_order, Cell, Spaces, cost, fresh, cell_or_fresh, with_holders, set_holders, bytes_of, is_slot}
+use Prelude.{is_of, at_page, with_pages, all_stored, joined, copied, same_pages, copied-other, Member, given, is_child}
+use Prelude.{number_of_children, child_no, get-insert_other, given-insert, given-remove, number-insert, number-remove}
+use Prelude.{OfferKey, Offers, offer_order, offer_key, State, is_live, child_of, accept_refusal, spawn_refusal}
+use Prelude.{fork_refusal, after_load, after_store, after_unmap, after_offer, after_withdraw, after_accept, after_exit}
+use Prelude.{IsWellFormed, child_free, live_differ, get-inserted_other, may_fork, may_accept, giver_mapped, flags_of}
+use Prelude.{flags_at, byte_in, shares, is_child_of, IsStoreInto, Integrity, NobodyTakesBack, answer, answer_of, after}
+use Prelude.{next, completes, Call, Event, eqb-true}
+use Rattle.kernel_calls.proofs.Decided.{by_next}
 use Rattle.kernel_calls.proofs.Runs.{not-refused, kept-next}
-use Rattle.kernel_calls.proofs.UntouchedSlots.{kept_of, kept_at, kept_flags, kept_bytes, kept_shares, of_others, Rest}
+use Rattle.kernel_calls.proofs.UntouchedSlots.{kept_of, kept_at, kept_flags, kept_bytes, kept_shares, of_others}
 use Rattle.kernel_calls.proofs.UntouchedSlots.{rest_of, insert_same, pages_same, accessed_same, without_kept}
 use Rattle.kernel_calls.proofs.UntouchedSlots.{all_stored_rest, store_bytes}
 use Rattle.page_words.specs.FiniteMap as map
@@ -67,9 +67,7 @@ module _ (s : State) (q giver giver_page page : ℕ) (right : Bool) (w : IsWellF
           let o = (w.cells (at_page giver giver_page) g at).alike slot inside in
           let group : c.holders ≡ g.holders = ap (λ (x : Cell). x.holders) (same_Some c o.0 (sym here ∙ o.1)) ∙ o.2 in
           ap (λ b. (flags_of c, (c.bytes, b)))
-          (contains-insert g.holders (at_page q page) other
-          ∙ ap (λ b. b || set.contains g.holders other) (same_apart slot_order other (at_page q page) d)
-          ∙ ap (λ (h : Set slot_order). set.contains h other) (sym group))
+          (grind (arith, contains-insert))
 
   pub joined_kept : (slot other : Slot) → slot ≢ at_page q page → other ≢ at_page q page
       → kept_at after_join slot other ≡ kept_at s.spaces slot other
@@ -86,6 +84,16 @@ pub record EndsOffer (e : Event) (key : OfferKey) : Type 0 where
   pub target : key.target ≡ e.pid
   pub how : ((page : ℕ) × (e.call ≡ call.Accept key.offerer key.page page)) ⊎ (e.call ≡ call.Exit)
 
+-- what p has given, and to how many children, is as before, or one of them exits
+abbrev GivesAsBefore : State → State → Event → ℕ → Type 0
+GivesAsBefore s t e p = ((given t.book p ≡ given s.book p) × (number_of_children t.book p ≡ number_of_children s.book p))
+    ⊎ IsChildsExit s e p
+
+-- each offer of p is as before, or its target ends it
+abbrev OffersAsBefore : State → State → Event → ℕ → Type 0
+OffersAsBefore s t e p = (key : OfferKey) → key.offerer ≡ p
+    → (map.get t.offers key ≡ map.get s.offers key) ⊎ ((map.get t.offers key ≡ None) × EndsOffer e key)
+
 -- all that the event of another process leaves of p
 pub record LeavesAll (s t : State) (e : Event) (p : ℕ) : Type 0 where
   pub member : map.get t.book p ≡ map.get s.book p
@@ -95,60 +103,37 @@ pub record LeavesAll (s t : State) (e : Event) (p : ℕ) : Type 0 where
       ⊎ IsStoreInto s t e (at_page p page) place
   pub holders : (page : ℕ) (other : Slot) → other.pid ≢ e.pid
       → shares t (at_page p page) other ≡ shares s (at_page p page) other
-  pub given : ((given t.book p ≡ given s.book p) × (number_of_children t.book p ≡ number_of_children s.book p))
-      ⊎ IsChildsExit s e p
-  pub offers : (key : OfferKey) → key.offerer ≡ p
-      → (map.get t.offers key ≡ map.get s.offers key) ⊎ ((map.get t.offers key ≡ None) × EndsOffer e key)
+  pub given : GivesAsBefore s t e p
+  pub offers : OffersAsBefore s t e p
 
-untouched : (s t : State) (e : Event) (p : ℕ)
-    → map.get t.book p ≡ map.get s.book p
-    → ((page : ℕ) → flags_at t (at_page p page) ≡ flags_at s (at_page p page))
-    → ((page place : ℕ) → (byte_in t (at_page p page) place ≡ byte_in s (at_page p page) place)
-    ⊎ IsStoreInto s t e (at_page p page) place)
-    → ((page : ℕ) (other : Slot) → other.pid ≢ e.pid
-    → shares t (at_page p page) other ≡ shares s (at_page p page) other)
-    → (((given t.book p ≡ given s.book p) × (number_of_children t.book p ≡ number_of_children s.book p))
-    ⊎ IsChildsExit s e p)
-    → ((key : OfferKey) → key.offerer ≡ p → (map.get t.offers key ≡ map.get s.offers key)
-    ⊎ ((map.get t.offers key ≡ None) × EndsOffer e key))
-    → LeavesAll s t e p
-untouched s t e p member flags bytes holders given offers = record {
-  member = member;
-  flags = flags;
-  cost = grind (arith, same_pages, is_some-map);
-  bytes = bytes;
-  holders = holders;
-  given = given;
-  offers = offers;
-}
+-- where the flags stay, so does the cost
+cost_stays : (s t : State) (p : ℕ) → ((page : ℕ) → flags_at t (at_page p page) ≡ flags_at s (at_page p page))
+    → cost t.spaces p ≡ cost s.spaces p
+cost_stays s t p flags = grind (arith, same_pages, is_some-map)
 
-kept_untouched : (s t : State) (e : Event) (p : ℕ) → p ≢ e.pid
-    → map.get t.book p ≡ map.get s.book p
-    → ((page : ℕ) (other : Slot) → other.pid ≢ e.pid
-    → kept_at t.spaces (at_page p page) other ≡ kept_at s.spaces (at_page p page) other)
-    → (((given t.book p ≡ given s.book p) × (number_of_children t.book p ≡ number_of_children s.book p))
-    ⊎ IsChildsExit s e p)
-    → ((key : OfferKey) → key.offerer ≡ p → (map.get t.offers key ≡ map.get s.offers key)
-    ⊎ ((map.get t.offers key ≡ None) × EndsOffer e key))
-    → LeavesAll s t e p
-kept_untouched s t e p d member kept given offers =
-    untouched s t e p member
-    (λ page. kept_flags s.spaces t.spaces (at_page p page) (at_page p page) (kept page (at_page p page) d))
-    (λ page place. inl (ap (λ xs. slice_index xs place)
-    (kept_bytes s.spaces t.spaces (at_page p page) (at_page p page) (kept page (at_page p page) d))))
-    (λ page other o. kept_shares s.spaces t.spaces (at_page p page) other (kept page other o))
-    given offers
+module _ (s t : State) (e : Event) (p : ℕ) (d : p ≢ e.pid) (member : map.get t.book p ≡ map.get s.book p)
+    (given : GivesAsBefore s t e p) (offers : OffersAsBefore s t e p) where
+  kept_untouched : ((page : ℕ) (other : Slot) → other.pid ≢ e.pid
+      → kept_at t.spaces (at_page p page) other ≡ kept_at s.spaces (at_page p page) other) → LeavesAll s t e p
+  kept_untouched kept = record {
+    member = member;
+    flags = flags;
+    cost = cost_stays s t p flags;
+    bytes = λ page place. inl (ap (λ xs. slice_index xs place)
+        (kept_bytes s.spaces t.spaces (at_page p page) (at_page p page) (kept page (at_page p page) d)));
+    holders = λ page other o. kept_shares s.spaces t.spaces (at_page p page) other (kept page other o);
+    given = given;
+    offers = offers;
+  }
+    where
+      flags : (page : ℕ) → flags_at t (at_page p page) ≡ flags_at s (at_page p page)
+      flags page = kept_flags s.spaces t.spaces (at_page p page) (at_page p page) (kept page (at_page p page) d)
 
-same_untouched : (s t : State) (e : Event) (p : ℕ) → p ≢ e.pid
-    → map.get t.book p ≡ map.get s.book p
-    → ((page : ℕ) → map.get t.spaces (at_page p page) ≡ map.get s.spaces (at_page p page))
-    → (((given t.book p ≡ given s.book p) × (number_of_children t.book p ≡ number_of_children s.book p))
-    ⊎ IsChildsExit s e p)
-    → ((key : OfferKey) → key.offerer ≡ p → (map.get t.offers key ≡ map.get s.offers key)
-    ⊎ ((map.get t.offers key ≡ None) × EndsOffer e key))
-    → LeavesAll s t e p
-same_untouched s t e p d member same given offers =
-    kept_untouched s t e p d member (λ page other o. ap (option_map (kept_of other)) (same page)) given offers
+  same_untouched : ((page : ℕ) → map.get t.spaces (at_page p page) ≡ map.get s.spaces (at_page p page)) → LeavesAll s t e p
+  same_untouched same = kept_untouched (λ page other o. ap (option_map (kept_of other)) (same page))
+
+still_untouched : (s : State) (e : Event) (p : ℕ) → p ≢ e.pid → LeavesAll s s e p
+still_untouched s e p d = same_untouched s s e p d refl (inl (refl, refl)) (λ key own. inl refl) (λ n. refl)
 
 -- offers of p, where others go
 retain_same : (offers : Offers) (stay : OfferKey → Bool) (key : OfferKey) → stay key ≡ true
@@ -162,24 +147,12 @@ retain_gone offers stay key h = get-retain_keys offers stay key ∙ ap (λ b. co
 other_offerer : (p q page to : ℕ) (key : OfferKey) → p ≢ q → key.offerer ≡ p → key ≢ offer_key q page to
 other_offerer p q page to key d own e = d (sym own ∙ ap (λ (k : OfferKey). k.offerer) e)
 
--- a child of q more
-more_given : (s : State) (q p k quota : ℕ) → q ≢ p → is_live s k ≡ false
-    → (given (map.insert s.book k (record { parent = q; quota = quota })) p ≡ given s.book p)
-    × (number_of_children (map.insert s.book k (record { parent = q; quota = quota })) p ≡ number_of_children s.book
-    p)
-more_given s q p k quota d free = grind (arith, no_value, given-insert, number-insert, child_no)
-
 -- one child less, where q was one of p
 less_given : (s : State) (e : Event) (p : ℕ) → e.call ≡ call.Exit → (m : Member) → map.get s.book e.pid ≡ Some m
-    → ((given (map.remove s.book e.pid) p ≡ given s.book p)
-    × (number_of_children (map.remove s.book e.pid) p ≡ number_of_children s.book p))
-    ⊎ IsChildsExit s e p
+    → GivesAsBefore s (after_exit s e.pid) e p
 less_given s e p exit m here = by (is_child p (e.pid, m)) refl
   where
-    by : (b : Bool) → is_child p (e.pid, m) ≡ b
-        → ((given (map.remove s.book e.pid) p ≡ given s.book p)
-        × (number_of_children (map.remove s.book e.pid) p ≡ number_of_children s.book p))
-        ⊎ IsChildsExit s e p
+    by : (b : Bool) → is_child p (e.pid, m) ≡ b → GivesAsBefore s (after_exit s e.pid) e p
     by true is = grind arith
     by false is = inl (
         let a = given-remove s.book e.pid m here p in
@@ -190,93 +163,63 @@ less_given s e p exit m here = by (is_child p (e.pid, m)) refl
 
 module _ (s : State) (e : Event) (p : ℕ) (w : IsWellFormed s) (live_p : is_live s p ≡ true) (d : p ≢ e.pid)
     (live : is_live s e.pid ≡ true) where
-  q_not : e.pid ≢ p
-  q_not x = d (sym x)
-
-  offers_same : (key : OfferKey) → key.offerer ≡ p
-      → (map.get s.offers key ≡ map.get s.offers key) ⊎ ((map.get s.offers key ≡ None) × EndsOffer e key)
-  offers_same key own = inl refl
+  -- where only spaces change
+  spaces_untouched : (T : Spaces) → ((page : ℕ) → map.get T (at_page p page) ≡ map.get s.spaces (at_page p page))
+      → LeavesAll s (record s { spaces = T }) e p
+  spaces_untouched T = same_untouched s (record s { spaces = T }) e p d refl (inl (refl, refl)) (λ key own. inl refl)
 
   load_untouched : (addr : ℕ) (size : Size) → LeavesAll s (after_load s e.pid addr size) e p
   load_untouched addr size =
       let pages = touched addr size in
-      same_untouched s (after_load s e.pid addr size) e p d refl
-      (λ page. accessed_same e.pid (at_page p page) d (with_pages s.spaces e.pid pages) pages
+      spaces_untouched _ (λ page. accessed_same e.pid (at_page p page) d (with_pages s.spaces e.pid pages) pages
       ∙ pages_same e.pid (at_page p page) d s.spaces pages)
-      (inl (refl, refl)) offers_same
 
   map_untouched : (page : ℕ) (c : Cell) → LeavesAll s
       (record s { spaces = map.insert s.spaces (at_page e.pid page) c }) e p
-  map_untouched page c =
-      same_untouched s (record s { spaces = map.insert s.spaces (at_page e.pid page) c }) e p d refl
-      (λ n. insert_same e.pid (at_page p n) d s.spaces page c)
-      (inl (refl, refl)) offers_same
+  map_untouched page c = spaces_untouched _ (λ n. insert_same e.pid _ d s.spaces page c)
 
   store_untouched : (addr : ℕ) (size : Size) (value : ℕ) → e.call ≡ call.Store addr size value
       → completes (answer_of s e.pid (call.Store addr size value)) ≡ true
       → LeavesAll s (after_store s e.pid addr size value) e p
-  store_untouched addr size value is done =
-      untouched s (after_store s e.pid addr size value) e p refl
-      (λ page. flags_from page (rest page (at_page p page)))
-      bytes
-      (λ page other o. shares_from page other (rest page other))
-      (inl (refl, refl)) offers_same
+  store_untouched addr size value is done = record {
+    member = refl;
+    flags = flags;
+    cost = cost_stays s (after_store s e.pid addr size value) p flags;
+    bytes = bytes;
+    holders = λ page other o. holders page other (rest page other);
+    given = inl (refl, refl);
+    offers = λ key own. inl refl;
+  }
     where
-      T : Spaces
-      T = with_pages s.spaces e.pid (touched addr size)
-
       U : Spaces
-      U = all_stored T e.pid addr (bytes_of (byte_count size) value)
+      U = all_stored (with_pages s.spaces e.pid (touched addr size)) e.pid addr (bytes_of (byte_count size) value)
 
       rest : (page : ℕ) (other : Slot) → option_map (rest_of other) (map.get U (at_page p page)) ≡ option_map
           (rest_of other) (map.get s.spaces (at_page p page))
-      rest page other = grind (arith, all_stored_rest, T, rest_of, pages_same)
+      rest page other = grind (arith, all_stored_rest, pages_same)
 
-      flags_from : (page : ℕ) → option_map (rest_of (at_page p page)) (map.get U (at_page p page)) ≡ option_map
-          (rest_of (at_page p page)) (map.get s.spaces (at_page p page))
-          → option_map flags_of (map.get U (at_page p page)) ≡ option_map flags_of (map.get s.spaces (at_page p page))
-      flags_from page h = sym (by (map.get U (at_page p page))) ∙ ap (option_map (λ (k : Rest). k.0)) h
-          ∙ by (map.get s.spaces (at_page p page))
+      flags : (page : ℕ) → option_map flags_of (map.get U (at_page p page)) ≡ option_map flags_of
+          (map.get s.spaces (at_page p page))
+      flags page = flags_from page (rest page (at_page p page))
         where
-          by : (x : Option Cell) → option_map (λ (k : Rest). k.0) (option_map (rest_of (at_page p page)) x) ≡ option_map
-              flags_of x
-          by x = grind arith
+          flags_from : (page : ℕ) → option_map (rest_of (at_page p page)) (map.get U (at_page p page)) ≡ option_map
+              (rest_of (at_page p page)) (map.get s.spaces (at_page p page))
+              → option_map flags_of (map.get U (at_page p page)) ≡ option_map flags_of (map.get s.spaces (at_page p page))
+          flags_from page h = grind arith
 
-      shares_from : (page : ℕ) (other : Slot) → option_map (rest_of other) (map.get U (at_page p page)) ≡ option_map
+      holders : (page : ℕ) (other : Slot) → option_map (rest_of other) (map.get U (at_page p page)) ≡ option_map
           (rest_of other) (map.get s.spaces (at_page p page))
           → shares (after_store s e.pid addr size value) (at_page p page) other ≡ shares s (at_page p page) other
-      shares_from page other h = sym (by (map.get U (at_page p page)))
-          ∙ ap (λ (x : Option Rest). unwrap_or (option_map (λ (k : Rest). k.1) x) false) h
-          ∙ by (map.get s.spaces (at_page p page))
-        where
-          by : (x : Option Cell) → unwrap_or (option_map (λ (k : Rest). k.1) (option_map (rest_of other) x))
-              false ≡ unwrap_or (option_map (λ (c : Cell). set.contains c.holders other) x) false
-          by x = grind arith
+      holders page other h = grind arith
 
       bytes : (page place : ℕ) → (byte_in (after_store s e.pid addr size value) (at_page p page) place ≡ byte_in s
           (at_page p page) place) ⊎ IsStoreInto s (after_store s e.pid addr size value) e (at_page p page) place
-      bytes page place = by (map.get s.spaces (at_page p page)) refl
-        where
-          by : (x : Option Cell) → map.get s.spaces (at_page p page) ≡ x
-              → (byte_in (after_store s e.pid addr size value) (at_page p page) place ≡ byte_in s (at_page p page)
-              place) ⊎ IsStoreInto s (after_store s e.pid addr size value) e (at_page p page) place
-          by (Some c) at = store_bytes s e addr value size is w live done (at_page p page) c place at
-          by None none = inl (ap (λ (x : Option Cell).
-              slice_index (unwrap_or x (fresh (at_page p page) true)).bytes place)
-              (nothing (map.get U (at_page p page)) (flags_from page (rest page (at_page p page))
-              ∙ ap (option_map flags_of) none) ∙ sym none))
-            where
-              nothing : (x : Option Cell) → option_map flags_of x ≡ None → x ≡ None
-              nothing x h = grind arith
+      bytes page place = grind (arith, store_bytes, flags, rest)
 
   unmap_untouched : (page : ℕ) → LeavesAll s (after_unmap s e.pid page) e p
   unmap_untouched page =
-      kept_untouched s (after_unmap s e.pid page) e p d refl
-      (λ n other o. without_kept e.pid (at_page p n) d s.spaces (is_slot e.pid page) other (stays (at_page p n) d)
-      (stays other o))
-      (inl (refl, refl))
-      (λ key own. inl (retain_same s.offers (λ (k : OfferKey). not ((k.offerer == e.pid) && (k.page == page))) key
-      (ap (λ b. not (b && (key.page == page))) (ne_eqb key.offerer e.pid (λ x. d (sym own ∙ x))))))
+      kept_untouched s _ e p d refl (inl (refl, refl)) (λ key own. inl (grind (arith, retain_same)))
+      (λ n other o. without_kept e.pid _ d s.spaces _ other (stays _ d) (stays other o))
     where
       stays : (slot : Slot) → slot.pid ≢ e.pid → is_slot e.pid page slot ≡ false
       stays slot n = same_apart slot_order (at_page e.pid page) slot (λ x. of_others e.pid page slot n (sym x))
@@ -286,74 +229,56 @@ module _ (s : State) (e : Event) (p : ℕ) (w : IsWellFormed s) (live_p : is_liv
 
   withdraw_untouched : (page target : ℕ) → LeavesAll s (after_withdraw s e.pid page target) e p
   withdraw_untouched page target =
-      same_untouched s (after_withdraw s e.pid page target) e p d refl (λ n. refl) (inl (refl, refl))
-      (λ key own. inl (get-remove_other s.offers (offer_key e.pid page target) key
-      (other_offerer p e.pid page target key d own)))
+      same_untouched s _ e p d refl (inl (refl, refl))
+      (λ key own. inl (get-remove_other s.offers _ key (other_offerer p e.pid page target key d own))) (λ n. refl)
 
   accept_untouched : (giver giver_page page : ℕ) → e.call ≡ call.Accept giver giver_page page
       → accept_refusal s e.pid giver giver_page page ≡ None
       → LeavesAll s (after_accept s e.pid giver giver_page page) e p
   accept_untouched giver giver_page page is allowed =
-      kept_untouched s (after_accept s e.pid giver giver_page page) e p d refl
-      (λ n other o. joined_kept s e.pid giver giver_page page (offered s giver giver_page e.pid) w g.0 g.1 (at_page p n)
-      other (of_others e.pid page (at_page p n) d) (of_others e.pid page other o))
-      (inl (refl, refl))
-      (λ key own. offers key (same_cases offer_order key (offer_key giver giver_page e.pid)))
+      kept_untouched s _ e p d refl (inl (refl, refl)) (λ key own. offers key (same_cases offer_order key taken))
+      (λ n other o. joined_kept s e.pid giver giver_page page _ w g.0 g.1 _ other (of_others e.pid page _ d)
+      (of_others e.pid page other o))
     where
+      taken : OfferKey
+      taken = offer_key giver giver_page e.pid
+
       g : (c : Cell) × (map.get s.spaces (at_page giver giver_page) ≡ Some c)
       g = giver_mapped s e.pid giver giver_page w (may_accept s e.pid giver giver_page page allowed).there
 
-      offers : (key : OfferKey) → ((key ≡ offer_key giver giver_page e.pid)
-          × (same offer_order key (offer_key giver giver_page e.pid) ≡ true))
-          ⊎ ((key ≢ offer_key giver giver_page e.pid) × (same offer_order key (offer_key giver giver_page e.pid) ≡ false))
-          → (map.get (map.remove s.offers (offer_key giver giver_page e.pid)) key ≡ map.get s.offers key)
-          ⊎ ((map.get (map.remove s.offers (offer_key giver giver_page e.pid)) key ≡ None) × EndsOffer e key)
+      offers : (key : OfferKey) → ((key ≡ taken) × (same offer_order key taken ≡ true))
+          ⊎ ((key ≢ taken) × (same offer_order key taken ≡ false))
+          → (map.get (map.remove s.offers taken) key ≡ map.get s.offers key)
+          ⊎ ((map.get (map.remove s.offers taken) key ≡ None) × EndsOffer e key)
       offers key (inl same) = inr (
-        ap (map.get (map.remove s.offers (offer_key giver giver_page e.pid))) same.0
-            ∙ get-removed s.offers (offer_key giver giver_page e.pid),
+        ap (map.get (map.remove s.offers taken)) same.0 ∙ get-removed s.offers taken,
         record {
           target = ap (λ (k : OfferKey). k.target) same.0;
           how = inl (page, is ∙ (λ i. call.Accept (sym same.0 i).offerer (sym same.0 i).page page));
         },
       )
-      offers key (inr other) = inl (get-remove_other s.offers (offer_key giver giver_page e.pid) key other.0)
+      offers key (inr other) = inl (get-remove_other s.offers taken key other.0)
 
+  -- with one child of the caller more
   child_untouched : (k quota : ℕ) (T : Spaces) → is_live s k ≡ false
-      → ((n : ℕ) → map.get T (at_page p n) ≡ map.get s.spaces (at_page p n))
-      → LeavesAll s (record {
-        spaces = T;
-        book = map.insert s.book k (record { parent = e.pid; quota = quota });
-        offers = s.offers;
-      }) e p
+      → ((n : ℕ) → map.get T (at_page p n) ≡ map.get s.spaces (at_page p n)) → LeavesAll s
+      (record s { spaces = T; book = map.insert s.book k (record { parent = e.pid; quota = quota }) }) e p
   child_untouched k quota T free same =
-      same_untouched s (record {
-        spaces = T;
-        book =
-            map.insert s.book k (record { parent = e.pid; quota = quota });
-        offers = s.offers;
-      }) e p d
-      (get-insert_other s.book k (record { parent = e.pid; quota = quota }) p (live_differ s p k live_p free))
-      same
-      (inl (more_given s e.pid p k quota q_not free))
-      offers_same
+      same_untouched s _ e p d (get-insert_other s.book k _ p (live_differ s p k live_p free))
+      (inl (grind (arith, no_value, given-insert, number-insert, child_no))) (λ key own. inl refl) same
 
   exit_untouched : e.call ≡ call.Exit → LeavesAll s (after_exit s e.pid) e p
   exit_untouched is =
       let m = some_value (map.get s.book e.pid) live in
-      kept_untouched s (after_exit s e.pid) e p d
-      (get-remove_other s.book e.pid p d)
+      kept_untouched s (after_exit s e.pid) e p d (get-remove_other s.book e.pid p d) (less_given s e p is m.0 m.1)
+      (λ key own. offers key (key.target == e.pid) refl (ne_eqb key.offerer e.pid (λ x. d (sym own ∙ x))))
       (λ n other o. without_kept e.pid (at_page p n) d s.spaces (is_of e.pid) other (ne_eqb p e.pid d)
       (ne_eqb other.pid e.pid o))
-      (less_given s e p is m.0 m.1)
-      (λ key own. offers key (key.target == e.pid) refl (ne_eqb key.offerer e.pid (λ x. d (sym own ∙ x))))
     where
       offers : (key : OfferKey) (b : Bool) → (key.target == e.pid) ≡ b → (key.offerer == e.pid) ≡ false
           → (map.get (after_exit s e.pid).offers key ≡ map.get s.offers key)
           ⊎ ((map.get (after_exit s e.pid).offers key ≡ None) × EndsOffer e key)
       offers key b target other = grind (arith, retain_gone, eqb-true, retain_same)
-
-  nothing_untouched : LeavesAll s s e p
-  nothing_untouched = same_untouched s s e p d refl (λ n. refl) (inl (refl, refl)) offers_same
 
   after_untouched : (c : Call) → e.call ≡ c → completes (answer_of s e.pid c) ≡ true
       → LeavesAll s (after s e.pid c) e p
@@ -361,11 +286,10 @@ module _ (s : State) (e : Event) (p : ℕ) (w : IsWellFormed s) (live_p : is_liv
   after_untouched (call.Store addr size value) is h = store_untouched addr size value is h
   after_untouched (call.Map page write) is h = map_untouched page (fresh (at_page e.pid page) write)
   after_untouched (call.Unmap page) is h = unmap_untouched page
-  after_untouched (call.Protect page write) is h =
-      map_untouched page (record (cell_or_fresh s.spaces (at_page e.pid page)) { write = write })
+  after_untouched (call.Protect page write) is h = map_untouched page _
   after_untouched (call.Offer page target write) is h = offer_untouched page target write
   after_untouched (call.Withdraw page target) is h = withdraw_untouched page target
-  after_untouched (call.Accept giver giver_page page) is h = grind (arith, accept_untouched, not-refused)
+  after_untouched (call.Accept giver giver_page page) is h = grind (arith, accept_untouched)
   after_untouched (call.Spawn quota) is h = child_untouched (child_of s) quota s.spaces
       (child_free s e.pid quota (not-refused (spawn_refusal s e.pid quota) _ h)) (λ n. refl)
   after_untouched (call.Fork quota) is h =
@@ -374,23 +298,17 @@ module _ (s : State) (e : Event) (p : ℕ) (w : IsWellFormed s) (live_p : is_liv
       child_untouched (child_of s) quota (copied s.spaces e.pid (child_of s)) free
       (λ n. copied-other s.spaces e.pid (child_of s) (at_page p n) (live_differ s p (child_of s) live_p free))
   after_untouched call.Exit is h = exit_untouched is
-  after_untouched _ is h = nothing_untouched
+  after_untouched _ is h = still_untouched s e p d
 
 -- who calls and is not refused is live
 pub caller_live : (s : State) (e : Event) → completes (answer s e) ≡ true
     → (is_live s e.pid ≡ true) × (completes (answer_of s e.pid e.call) ≡ true)
 caller_live s e h = grind arith
 
-still_untouched : (s : State) (e : Event) (p : ℕ) → p ≢ e.pid → LeavesAll s s e p
-still_untouched s e p d = same_untouched s s e p d refl (λ n. refl) (inl (refl, refl)) (λ key own. inl refl)
-
 pub leaves_all : (s : State) (e : Event) (p : ℕ) → IsWellFormed s → is_live s p ≡ true → p ≢ e.pid
     → LeavesAll s (next s e) e p
-leaves_all s e p w live d = by (completes (answer s e)) refl
-  where
-    by : (b : Bool) → completes (answer s e) ≡ b → LeavesAll s (next s e) e p
-    by true h = grind (arith, caller_live, next-goes, after_untouched)
-    by false h = subst (λ t. LeavesAll s t e p) (sym (next-stays s e h)) (still_untouched s e p d)
+leaves_all s e p w live d = by_next (λ t. LeavesAll s t e p) s e (still_untouched s e p d)
+    (λ calls. after_untouched s e p w live d calls e.call refl)
 
 pub integrity : Integrity
 integrity s e p w live d =

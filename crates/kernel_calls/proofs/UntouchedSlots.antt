@@ -4,12 +4,12 @@ use Prelude.{◌≡◌, ◌≢◌, ℕ, zero, suc, ◌+◌, ◌-◌, ◌/◌, �
 use Prelude.{length, refl, sym, ap, ◌∙◌, Option, Some, None, is_some, unwrap_or, arith, inl, inr, get_or-set_other}
 use Prelude.{get_or-set_same, ◌⊎◌, if◌then◌else◌, slice_index, option_map, range_with_len, cases_eq, not-false}
 use Prelude.{same_Some, page_number, offset_number, byte_count, touched, Size, same, Set, get-map_values}
-use Prelude.{contains-retain, some_value, same_cases, Slot, slot_order, Cell, Spaces, fresh, cell_or_fresh, with_bytes}
-use Prelude.{set_bytes, write_at, bytes_of, without, at_page, slot_at, accessed, stored, with_page, with_pages}
-use Prelude.{all_accessed, all_stored, AreThere, first_there, rest_there, touched-there, bytes_there, with_page-keeps}
-use Prelude.{left, get-without, byte_is_write, Write, State, is_live, after_store, IsWellFormed, get-inserted}
+use Prelude.{contains-retain, same_cases, Slot, slot_order, Cell, Spaces, fresh, cell_or_fresh, with_bytes, set_bytes}
+use Prelude.{write_at, bytes_of, without, at_page, slot_at, accessed, stored, with_page, with_pages, all_accessed}
+use Prelude.{all_stored, AreThere, first_there, rest_there, touched-there, bytes_there, with_page-keeps, left}
+use Prelude.{get-without, byte_is_write, Write, State, is_live, after_store, IsWellFormed, get-inserted}
 use Prelude.{get-inserted_other, well_formed-bytes, well_formed-touched, plan_of, step_of, is_read_only, Goes, ready}
-use Prelude.{all_user, same_cells, Flags, flags_of, byte_in, IsStoreInto, answer_of, completes, Event, in_lone}
+use Prelude.{all_user, same_cells, Flags, flags_of, byte_in, IsStoreInto, answer_of, completes, Event}
 use Rattle.std.specs.Prelude.{find}
 use Rattle.kernel_calls.proofs.Runs.{went-on}
 use Rattle.page_words.specs.FiniteMap as map
@@ -63,8 +63,7 @@ module _ (q : ℕ) (slot : Slot) (d : slot.pid ≢ q) where
 
   pub accessed_same : (S : Spaces) (pages : List ℕ) → map.get (all_accessed S q pages) slot ≡ map.get S slot
   accessed_same S [] = refl
-  accessed_same S (page ∷ pages) = accessed_same (accessed S (at_page q page)) pages
-      ∙ insert_same S page (record (cell_or_fresh S (at_page q page)) { accessed = true })
+  accessed_same S (page ∷ pages) = grind (arith, insert_same, (accessed_same (accessed S (at_page q page)) pages))
 
   -- where a slot of q goes, or all of them
   pub without_kept : (S : Spaces) (gone : Slot → Bool) (other : Slot) → gone slot ≡ false → gone other ≡ false
@@ -106,18 +105,17 @@ own_byte bytes at v inside = ap (λ xs. slice_index xs at) (sym (byte_is_write b
 -- a store leaves all groups of its process
 pub holders_stored : (S : Spaces) (q page at n : ℕ) (new : List ℕ)
     → (cell_or_fresh (stored S (at_page q page) at new) (at_page q n)).holders ≡ (cell_or_fresh S (at_page q n)).holders
-holders_stored S q page at n new = elim (cases_eq n page) [
-  | inl same ↦
-      ap (λ m. (cell_or_fresh (stored S (at_page q page) at new) (at_page q m)).holders) same
-      ∙ ap (λ (x : Option Cell). (unwrap_or x (fresh (at_page q page) true)).holders)
-      (get-inserted spaces (at_page q page) written)
-      ∙ sym (ap (λ m. (cell_or_fresh S (at_page q m)).holders) same)
-  | inr other ↦
-      ap (λ (x : Option Cell). (unwrap_or x (fresh (at_page q n) true)).holders)
-      (get-inserted_other spaces (at_page q page) written (at_page q n) (λ e. other (ap (λ (x : Slot). x.page) e))
-      ∙ get-map_values slot_order (λ r c. if set.contains group r then with_bytes c bytes else c) S (at_page q n))
-      ∙ by (map.get S (at_page q n))
-]
+holders_stored S q page at n new =
+    let spaces : Spaces = set_bytes S group bytes in
+    let written : Cell = record (cell_or_fresh S (at_page q page)) { bytes = bytes; accessed = true; dirty = true } in
+    elim (cases_eq n page) [
+      | inl same ↦ grind (arith, (get-inserted spaces (at_page q page) written))
+      | inr other ↦
+          ap (λ (x : Option Cell). (unwrap_or x (fresh (at_page q n) true)).holders)
+          (get-inserted_other spaces (at_page q page) written (at_page q n) (λ e. other (ap (λ (x : Slot). x.page) e))
+          ∙ get-map_values slot_order (λ r c. if set.contains group r then with_bytes c bytes else c) S (at_page q n))
+          ∙ by (map.get S (at_page q n))
+    ]
   where
     group : Set slot_order
     group = (cell_or_fresh S (at_page q page)).holders
@@ -125,19 +123,13 @@ holders_stored S q page at n new = elim (cases_eq n page) [
     bytes : List ℕ
     bytes = write_at (cell_or_fresh S (at_page q page)).bytes at new
 
-    spaces : Spaces
-    spaces = set_bytes S group bytes
-
-    written : Cell
-    written = record (cell_or_fresh S (at_page q page)) { bytes = bytes; accessed = true; dirty = true }
-
     either : (b : Bool) (c : Cell) → (if b then with_bytes c bytes else c).holders ≡ c.holders
     either b c = grind arith
 
     by : (x : Option Cell) → (unwrap_or (option_map
         (λ (c : Cell). if set.contains group (at_page q n) then with_bytes c bytes else c) x)
         (fresh (at_page q n) true)).holders ≡ (unwrap_or x (fresh (at_page q n) true)).holders
-    by x = grind (arith, either, group)
+    by x = grind arith
 
 -- of the k low bytes of v, stored from an address on, one goes to this place, through a slot of q in whose group this
 -- slot is
@@ -166,8 +158,7 @@ module _ (s : State) (q addr v : ℕ) (w : IsWellFormed s) (own_there : map.cont
     one_stored = stored s.spaces target (offset_number addr) (bytes_of 1 v)
 
     pub own_cell : map.get s.spaces target ≡ Some cell
-    own_cell = let o = some_value (map.get s.spaces target) own_there in o.1
-        ∙ ap Some (sym (ap (λ (x : Option Cell). unwrap_or x (fresh target true)) o.1))
+    own_cell = grind arith
 
     abbrev renew : Slot → Cell → Cell
     renew slot d = if set.contains cell.holders slot then with_bytes d new_bytes else d
@@ -196,8 +187,7 @@ module _ (s : State) (q addr v : ℕ) (w : IsWellFormed s) (own_there : map.cont
         ∙ ap (λ b. Some (if b then with_bytes d new_bytes else d)) outside
       where
         differs : slot ≢ target
-        differs e = let t : set.contains cell.holders slot ≡ true = ap (set.contains cell.holders) e
-            ∙ (w.cells target cell own_cell).own in cc
+        differs e = grind arith
 
     pub one_byte : (slot : Slot) (d : Cell) (place : ℕ) → map.get s.spaces slot ≡ Some d
         → (slice_index (cell_or_fresh one_stored slot).bytes place ≡ slice_index d.bytes place)
@@ -209,8 +199,7 @@ module _ (s : State) (q addr v : ℕ) (w : IsWellFormed s) (own_there : map.cont
             → (slice_index (cell_or_fresh one_stored slot).bytes place ≡ slice_index d.bytes place)
             ⊎ ((offset_number addr ≡ place) × (set.contains cell.holders slot ≡ true)
             × (slice_index (cell_or_fresh one_stored slot).bytes place ≡ v % 256))
-        by false out = inl (ap (λ (x : Option Cell). slice_index (unwrap_or x (fresh slot true)).bytes place)
-            (same_out slot d at out))
+        by false out = grind (arith, (same_out slot d at out))
         by true inside = elim (cases_eq (offset_number addr) place) [
           | inl is ↦ inr (
             is,
@@ -255,6 +244,16 @@ pub many_bytes : (s : State) (q addr k v : ℕ) → IsWellFormed s → AreThere 
     place) ⊎ Reaches s.spaces q addr k v slot place
 many_bytes s q addr zero v w there slot d place at = grind arith
 many_bytes s q addr (suc k) v w there slot d place at =
+    let nothing : addr - addr ≡ 0 = omega arith in
+    let T : Spaces = stored s.spaces (slot_at q addr) (offset_number addr) (bytes_of 1 v) in
+    let first : map.contains_key s.spaces (slot_at q addr) ≡ true = first_there s.spaces q addr k there in
+    let well : IsWellFormed (record s { spaces = T }) = well_formed-bytes s q addr 1 v w (λ i l. let z : i ≡ 0 = omega
+    (arith, l) in ap (λ j. map.contains_key s.spaces (at_page q (page_number (addr + j)))) z ∙ there 0 (omega arith))
+    in
+    let next_cell : (e : Cell) × (map.get T slot ≡ Some e) = still_there s q addr v w first slot d at in
+    let one : (slice_index (cell_or_fresh T slot).bytes place ≡ slice_index d.bytes place) ⊎ ((offset_number addr ≡
+    place) × (set.contains (cell_or_fresh s.spaces (slot_at q addr)).holders slot ≡ true) × (slice_index (cell_or_fresh
+    T slot).bytes place ≡ v % 256)) = one_byte s q addr v w first slot d place at in
     elim (many_bytes (record s { spaces = T }) q (addr + 1) k (v / 256) well
     (rest_there s.spaces q addr k (offset_number addr) (v % 256) there) slot next_cell.0 place next_cell.1) [
       | inl later ↦ (elim one [
@@ -264,29 +263,8 @@ many_bytes s q addr (suc k) v w there slot d place at =
       | inr r ↦ grind (arith, first, holders_stored, one_less)
     ]
   where
-    nothing : addr - addr ≡ 0
-    nothing = omega arith
-
     one_less : (byte : ℕ) → addr + 1 ≤ byte → byte - addr ≡ suc (byte - (addr + 1))
     one_less byte l = omega (arith, l)
-
-    T : Spaces
-    T = stored s.spaces (slot_at q addr) (offset_number addr) (bytes_of 1 v)
-
-    first : map.contains_key s.spaces (slot_at q addr) ≡ true
-    first = first_there s.spaces q addr k there
-
-    well : IsWellFormed (record s { spaces = T })
-    well = well_formed-bytes s q addr 1 v w (λ i l. let z : i ≡ 0 = omega (arith, l) in
-        ap (λ j. map.contains_key s.spaces (at_page q (page_number (addr + j)))) z ∙ there 0 (omega arith))
-
-    next_cell : (e : Cell) × (map.get T slot ≡ Some e)
-    next_cell = still_there s q addr v w first slot d at
-
-    one : (slice_index (cell_or_fresh T slot).bytes place ≡ slice_index d.bytes place)
-        ⊎ ((offset_number addr ≡ place) × (set.contains (cell_or_fresh s.spaces (slot_at q addr)).holders slot ≡ true)
-        × (slice_index (cell_or_fresh T slot).bytes place ≡ v % 256))
-    one = one_byte s q addr v w first slot d place at
 
 -- where no number of a range passes a test
 pub none_in : (t : ℕ → Bool) (a n : ℕ) → find t (range_with_len a n) ≡ None → (k : ℕ) → a ≤ k → k < a + n → t k ≡ false
@@ -310,34 +288,26 @@ module _ (s : State) (e : Event) (addr value : ℕ) (size : Size) (is : e.call �
   pub store_bytes : (slot : Slot) (d : Cell) (place : ℕ) → map.get s.spaces slot ≡ Some d
       → (byte_in (after_store s e.pid addr size value) slot place ≡ byte_in s slot place)
       ⊎ IsStoreInto s (after_store s e.pid addr size value) e slot place
-  store_bytes slot d place at = elim (many_bytes (record s { spaces = T }) q addr (byte_count size) value well
+  store_bytes slot d place at =
+      let T : Spaces = with_pages s.spaces q (touched addr size) in
+      let well : IsWellFormed (record s { spaces = T }) = well_formed-touched s q addr size w live (all_user addr size
+      goes.outside) goes.room in
+      let at_T : map.get T slot ≡ Some (cell_or_fresh T slot) = grind (arith, pages_keep) in
+      elim (many_bytes (record s { spaces = T }) q addr (byte_count size) value well
       (bytes_there T q addr size (touched-there s.spaces q addr size)) slot (cell_or_fresh T slot) place at_T) [
-        | inl same ↦ grind (arith, same_cells, q)
+        | inl same ↦ grind (arith, same_cells)
         | inr r ↦ inr (
             let first = r.first in
             let last = r.last in
-            through r.byte first last r.there (ap (λ (x : Cell). set.contains x.holders slot)
-            (sym (same_cells s.spaces q (touched addr size) (slot_at q r.byte))) ∙ r.shared) r.stored
+            through r.byte first last r.there (grind (arith, same_cells)) r.stored
             (map.get s.spaces (slot_at q r.byte)) refl)
       ]
     where
       q : ℕ
       q = e.pid
 
-      T : Spaces
-      T = with_pages s.spaces q (touched addr size)
-
       goes : Goes (step_of s q) s q addr size Write
       goes = ready (step_of s q) s q addr size Write (went-on (plan_of s q addr size Write) _ done)
-
-      well : IsWellFormed (record s { spaces = T })
-      well = well_formed-touched s q addr size w live (all_user addr size goes.outside) goes.room
-
-      at_T : map.get T slot ≡ Some (cell_or_fresh T slot)
-      at_T = by (map.get T slot) refl
-        where
-          by : (x : Option Cell) → map.get T slot ≡ x → x ≡ Some (unwrap_or x (fresh slot true))
-          by x none = grind (arith, pages_keep, q)
 
       through : (byte : ℕ) → addr ≤ byte → byte < addr + byte_count size → offset_number byte ≡ place
           → set.contains (cell_or_fresh s.spaces (slot_at q byte)).holders slot ≡ true
@@ -345,7 +315,7 @@ module _ (s : State) (e : Event) (addr value : ℕ) (size : Size) (is : e.call �
           (byte - addr)
           → (x : Option Cell) → map.get s.spaces (slot_at q byte) ≡ x
           → IsStoreInto s (after_store s e.pid addr size value) e slot place
-      through byte first last there shared stored None none = grind (arith, q, same_cases, in_lone)
+      through byte first last there shared stored None none = grind arith
       through byte first last there shared stored (Some o) some = record {
         address = addr;
         size = size;

@@ -126,12 +126,10 @@ module _ (s t : State) (q : ℕ) (l : HasTheSame s t q) where
       if is_some (l.made page target i) then Some cause.OfferPending else
       if nat_le 32 (map.len (pending_same i)) then Some cause.TooManyOffers else
       None) reply.Done
-  answer_of_same (call.Withdraw page target) none finds = grind arith
-  answer_of_same (call.Accept giver giver_page page) none finds = cc
   answer_of_same (call.Spawn quota) none finds = grind (arith, room_same)
   answer_of_same (call.Fork quota) none finds = grind (arith, cost_same, room_same)
-  answer_of_same call.Exit none finds = grind arith
   answer_of_same call.Quota none finds = λ i. reply.Quota (l.quota i) (cost_same i) (l.given i)
+  answer_of_same _ none finds = grind arith
 
 -- any call but an accept is told the same, where it finds the same processes live if it reads that
 pub told_by_own : (s t : State) (e : Event) → HasTheSame s t e.pid → takes_offer e.call ≡ false

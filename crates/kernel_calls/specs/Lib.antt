@@ -17,6 +17,7 @@ pub mod Machine
 pub mod Pages
 pub mod TakenBack
 pub mod Processors
+pub mod Replied
 pub mod Transfers
 pub mod Translations
 pub mod Turns

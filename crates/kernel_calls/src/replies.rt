@@ -1,12 +1,13 @@
 //! The reply to an event, which is carried out: each call is tested and made by one function.
 
 ghost use Rattle.std.specs.Prelude.{◌≡◌, false, true};
-ghost use Rattle.address_space.specs.Stays.{FramesStay, LooseStay};
+ghost use Rattle.address_space.specs.Stays.{LooseStay};
 ghost use Rattle.process_table.specs.Image.{memory_of};
 ghost use Rattle.kernel_calls.specs.Decisions.{call_of, done_told, child_told};
 ghost use Rattle.kernel_calls.specs.Lazy.{LeavesLazy};
-ghost use Rattle.kernel_calls.specs.Gone.{gone_by, gives_back};
-ghost use Rattle.kernel_calls.specs.Machine.{answer, next, completes};
+ghost use Rattle.kernel_calls.specs.Gone.{gives_back};
+ghost use Rattle.kernel_calls.specs.Machine.{answer};
+ghost use Rattle.kernel_calls.specs.Replied.{IsReplied};
 ghost use Rattle.kernel_calls.specs.declared.calls.Call.TheVariants as call;
 ghost use Rattle.kernel_calls.specs.declared.calls.Event.{Event};
 
@@ -50,11 +51,7 @@ fn reply_access(
     value: u32,
 ) -> Reply
     requires { event.now.call ≡ call_of access address size value }
-    ensures reply { result ≡ answer processes.old.state event.now }
-    ensures state { processes.new.state ≡ next processes.old.state event.now }
-    ensures stay { FramesStay (gone_by processes.old.state event.now) (memory_of processes.old)
-        (memory_of processes.new) }
-    ensures kept { completes result ≡ false → processes.new ≡ processes.old }
+    ensures { IsReplied processes.old event.now result processes.new }
 {
     match fault_handler::access(processes, event.pid, address, size, access, value) {
         Ok(value) => value_told(access, value),
@@ -67,11 +64,7 @@ fn reply_access(
 #[inline(always)]
 fn reply_load(processes: &mut Processes, event: &Event, address: Vaddr, size: Size) -> Reply
     requires { event.now.call ≡ call.Load address size }
-    ensures reply { result ≡ answer processes.old.state event.now }
-    ensures state { processes.new.state ≡ next processes.old.state event.now }
-    ensures stay { FramesStay (gone_by processes.old.state event.now) (memory_of processes.old)
-        (memory_of processes.new) }
-    ensures kept { completes result ≡ false → processes.new ≡ processes.old }
+    ensures { IsReplied processes.old event.now result processes.new }
 {
     let read = Access::Read;
     match fault_handler::try_access(processes, event.pid, address, size, read, 0) {
@@ -90,11 +83,7 @@ fn reply_store(
     value: u32,
 ) -> Reply
     requires { event.now.call ≡ call.Store address size value }
-    ensures reply { result ≡ answer processes.old.state event.now }
-    ensures state { processes.new.state ≡ next processes.old.state event.now }
-    ensures stay { FramesStay (gone_by processes.old.state event.now) (memory_of processes.old)
-        (memory_of processes.new) }
-    ensures kept { completes result ≡ false → processes.new ≡ processes.old }
+    ensures { IsReplied processes.old event.now result processes.new }
 {
     let write = Access::Write;
     match fault_handler::try_access(processes, event.pid, address, size, write, value) {
@@ -107,11 +96,7 @@ fn reply_store(
 #[inline(always)]
 fn reply_map(processes: &mut Processes, event: &Event, page: Page, write: bool) -> Reply
     requires { event.now.call ≡ call.Map page write }
-    ensures reply { result ≡ answer processes.old.state event.now }
-    ensures state { processes.new.state ≡ next processes.old.state event.now }
-    ensures stay { FramesStay (gone_by processes.old.state event.now) (memory_of processes.old)
-        (memory_of processes.new) }
-    ensures kept { completes result ≡ false → processes.new ≡ processes.old }
+    ensures made { IsReplied processes.old event.now result processes.new }
     ensures lazy { LeavesLazy processes.old event.now result processes.new }
 {
     done_told(processes.try_map(event.pid, page, write))
@@ -121,12 +106,8 @@ fn reply_map(processes: &mut Processes, event: &Event, page: Page, write: bool) 
 #[inline(always)]
 fn reply_unmap(processes: &mut Processes, event: &Event, page: Page) -> Reply
     requires { event.now.call ≡ call.Unmap page }
-    ensures reply { result ≡ answer processes.old.state event.now }
-    ensures state { processes.new.state ≡ next processes.old.state event.now }
-    ensures stay { FramesStay (gone_by processes.old.state event.now) (memory_of processes.old)
-        (memory_of processes.new) }
+    ensures made { IsReplied processes.old event.now result processes.new }
     ensures loose { LooseStay (memory_of processes.old) (memory_of processes.new) }
-    ensures kept { completes result ≡ false → processes.new ≡ processes.old }
 {
     done_told(processes.try_unmap(event.pid, page))
 }
@@ -135,11 +116,7 @@ fn reply_unmap(processes: &mut Processes, event: &Event, page: Page) -> Reply
 #[inline(always)]
 fn reply_protect(processes: &mut Processes, event: &Event, page: Page, write: bool) -> Reply
     requires { event.now.call ≡ call.Protect page write }
-    ensures reply { result ≡ answer processes.old.state event.now }
-    ensures state { processes.new.state ≡ next processes.old.state event.now }
-    ensures stay { FramesStay (gone_by processes.old.state event.now) (memory_of processes.old)
-        (memory_of processes.new) }
-    ensures kept { completes result ≡ false → processes.new ≡ processes.old }
+    ensures { IsReplied processes.old event.now result processes.new }
 {
     done_told(processes.try_protect(event.pid, page, write))
 }
@@ -154,11 +131,7 @@ fn reply_offer(
     write: bool,
 ) -> Reply
     requires { event.now.call ≡ call.Offer page target write }
-    ensures reply { result ≡ answer processes.old.state event.now }
-    ensures state { processes.new.state ≡ next processes.old.state event.now }
-    ensures stay { FramesStay (gone_by processes.old.state event.now) (memory_of processes.old)
-        (memory_of processes.new) }
-    ensures kept { completes result ≡ false → processes.new ≡ processes.old }
+    ensures { IsReplied processes.old event.now result processes.new }
 {
     done_told(processes.try_offer(event.pid, page, target, write))
 }
@@ -167,11 +140,7 @@ fn reply_offer(
 #[inline(always)]
 fn reply_withdraw(processes: &mut Processes, event: &Event, page: Page, target: Pid) -> Reply
     requires { event.now.call ≡ call.Withdraw page target }
-    ensures reply { result ≡ answer processes.old.state event.now }
-    ensures state { processes.new.state ≡ next processes.old.state event.now }
-    ensures stay { FramesStay (gone_by processes.old.state event.now) (memory_of processes.old)
-        (memory_of processes.new) }
-    ensures kept { completes result ≡ false → processes.new ≡ processes.old }
+    ensures { IsReplied processes.old event.now result processes.new }
 {
     done_told(processes.try_withdraw(event.pid, page, target))
 }
@@ -186,11 +155,7 @@ fn reply_accept(
     page: Page,
 ) -> Reply
     requires { event.now.call ≡ call.Accept giver giver_page page }
-    ensures reply { result ≡ answer processes.old.state event.now }
-    ensures state { processes.new.state ≡ next processes.old.state event.now }
-    ensures stay { FramesStay (gone_by processes.old.state event.now) (memory_of processes.old)
-        (memory_of processes.new) }
-    ensures kept { completes result ≡ false → processes.new ≡ processes.old }
+    ensures { IsReplied processes.old event.now result processes.new }
 {
     match processes.try_accept(event.pid, giver, giver_page, page) {
         Ok(_) => Reply::Done,
@@ -202,11 +167,7 @@ fn reply_accept(
 #[inline(always)]
 fn reply_spawn(processes: &mut Processes, event: &Event, quota: u32) -> Reply
     requires { event.now.call ≡ call.Spawn quota }
-    ensures reply { result ≡ answer processes.old.state event.now }
-    ensures state { processes.new.state ≡ next processes.old.state event.now }
-    ensures stay { FramesStay (gone_by processes.old.state event.now) (memory_of processes.old)
-        (memory_of processes.new) }
-    ensures kept { completes result ≡ false → processes.new ≡ processes.old }
+    ensures { IsReplied processes.old event.now result processes.new }
 {
     child_told(processes.try_spawn(event.pid, quota))
 }
@@ -215,11 +176,7 @@ fn reply_spawn(processes: &mut Processes, event: &Event, quota: u32) -> Reply
 #[inline(always)]
 fn reply_fork(processes: &mut Processes, event: &Event, quota: u32) -> Reply
     requires { event.now.call ≡ call.Fork quota }
-    ensures reply { result ≡ answer processes.old.state event.now }
-    ensures state { processes.new.state ≡ next processes.old.state event.now }
-    ensures stay { FramesStay (gone_by processes.old.state event.now) (memory_of processes.old)
-        (memory_of processes.new) }
-    ensures kept { completes result ≡ false → processes.new ≡ processes.old }
+    ensures made { IsReplied processes.old event.now result processes.new }
     ensures lazy { LeavesLazy processes.old event.now result processes.new }
 {
     child_told(processes.try_fork(event.pid, quota))
@@ -229,12 +186,8 @@ fn reply_fork(processes: &mut Processes, event: &Event, quota: u32) -> Reply
 #[inline(always)]
 fn reply_exit(processes: &mut Processes, event: &Event) -> Reply
     requires { event.now.call ≡ call.Exit }
-    ensures reply { result ≡ answer processes.old.state event.now }
-    ensures state { processes.new.state ≡ next processes.old.state event.now }
-    ensures stay { FramesStay (gone_by processes.old.state event.now) (memory_of processes.old)
-        (memory_of processes.new) }
+    ensures made { IsReplied processes.old event.now result processes.new }
     ensures loose { LooseStay (memory_of processes.old) (memory_of processes.new) }
-    ensures kept { completes result ≡ false → processes.new ≡ processes.old }
 {
     done_told(processes.try_exit(event.pid))
 }
@@ -270,12 +223,8 @@ fn reply_quota(processes: &Processes, event: &Event) -> Reply
 /// The reply to an event, which is carried out.
 #[inline(always)]
 pub(crate) fn reply_once(processes: &mut Processes, event: &Event) -> Reply
-    ensures reply { result ≡ answer processes.old.state event.now }
-    ensures state { processes.new.state ≡ next processes.old.state event.now }
-    ensures stay { FramesStay (gone_by processes.old.state event.now) (memory_of processes.old)
-        (memory_of processes.new) }
+    ensures made { IsReplied processes.old event.now result processes.new }
     ensures loose { gives_back event.now.call ≡ true → LooseStay (memory_of processes.old) (memory_of processes.new) }
-    ensures kept { completes result ≡ false → processes.new ≡ processes.old }
     ensures lazy { LeavesLazy processes.old event.now result processes.new }
 {
     match event.call {

@@ -1,21 +1,13 @@
-use Rattle.kernel_calls.proofs.Prelude.{refl, ap, sym, ◌∙◌, none_goes, map_refusal, done_told, completes}
+use Rattle.kernel_calls.proofs.Prelude.{refl, sym, ◌∙◌}
 use Rattle.kernel_calls.proofs.Lazies.{map_leaves, was_done}
-use Rattle.kernel_calls.proofs.Tried.{done-told, state_is, stay_is, kept_is}
-use Rattle.kernel_calls.specs.declared.calls.Call.TheVariants as call
+use Rattle.kernel_calls.proofs.Tried.{is_done}
 use Rattle.kernel_calls.proofs.replies.reply_map.Goals as goal
 
-pub returns : goal.returns
-returns c =
-    let v = c.args.processes.now in
-    let w = c.try_map.new.self in
-    let e = c.args.event.now in
-    let r = c.try_map.result in
+pub returns-clause-made : goal.returns-clause-made
+returns-clause-made c =
     let made = c.try_map.ensures in
-    let told = done-told v.state e (call.Map c.args.page c.args.write) (map_refusal v.state e.pid c.args.page) c.requires refl r made.result in
-    record {
-      reply = c.done_told.ensures ∙ told;
-      state = state_is done_told (λ a. refl) (λ k. refl) v w e (call.Map c.args.page c.args.write) c.requires r told made.kept made.state;
-      stay = stay_is done_told (λ a. refl) (λ k. refl) v w e (call.Map c.args.page c.args.write) c.requires r told made.kept none_goes (λ slot f. refl) made.stay;
-      lazy = map_leaves v w e c.args.page c.args.write c.done_told.result c.requires (λ done. made.lazy (was_done r (sym c.done_told.ensures ∙ done)));
-      kept = λ stops. kept_is done_told (λ a. refl) (λ k. refl) v w e (call.Map c.args.page c.args.write) c.requires r told made.kept (sym (ap completes c.done_told.ensures) ∙ stops);
-    }
+    is_done _ _ _ _ _ _ _ c.requires _ refl (λ slot f. refl) made.result made.state made.stay made.kept c.done_told.ensures
+
+pub returns-clause-lazy : goal.returns-clause-lazy
+returns-clause-lazy c = map_leaves _ _ _ _ _ _ c.requires
+    (λ done. c.try_map.ensures.lazy (was_done c.try_map.result (sym c.done_told.ensures ∙ done)))

@@ -1,8 +1,10 @@
-use Rattle.kernel_calls.proofs.Prelude.{stays_most, arith}
+use Rattle.kernel_calls.proofs.Prelude.{stays_most, rules}
 use Rattle.kernel_calls.proofs.replies.reply_store.Goals as goal
 
-pub returns-in-Some-clause-stay : goal.returns-in-Some-clause-stay
-returns-in-Some-clause-stay c = stays_most c.try_access.ensures.stay
-
-pub returns-in-None-clause-stay : goal.returns-in-None-clause-stay
-returns-in-None-clause-stay c = grind (arith, c.try_access.ensures.none, c.in-None.is, c.reply_access.ensures.stay)
+pub returns-in-Some : goal.returns-in-Some
+returns-in-Some c = record {
+  reply = search rules;
+  state = search rules;
+  stay = stays_most c.try_access.ensures.stay;
+  kept = search rules;
+}

@@ -10,11 +10,11 @@ returns-clause-ends c =
     let e = c.args.event.now in
     event_ends c.args.self.now new e
     (standing now.image now.walks now.ways now.well_formed) (standing later.image later.walks later.ways later.well_formed)
-    (subst (λ (v : View). new.state ≡ next v.state e) c.self.view_is c.reply_once-reply.ensures.state)
-    (subst (λ (v : View). FramesStay (gone_by v.state e) (memory_of v) (memory_of new)) c.self.view_is c.reply_once-reply.ensures.stay)
+    (subst (λ (v : View). new.state ≡ next v.state e) c.self.view_is c.reply_once-reply.ensures.made.state)
+    (subst (λ (v : View). FramesStay (gone_by v.state e) (memory_of v) (memory_of new)) c.self.view_is c.reply_once-reply.ensures.made.stay)
 
 pub returns-clause-stay : goal.returns-clause-stay
-returns-clause-stay c = grind (arith, c.reply_once-reply.ensures.stay)
+returns-clause-stay c = grind (arith, c.reply_once-reply.ensures.made.stay)
 
 pub returns-clause-loose : goal.returns-clause-loose
 returns-clause-loose c = grind (arith, c.reply_once-reply.ensures.loose)
