@@ -233,9 +233,7 @@ module _ (directories : List (Option ℕ)) (bytes : List ℕ) (roles : List Role
   holders-hits : (f : ℕ) → set.len (holders_of E f) ≤ hits f (uses 0 64)
   holders-hits f =
       let a = len-subset (holders_of E f) (set.from_list {o = slot_order} (slots f 0 64)) (λ slot h. contains-from_list slot_order (slots f 0 64) slot ∙ holder-in f slot h) in
-      let b = len-from_list slot_order (slots f 0 64) in
-      let c = length-slots f 0 64 in
-      omega (arith, a, b, c)
+      grind (arith, len-from_list, slots, length-slots)
 
   -- ---- All frames
 

@@ -157,17 +157,11 @@ module _ (S : Spaces) (slot : Slot) where
 
   -- bytes stored behind one are stored with it
   pub stored-stored : (at b : ℕ) (ys : List ℕ) → stored (stored S slot at (b ∷ [])) slot (at + 1) ys ≡ stored S slot at (b ∷ ys)
-  stored-stored at b ys =
-      ap (λ (c : Cell). store_in (first (write_at cell.bytes at (b ∷ []))) slot c (write_at c.bytes (at + 1) ys)) (same_cell (write_at cell.bytes at (b ∷ [])))
-      ∙ ap (store_in (first (write_at cell.bytes at (b ∷ []))) slot (record cell { bytes = write_at cell.bytes at (b ∷ []); accessed = true; dirty = true })) (write_at-write_at cell.bytes at b ys)
-      ∙ twice (write_at cell.bytes at (b ∷ [])) (write_at cell.bytes at (b ∷ ys))
+  stored-stored at b ys = grind (arith, same_cell, write_at-write_at, twice)
 
   -- a store of no byte, and then one of some
   pub stored-none : (at : ℕ) (ys : List ℕ) → stored (stored S slot at []) slot at ys ≡ stored S slot at ys
-  stored-none at ys =
-      ap (λ (c : Cell). store_in (first (write_at cell.bytes at [])) slot c (write_at c.bytes at ys)) (same_cell (write_at cell.bytes at []))
-      ∙ ap (store_in (first (write_at cell.bytes at [])) slot (record cell { bytes = write_at cell.bytes at []; accessed = true; dirty = true })) (ap (λ xs. write_at xs at ys) (write_at-nothing cell.bytes at))
-      ∙ twice (write_at cell.bytes at []) (write_at cell.bytes at ys)
+  stored-none at ys = grind (arith, same_cell, write_at-nothing, twice)
 
   -- a store leaves both flags set
   pub stored-flags : (at : ℕ) (ys : List ℕ) → ((cell_or_fresh (stored S slot at ys) slot).accessed ≡ true) × ((cell_or_fresh (stored S slot at ys) slot).dirty ≡ true)
@@ -220,11 +214,7 @@ stored_in_page S p address size value within =
     let fits = stays address size within in
     let n = some_bytes size in
     let count = n.1 in
-    ap (λ k. all_stored S p address (bytes_of k value)) count
-    ∙ stored_in S p (page_number address) address (offset_number address) (value % 256) (bytes_of n.0 (value / 256))
-    (λ i l. let long = length-bytes n.0 (value / 256) in page_stays address i (omega (arith, fits, l, count, long)))
-    (λ i l. let long = length-bytes n.0 (value / 256) in let s : offset_number address + i < 4096 = omega (arith, fits, l, count, long) in omega (arith, s))
-    ∙ sym (ap (λ k. stored S (slot_at p address) (offset_number address) (bytes_of k value)) count)
+    grind (arith, stored_in, length-bytes, page_stays)
 
 -- ---- Bytes that lie in two pages
 
@@ -244,10 +234,7 @@ all_append S p a (x ∷ xs) ys =
 -- those at the end of a page, and those at the start of the next
 pub stored_two : (S : Spaces) (p a : ℕ) (xs ys : List ℕ) → 1 ≤ length xs → 1 ≤ length ys → offset_number a + length xs ≡ 4096 → length ys ≤ 4096
     → all_stored S p a (xs ++ ys) ≡ stored (stored S (slot_at p a) (offset_number a) xs) (slot_at p (a + length xs)) (offset_number (a + length xs)) ys
-stored_two S p a xs ys some more ends fits =
-    all_append S p a xs ys
-    ∙ ap (λ T. all_stored T p (a + length xs) ys) (part_stored S p a xs some (omega (arith, ends)))
-    ∙ part_stored (stored S (slot_at p a) (offset_number a) xs) p (a + length xs) ys more (omega (arith, ends, fits))
+stored_two S p a xs ys some more ends fits = grind (arith, all_append, part_stored)
 
 -- ---- The parts of a number's bytes
 

@@ -179,11 +179,7 @@ module _ {directories : List (Option ℕ)} {bytes one : List ℕ} {roles roles1 
 
     pub copy_fits : {target : ℕ} → directory_of directories to ≡ Some target
         → cost (spaces_in directories one) to + need (spaces_in directories one) to (1024 * slot + index) ≤ 1048576
-    copy_fits {target} live =
-        let room = copy_room live in
-        let within = cost_within directories (spaces_in directories one) to copy.so_far.after.sound.pids (ap is_some live) in
-        let few = copy.so_far.after.sound.few in
-        omega (arith, room, within, few)
+    copy_fits {target} live = grind (arith, copy_room, cost_within)
 
     pub copy_cost : {two : List ℕ} {roles2 : List Role} → PageCopied directories from to (1024 * slot + index) one roles1 two roles2
         → cost (spaces_in directories two) to ≡ cost (spaces_in directories one) to + need (spaces_in directories one) to (1024 * slot + index)
