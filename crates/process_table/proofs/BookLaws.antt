@@ -176,7 +176,7 @@ module _ (s : State) (p quota : ℕ) (w : IsWellFormed s) (live : is_live s p �
   child_is = ap (λ o. unwrap_or o 0) parts.1.1
 
   quota_some : 1 ≤ quota
-  quota_some = grind (arith, cases_eq, eq-eqb, parts)
+  quota_some = grind (arith, cases_eq, eq-eqb)
 
   -- a spawn that is not refused
   pub well_formed-spawn : IsWellFormed (after_spawn s p quota)
@@ -235,10 +235,7 @@ module _ (s : State) (p : ℕ) (w : IsWellFormed s) (live : is_live s p ≡ true
       let m = some_value (map.get book_less q) h in
       let o = was_other q m.0 m.1 in
       let a = cost-fewer s.spaces (without s.spaces (is_of p)) q (without-keys s.spaces (is_of p)) in
-      let b = given_less q in
-      let c : quota_of book_less q ≡ quota_of s.book q = ap (λ o. unwrap_or (option_map (λ (m : Member). m.quota) o) 0) (get-remove_other s.book p q o.0) in
-      let d = w.rooms q (ap is_some o.1) in
-      omega (arith, a, b, c, d)
+      grind (arith, given_less, get-remove_other)
 
   processes-exit : (q : ℕ) (member : Member) → map.get book_less q ≡ Some member → (q < 64) × (map.contains_key book_less member.parent ≡ true)
   processes-exit q member h =
@@ -284,15 +281,9 @@ module _ (n : ℕ) (two : 2 ≤ n) where
   root_alone : (q : ℕ) (member : Member) → map.get (open_with n).book q ≡ Some member → (q ≡ 0) × (root ≡ member)
   root_alone q member h = grind (arith, same_cases, same_Some, get-insert)
 
-  room_opening : cost (open_with n).spaces 0 + given (open_with n).book 0 ≤ quota_of (open_with n).book 0
-  room_opening = let a = cost-no_pages map.empty 0 (λ page. refl) in omega (arith, a)
-
-  rooms-opening : (q : ℕ) → is_live (open_with n) q ≡ true → cost (open_with n).spaces q + given (open_with n).book q ≤ quota_of (open_with n).book q
-  rooms-opening q h = grind (arith, some_value, root_alone, room_opening)
-
   -- a machine of two frames or more, as it boots
   pub well_formed-open : IsWellFormed (open_with n)
-  well_formed-open = grind (arith, root_alone, rooms-opening)
+  well_formed-open = grind (arith, root_alone)
 
 -- ---- All costs
 
