@@ -28,10 +28,6 @@ given_none book p h = by (children book p) h
     by [] is = refl
     by (e ∷ entries) is = absurd (omega (arith, is))
 
--- what stands at a slot of its own, or a fresh page
-abbrev blank : Held
-blank = held_in (fresh (at_page 0 0) true)
-
 -- a slot of a process apart is in a group of its own, mapped or not
 pub own_group : (s : State) (p page : ℕ) → IsApart s p → (cell_or_fresh s.spaces (at_page p page)).holders ≡ lone (at_page p page)
 own_group s p page a = grind arith

@@ -65,10 +65,6 @@ names-insert_same entries slot old new found kept f q = grind (arith, get-insert
 pub cell_at : (entries : Entries) (bytes : ℕ → List ℕ) (slot : Slot) (e : PageEntry) → map.get entries slot ≡ Some e → cell_or_fresh (spaces_of entries bytes) slot ≡ cell_of entries bytes slot e
 cell_at entries bytes slot e found = ap (λ c. unwrap_or c (fresh slot true)) (get-spaces_of entries bytes slot ∙ ap (option_map (cell_of entries bytes slot)) found)
 
-chosen : (b : Bool) (cell : Cell) (new : List ℕ) → with_bytes cell (if b then new else cell.bytes) ≡ (if b then with_bytes cell new else cell)
-chosen true cell new = refl
-chosen false cell new = refl
-
 -- where the other slots keep their groups, an entry that is put in changes its own cell alone
 spaces_kept : (entries : Entries) (bytes : ℕ → List ℕ) (slot : Slot) (new : PageEntry) (own : Cell) → cell_of (map.insert entries slot new) bytes slot new ≡ own
     → ((q : Slot) (d : PageEntry) → map.get entries q ≡ Some d → group_of (map.insert entries slot new) q d.frame ≡ group_of entries q d.frame)
@@ -92,7 +88,7 @@ store_refines entries bytes slot e at new found real =
     let held : (q : Slot) → set.contains cell.holders q ≡ names e.frame (map.get entries q) = λ q. ap (λ g. set.contains g q) (group-real entries slot e.frame real) ∙ contains-holders_of entries e.frame q in
     let others : (q : Slot) (x : Option PageEntry) → map.get entries q ≡ x → option_map (cell_of entries' bytes' q) x ≡ option_map (f q) (option_map (cell_of entries bytes q) x) = λ q x. elim x as (λ x. map.get entries q ≡ x → option_map (cell_of entries' bytes' q) x ≡ option_map (f q) (option_map (cell_of entries bytes q) x)) [
       | None ↦ λ _. refl
-      | Some d ↦ grind (arith, chosen)
+      | Some d ↦ grind arith
     ] in
     spaces_insert entries bytes' slot (stored_entry e) (set_bytes (spaces_of entries bytes) cell.holders after) (record cell { bytes = after; accessed = true; dirty = true })
     (λ i. record { write = e.write; may = e.may; accessed = true; dirty = true; bytes = if eqb_itself e.frame i then after else bytes e.frame; holders = kept slot e.frame i })

@@ -41,11 +41,7 @@ length-range a (suc n) = ap suc (length-range (a + 1) n)
 
 length-slots : (n a k : ℕ) → length (slots_below n (range_with_len a k)) ≡ n * k
 length-slots zero a k = omega arith
-length-slots (suc n) a k =
-    let pages : List ℕ = range_with_len a k in
-    let x = length-append (map_list (at_page n) pages) (slots_below n pages) in
-    let b = length-slots n a k in
-    grind (arith, length-map, length-range, suc_times)
+length-slots (suc n) a k = grind (arith, length-append, length-map, length-range, suc_times, length-slots n a k)
 
 user_slots-count : length user_slots ≡ 64 * 0xb0000
 unfolding user_slots
