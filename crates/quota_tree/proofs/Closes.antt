@@ -64,14 +64,11 @@ module _ (cs : List (Option Container)) (kept : IsQuotas cs) (k : ℕ) (k_in : k
     stays_live x n h = ap is_some (get-remove_other (collected member_of cs) k x n) ∙ h
 
     giver_stays : IsBooked closed_book d.parent (giver_after_close g d.quota)
-    giver_stays =
-        let old = kept.each d.parent g hg in
-        grind (arith, closing, closing_number, stays_live, parent_other)
+    giver_stays = grind (arith, kept.each d.parent g hg, closing, closing_number, stays_live, parent_other)
 
     other_stays : (x : ℕ) (c : Container) → x ≢ d.parent → get_or cs x None ≡ Some c → IsBooked closed_book x c
     other_stays x c n h =
-        let old = kept.each x c h in
-        grind (arith, child_no, given_now, number_now, only_if, stays_live, parent_other)
+        grind (arith, kept.each x c h, child_no, given_now, number_now, only_if, stays_live, parent_other)
 
     pub quotas-close : IsQuotas (slice_set (slice_set cs d.parent (Some (giver_after_close g d.quota))) k None)
     quotas-close = record {

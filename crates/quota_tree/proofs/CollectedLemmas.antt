@@ -53,12 +53,9 @@ module _ {C X : Type 0} (f : C → X) where
       ∙ sym (get-remove (collected f values) k q))
 
 module _ {X : Type 0} (p : X → Bool) (t : ℕ → Bool) (start : ℕ) (x : X) (xs : List X) where
-  again : (o : Option ℕ) → option_map (λ i. (start + 1) + i) o ≡ option_map (λ i. start + i) (option_map (λ i. 1 + i) o)
-  again o = grind arith
-
   find-step : t start ≡ p x → find t (range_with_len (start + 1) (length xs)) ≡ option_map (λ i. (start + 1) + i) (position p xs) → (b : Bool) → p x ≡ b
       → find t (range_with_len start (length (x ∷ xs))) ≡ option_map (λ i. start + i) (position p (x ∷ xs))
-  find-step here rest b is = grind (arith, again)
+  find-step here rest b is = grind arith
 
 -- the first number that passes a test is the first place that does
 pub find-position : {X : Type 0} (p : X → Bool) (t : ℕ → Bool) (d : X) (start : ℕ) (xs : List X)

@@ -69,24 +69,26 @@ module _ (cs : List (Option Container)) (kept : IsQuotas cs) (p k q : ℕ) (p_in
 
   child_kept : IsBooked book2 k child
   child_kept =
-      let no = child_no p k k q p_not_k in
-      let a = given2 k in
-      let b = number2 k in
-      let c : only_if (is_child k (k, record { parent = p; quota = q })) q ≡ 0 = ap (λ t. only_if t q) no in
-      let d : only_if (is_child k (k, record { parent = p; quota = q })) 1 ≡ 0 = ap (λ t. only_if t 1) no in
-      let e = given-none (collected member_of cs) k absent (parents_live cs kept) in
-      let f = number-none (collected member_of cs) k absent (parents_live cs kept) in
-      grind (arith, contains_key-insert, live-container)
+      grind (
+        arith,
+        child_no p k k q p_not_k,
+        given2 k,
+        number2 k,
+        given-none (collected member_of cs) k absent (parents_live cs kept),
+        number-none (collected member_of cs) k absent (parents_live cs kept),
+        p_not_k,
+        only_if,
+        absent,
+        parents_live,
+        contains_key-insert,
+        live-container,
+      )
 
   giver_kept : IsBooked book2 p (giver_after_split g q)
-  giver_kept =
-      let old = kept.each p g hg in
-      grind (arith, child_yes, k_not_0, given2, number2, only_if, contains_key-insert)
+  giver_kept = grind (arith, kept.each p g hg, child_yes, k_not_0, given2, number2, only_if, contains_key-insert)
 
   other_kept : (x : ℕ) (c : Container) → x ≢ p → get_or cs x None ≡ Some c → IsBooked book2 x c
-  other_kept x c n h =
-      let old = kept.each x c h in
-      grind (arith, child_no, given2, number2, only_if, contains_key-insert)
+  other_kept x c n h = grind (arith, kept.each x c h, child_no, given2, number2, only_if, contains_key-insert)
 
   pub quotas-split : IsQuotas (slice_set (slice_set cs p (Some (giver_after_split g q))) k (Some child))
   quotas-split = record {

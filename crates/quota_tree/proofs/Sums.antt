@@ -178,14 +178,7 @@ module _ (book : Book) (k : ℕ) (v : Member) (h : map.get book k ≡ Some v) wh
 -- who isn't live is nobody's parent
 module _ (book : Book) (p : ℕ) (none : map.get book p ≡ None) (parents : Parents book) where
   no_child : (f : Entry → ℕ) → sum_by f (filter (is_child p) book.entries) ≤ 0
-  no_child f =
-      let a = sum_filter f (is_child p) book.entries in
-      let b = sum_le (λ e. cond (is_child p e) (f e) 0) (λ _. 0) book.entries book.sorted each in
-      let d = sum_zero book.entries in
-      omega (arith, a, b, d)
-    where
-      each : (k : ℕ) (v : Member) → map.get book k ≡ Some v → cond (is_child p (k, v)) (f (k, v)) 0 ≤ 0
-      each k v found = grind (arith, eqb-true)
+  no_child f = grind (arith, sum_filter f (is_child p) book.entries, sum_zero book.entries, sum_le, eqb-true)
 
   pub given-none : given book p ≡ 0
   given-none = let a = no_child quota in omega arith

@@ -43,9 +43,7 @@ module _ (cs : List (Option Container)) where
 
   module _ (kept : IsQuotas cs) where
     member_kept : (p : ℕ) (m : Member) → map.get (collected member_of cs) p ≡ Some m → (c : Container) × (get_or cs p None ≡ Some c) × (m ≡ member_of c)
-    member_kept p m h =
-        let c = container_where_live p (ap is_some h) in
-        (c.0, c.1, same_Some m (member_of c.0) (sym h ∙ get-member p c.0 c.1))
+    member_kept p m h = grind (arith, container_where_live p (ap is_some h), same_Some, get-member)
 
     pub parents_live : Parents (collected member_of cs)
     parents_live p m h =
@@ -55,15 +53,10 @@ module _ (cs : List (Option Container)) where
         grind (arith, container_where_live, get-member)
 
     pub each_quota : (p : ℕ) (m : Member) → map.get (collected member_of cs) p ≡ Some m → 1 ≤ m.quota
-    each_quota p m h =
-        let c = member_kept p m h in
-        let k = kept.each p c.0 c.1 in
-        grind arith
+    each_quota p m h = grind (arith, member_kept p m h, kept.each p (member_kept p m h).0 (member_kept p m h).1)
 
     pub room_of-container : (p : ℕ) (c : Container) → get_or cs p None ≡ Some c → room_of (seen_as cs) p ≡ c.quota - c.used - c.given
-    room_of-container p c h =
-        let k = kept.each p c h in
-        λ i. quota_of-container p c h i - used_of-container p c h i - sym k.given i
+    room_of-container p c h = grind (arith, kept.each p c h, quota_of-container, used_of-container)
 
     pub container_of-kept : (p : ℕ) → container_of (seen_as cs) p ≡ get_or cs p None
     container_of-kept p = by (get_or cs p None) refl

@@ -104,8 +104,14 @@ module _ (directories : List (Option ℕ)) (bytes : List ℕ) (roles : List Role
 
   directory-hits : (p f : ℕ) → D p ≡ Some f → 1 ≤ hits f (uses 0 64)
   directory-hits p f live =
-      grind (arith, small p f live, hits-uses f p 0 64 (omega arith) (omega (arith, (small p f live))), hits, once,
-        eq-eqb)
+      grind (
+        arith,
+        small p f live,
+        hits-uses f p 0 64 (omega arith) (omega (arith, (small p f live))),
+        hits,
+        once,
+        eq-eqb,
+      )
 
   -- a slot outside the user range has no table
   user_slot : (p d s t : ℕ) → D p ≡ Some d → s < 1024 → table_of m d s ≡ Some t → (256 ≤ s) × (s < 960)

@@ -72,9 +72,7 @@ module _ (D : Directories) (m : Frames) (R : Roles) (T : Tables D m R) (p d s t 
   not_t g r is n same = n (let k : R g ≡ R t = ap R same in let f = free in cc)
 
   dir_other : (q d' : ℕ) → D q ≡ Some d' → q ≢ p → with_table m d s t d' ≡ m d'
-  dir_other q d' is n =
-      let r = T.directory q d' is in
-      linked-other d' (λ same. n (let k : R d' ≡ R d = ap R same in let a = T.directory p d live in cc)) (not_t d' (Directory q) r (λ e. cc))
+  dir_other q d' is n = grind (arith, T.directory q d' is, linked-other, not_t)
 
   pub linked-own : table_in D (with_table m d s t) p s ≡ Some t
   linked-own = grind (arith, word_in_same, long_d, link_word-lt, word_table-link_word)
@@ -83,9 +81,7 @@ module _ (D : Directories) (m : Frames) (R : Roles) (T : Tables D m R) (p d s t 
   linked-others q r n = grind (arith, cases_eq, dir_other, one_directory, word_in_other, long_d)
 
   pub kept_table : (q r f : ℕ) → table_in D m q r ≡ Some f → with_table m d s t f ≡ m f
-  kept_table q r f is =
-      let a = T.table q r f is in
-      linked-other f (λ same. let k : R f ≡ R d = ap R same in let b = T.directory p d live in cc) (not_t f (Table q r) a (λ e. cc))
+  kept_table q r f is = grind (arith, T.table q r f is, linked-other, not_t)
 
   pub linked-entry : (q : Slot) → entry_in D (with_table m d s t) q ≡ entry_in D m q
   linked-entry q = elim (here_or_not p s q.pid (slot_number q.page)) [
@@ -152,15 +148,8 @@ module _ (D : Directories) (m : Frames) (R : Roles) (T : Tables D m R) (p d s t 
   unlinked-own = grind (arith, own_dir, word_in_same, long_dir)
 
   word_elsewhere : (q d' r : ℕ) → D q ≡ Some d' → (q ≡ p → r ≡ s → ⊥) → word_in (without_table m d s d') r ≡ word_in (m d') r
-  word_elsewhere q d' r is n = elim (cases_eq d' d) [
-    | inl same ↦
-        let a = T.directory q d' is in
-        let b = T.directory p d live in
-        let k : R d' ≡ R d = ap R same in
-        let side : q ≡ p = cc in
-        ap (λ g. word_in (without_table m d s g) r) same ∙ ap (λ l. word_in l r) own_dir ∙ word_in_other (m d) s r 0 long_dir s_small (λ e. n side e) ∙ ap (λ g. word_in (m g) r) (sym same)
-    | inr differ ↦ ap (λ l. word_in l r) (gone_dir d' differ)
-  ]
+  word_elsewhere q d' r is n =
+      grind (arith, T.directory q d' is, T.directory p d live, cases_eq, own_dir, word_in_other, long_dir, gone_dir)
 
   pub unlinked-others : (q r : ℕ) → (q ≡ p → r ≡ s → ⊥) → table_in D (without_table m d s) q r ≡ table_in D m q r
   unlinked-others q r n = grind (arith, word_elsewhere)

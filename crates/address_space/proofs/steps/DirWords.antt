@@ -44,8 +44,13 @@ flagged_names w b lt k = record {
 -- a word with accessed set or cleared is like it, where it is present
 pub flagged_alike : (w : ℕ) (b : Bool) → w < 2 ^ 32 → is_present w ≡ true → Alike w (with_flag w 5 b)
 flagged_alike w b lt present =
-    grind (arith, flag-with_flag_other w 5 0 b (omega arith) (omega arith) (omega arith), frame-with_flag, with_flag_lt,
-      flagged_names)
+    grind (
+      arith,
+      flag-with_flag_other w 5 0 b (omega arith) (omega arith) (omega arith),
+      frame-with_flag,
+      with_flag_lt,
+      flagged_names,
+    )
 
 -- and so it is where nothing is done to a word that isn't present
 pub walked_alike : (w : ℕ) (b : Bool) → w < 2 ^ 32 → Alike w (walked_word b w)

@@ -199,11 +199,7 @@ blank_length n = length-replicate {A = ℕ} (4096 * n) 0
 
 nothing_costs : (D : Directories) (S : Spaces) (a n : ℕ) → ((p : ℕ) → D p ≡ None) → sum_by (live_cost D S) (range_with_len a n) ≡ 0
 nothing_costs D S a zero none = refl
-nothing_costs D S a (suc n) none =
-    let s = sum_by-cons (live_cost D S) a (range_with_len (a + 1) n) in
-    let h : live_cost D S a ≡ 0 = ap (λ x. if is_some x then cost S a else 0) (none a) in
-    let r = nothing_costs D S (a + 1) n none in
-    omega (arith, s, h, r)
+nothing_costs D S a (suc n) none = grind (arith, sum_by-cons, nothing_costs D S (a + 1) n none)
 
 pub opening_cost : (S : Spaces) → total_cost (replicate 64 None) S ≡ 0
 unfolding total_cost

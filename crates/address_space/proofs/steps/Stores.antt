@@ -325,14 +325,10 @@ cell_read directories bytes p d page e live few low high is = grind (arith, cell
 pub flagged_load : (directories : List (Option ℕ)) (bytes : List ℕ) (p d page : ℕ) (e : PageEntry) → directory_of directories p ≡ Some d → p < 64 → 0x40000 ≤ page → page < 0xf0000 → entry_at (frame_bytes bytes) d page ≡ Some e
     → flagged (spaces_in directories bytes) (at_page p page) e.write true ≡ accessed_in (spaces_in directories bytes) (at_page p page)
 flagged_load directories bytes p d page e live few low high is =
-    let cell = cell_read directories bytes p d page e live few low high is in
-    ap (map.insert (spaces_in directories bytes) (at_page p page))
-    (ap (λ (c : Cell). record c { write = e.write; accessed = true }) cell ∙ sym (ap (λ (c : Cell). record c { accessed = true }) cell))
+    grind (arith, cell_read directories bytes p d page e live few low high is)
 
 -- where an entry keeps its accessed flag, setting the right is what a change of rights leaves
 pub flagged_right : (directories : List (Option ℕ)) (bytes : List ℕ) (p d page : ℕ) (e : PageEntry) (write : Bool) → directory_of directories p ≡ Some d → p < 64 → 0x40000 ≤ page → page < 0xf0000 → entry_at (frame_bytes bytes) d page ≡ Some e
     → flagged (spaces_in directories bytes) (at_page p page) write e.accessed ≡ protected (spaces_in directories bytes) (at_page p page) write
 flagged_right directories bytes p d page e write live few low high is =
-    let cell = cell_read directories bytes p d page e live few low high is in
-    ap (map.insert (spaces_in directories bytes) (at_page p page))
-    (ap (λ (c : Cell). record c { write = write; accessed = e.accessed }) cell ∙ sym (ap (λ (c : Cell). record c { write = write }) cell))
+    grind (arith, cell_read directories bytes p d page e live few low high is)

@@ -95,9 +95,7 @@ module _ (directories : List (Option ℕ)) (bytes : List ℕ) (roles : List Role
 
   -- a walk finds a frame at each address of the page
   pub page_found : (address other : ℕ) (access : Access) → address < 2 ^ 32 → other < 2 ^ 32 → page_number other ≡ page_number address → IsOk (walk_of bytes d address access) → IsOk (walk_of bytes d other access)
-  page_found address other access small also same ok =
-      let f = found_entry address access small ok in
-      subst IsOk (sym (entry_found other access f.entry also (ap (entry_at (frame_bytes bytes) d) same ∙ f.here) f.right)) refl
+  page_found address other access small also same ok = grind (arith, found_entry address access small ok, entry_found)
 
   module _ (address : ℕ) (access : Access) (f : FoundEntry bytes d address access) where
     -- the frame that was found is the one that the table word names
