@@ -97,8 +97,7 @@ module _ (p q : ℕ) (d : q ≢ p) where
   accessed_same : (S : Spaces) (pages : List ℕ) (n : ℕ) → map.get (all_accessed S q pages) (at_page p n) ≡ map.get S (at_page p n)
   accessed_same S [] n = refl
   accessed_same S (page ∷ pages) n =
-      accessed_same (accessed S (at_page q page)) pages n
-      ∙ get-inserted_other S (at_page q page) (record (cell_or_fresh S (at_page q page)) { accessed = true }) (at_page p n) (pids_differ p q n page d)
+      grind (arith, get-inserted_other, pids_differ, accessed_same (accessed S (at_page q page)) pages n)
 
   stored_same : (S : Spaces) (page at : ℕ) (new : List ℕ) → IsOutside S q p → (n : ℕ) → map.get (stored S (at_page q page) at new) (at_page p n) ≡ map.get S (at_page p n)
   stored_same S page at new out n =
@@ -110,9 +109,8 @@ module _ (p q : ℕ) (d : q ≢ p) where
   all_stored_same : (S : Spaces) (addr : ℕ) (bytes : List ℕ) → IsOutside S q p → (n : ℕ) → map.get (all_stored S q addr bytes) (at_page p n) ≡ map.get S (at_page p n)
   all_stored_same S addr [] out n = refl
   all_stored_same S addr (byte ∷ bytes) out n =
-      all_stored_same (stored S (slot_at q addr) (offset_number addr) (byte ∷ [])) (addr + 1) bytes
-      (λ m k. ap (λ (g : Set slot_order). set.contains g (at_page p k)) (holders_stored S q (page_number addr) (offset_number addr) m (byte ∷ [])) ∙ out m k) n
-      ∙ stored_same S (page_number addr) (offset_number addr) (byte ∷ []) out n
+      grind (arith, holders_stored, stored_same,
+        all_stored_same (stored S (slot_at q addr) (offset_number addr) (byte ∷ [])) (addr + 1) bytes)
 
 module _ (s : State) (p q : ℕ) (w : IsWellFormed s) (a : IsApart s p) (d : q ≢ p) where
   -- a group of a slot of another holds no slot of it

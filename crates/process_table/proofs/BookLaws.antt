@@ -127,11 +127,8 @@ module _ (s : State) (p quota k : ℕ) (w : IsWellFormed s) (live : is_live s p 
 
   room_child : cost s.spaces k + given book_more k ≤ quota_of book_more k
   room_child =
-      let a = cost-no_pages s.spaces k no_slots in
-      let b = given-other k (λ e. live_apart p live (sym e)) in
-      let c = given-none s.book k none (parents_in s w) in
-      let d : quota_of book_more k ≡ quota = ap (λ o. unwrap_or (option_map (λ (m : Member). m.quota) o) 0) get-child in
-      omega (arith, a, b, c, d, some)
+      grind (arith, cost-no_pages s.spaces k no_slots, given-none s.book k none (parents_in s w), no_slots, given-other,
+        live_apart, none, parents_in, get-child)
 
   room_parent : cost s.spaces p + given book_more p ≤ quota_of book_more p
   room_parent = grind (arith, given-parent, quota_of-other, live_apart)
@@ -217,15 +214,8 @@ module _ (s : State) (p : ℕ) (w : IsWellFormed s) (live : is_live s p ≡ true
 
   -- nobody's parent is the process that exits
   parent_stays : (q : ℕ) (member : Member) → map.get s.book q ≡ Some member → member.parent ≢ p
-  parent_stays q member h e = elim (cases_eq q 0) [
-    | inl is ↦ not_root (sym e ∙ w.root_parent member (ap (map.get s.book) (sym is) ∙ h))
-    | inr other ↦ (
-        let a = number-remove s.book q member h p in
-        let yes : is_child p (q, member) ≡ true = ap (λ n. is_child n (q, member)) (sym e) ∙ child_yes member.parent q member.quota other in
-        let one : ◌≡◌ {A = ℕ} (cond (is_child p (q, member)) 1 0) 1 = ap (λ t. cond t 1 0) yes in
-        let c = childless in
-        absurd (omega (arith, a, one, c)))
-  ]
+  parent_stays q member h e =
+      grind (arith, number-remove s.book q member h p, childless, cases_eq, not_root, child_yes)
 
   given_less : (q : ℕ) → given book_less q ≤ given s.book q
   given_less q = let m = some_value (map.get s.book p) live in let a = given-remove s.book p m.0 m.1 q in omega (arith, a)
@@ -239,9 +229,7 @@ module _ (s : State) (p : ℕ) (w : IsWellFormed s) (live : is_live s p ≡ true
 
   processes-exit : (q : ℕ) (member : Member) → map.get book_less q ≡ Some member → (q < 64) × (map.contains_key book_less member.parent ≡ true)
   processes-exit q member h =
-      let o = was_other q member h in
-      let old = w.processes q member o.1 in
-      (old.0, still_live member.parent (parent_stays q member o.1) old.1)
+      grind (arith, was_other q member h, w.processes q member (was_other q member h).1, still_live, parent_stays)
 
   owners-exit : (slot : Slot) (cell : Cell) → map.get (without s.spaces (is_of p)) slot ≡ Some cell → map.contains_key book_less slot.pid ≡ true
   owners-exit slot cell h = grind (arith, without-was, still_live, eqb-false)
@@ -278,12 +266,9 @@ module _ (n : ℕ) (two : 2 ≤ n) where
   abbrev root : Member
   root = record { parent = 0; quota = n - 1 }
 
-  root_alone : (q : ℕ) (member : Member) → map.get (open_with n).book q ≡ Some member → (q ≡ 0) × (root ≡ member)
-  root_alone q member h = grind (arith, same_cases, same_Some, get-insert)
-
   -- a machine of two frames or more, as it boots
   pub well_formed-open : IsWellFormed (open_with n)
-  well_formed-open = grind (arith, root_alone)
+  well_formed-open = grind arith
 
 -- ---- All costs
 

@@ -30,10 +30,7 @@ pub record MayProtect (s : State) (p page : ℕ) (write : Bool) : Type 0 where
   pub right : write ≡ true → (cell_or_fresh s.spaces (at_page p page)).may ≡ true
 
 pub may_protect : (s : State) (p page : ℕ) (write : Bool) → protect_refusal s p page write ≡ None → MayProtect s p page write
-may_protect s p page write h = grind (arith, choice, not-false)
-
-below_of : (n : ℕ) → nat_le 32 n ≡ false → n < 32
-below_of n h = grind (arith, nat_tests)
+may_protect s p page write h = grind (arith, not-false)
 
 -- a page may be offered: what it tells
 pub record MayOffer (s : State) (p page target : ℕ) (write : Bool) : Type 0 where
@@ -46,7 +43,7 @@ pub record MayOffer (s : State) (p page target : ℕ) (write : Bool) : Type 0 wh
   pub few : map.len (pending s.offers p) < 32
 
 pub may_offer : (s : State) (p page target : ℕ) (write : Bool) → offer_refusal s p page target write ≡ None → MayOffer s p page target write
-may_offer s p page target write h = grind (arith, choice, not-false, eqb-false, below_of)
+may_offer s p page target write h = grind (arith, choice, not-false, eqb-false)
 
 -- an offer may be accepted: what it tells
 pub record MayAccept (s : State) (p giver giver_page page : ℕ) : Type 0 where
