@@ -2,7 +2,7 @@
 use Rattle.process_table.proofs.Prelude
 use Prelude.{◌≡◌, ◌≢◌, ℕ, ◌+◌, ◌&&◌, ◌||◌, not, Bool, true, false, cond, List, [], ◌∷◌, map, refl, sym, ap, ◌∙◌}
 use Prelude.{Option, Some, None, is_some, unwrap_or, arith, inl, inr, if◌then◌else◌, option_map, nat_cmp, cases_eq}
-use Prelude.{ne_eqb, same_Some, page_number, offset_number, byte_count, touched, Size, Map, same, nat_order, Set}
+use Prelude.{ne_eqb, same_Some, offset_number, byte_count, touched, Size, Map, same, nat_order, Set}
 use Prelude.{some_value, no_value, same_cases, get-remove_other, Slot, slot_order, Cell, Spaces, pages_of, fresh}
 use Prelude.{cell_or_fresh, with_bytes, set_bytes, set_holders, write_at, bytes_of, at_page}
 use Prelude.{slot_at, accessed, stored, with_page, with_pages, all_accessed, all_stored, copy_of, copied}

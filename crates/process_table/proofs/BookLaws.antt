@@ -3,7 +3,7 @@ use Rattle.process_table.proofs.Prelude
 use Prelude.{◌≡◌, ◌≢◌, ℕ, zero, suc, ◌+◌, ◌-◌, ◌<◌, ◌≤◌, ◌&&◌, ◌||◌, ◌==◌, not, Bool, true, false, cond, refl, sym, ap}
 use Prelude.{subst, ◌∙◌, Option, Some, None, is_some, is_none, unwrap_or, arith, inl, inr, if◌then◌else◌, nat_lt}
 use Prelude.{option_map, range_with_len, cases_eq, not-true, eqb-false, nat_order, same_itself, get-insert}
-use Prelude.{get-retain_keys, Slot, Cell, Spaces, cost, without, is_slot, is_of, at_page, Book, Member, is_child, given}
+use Prelude.{get-retain_keys, Slot, Cell, Spaces, cost, without, is_slot, is_of, at_page, Book, Member, given}
 use Prelude.{number_of_children, quota_of, next_number, OfferKey, Offers, pending, State, open_with, is_live, room}
 use Prelude.{child_of, spawn_refusal, exit_refusal, after_unmap, after_spawn, after_exit, IsOfferIn, IsWellFormed}
 use Prelude.{total, eq-eqb, same_Some, some_value, no_value, get-remove, same_cases, get-remove_other, child_yes}
