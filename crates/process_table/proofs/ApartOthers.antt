@@ -109,8 +109,12 @@ module _ (p q : ℕ) (d : q ≢ p) where
   all_stored_same : (S : Spaces) (addr : ℕ) (bytes : List ℕ) → IsOutside S q p → (n : ℕ) → map.get (all_stored S q addr bytes) (at_page p n) ≡ map.get S (at_page p n)
   all_stored_same S addr [] out n = refl
   all_stored_same S addr (byte ∷ bytes) out n =
-      grind (arith, holders_stored, stored_same,
-        all_stored_same (stored S (slot_at q addr) (offset_number addr) (byte ∷ [])) (addr + 1) bytes)
+      grind (
+        arith,
+        holders_stored,
+        stored_same,
+        all_stored_same (stored S (slot_at q addr) (offset_number addr) (byte ∷ [])) (addr + 1) bytes,
+      )
 
 module _ (s : State) (p q : ℕ) (w : IsWellFormed s) (a : IsApart s p) (d : q ≢ p) where
   -- a group of a slot of another holds no slot of it

@@ -127,8 +127,17 @@ module _ (s : State) (p quota k : ℕ) (w : IsWellFormed s) (live : is_live s p 
 
   room_child : cost s.spaces k + given book_more k ≤ quota_of book_more k
   room_child =
-      grind (arith, cost-no_pages s.spaces k no_slots, given-none s.book k none (parents_in s w), no_slots, given-other,
-        live_apart, none, parents_in, get-child)
+      grind (
+        arith,
+        cost-no_pages s.spaces k no_slots,
+        given-none s.book k none (parents_in s w),
+        no_slots,
+        given-other,
+        live_apart,
+        none,
+        parents_in,
+        get-child,
+      )
 
   room_parent : cost s.spaces p + given book_more p ≤ quota_of book_more p
   room_parent = grind (arith, given-parent, quota_of-other, live_apart)

@@ -36,8 +36,11 @@ count_one order n k P a b = a.count ∙ ap set.len (same_set a.members b.members
 
 charge_one : (M : memory.Image) (p a b : ℕ) → IsCharge M p a → IsCharge M p b → a ≡ b
 charge_one M p a b x y =
-    grind (arith, count_one nat_order x.tables y.tables _ x.named y.named,
-      count_one nat_order x.pages y.pages _ x.mapped y.mapped)
+    grind (
+      arith,
+      count_one nat_order x.tables y.tables _ x.named y.named,
+      count_one nat_order x.pages y.pages _ x.mapped y.mapped,
+    )
 
 module _ (directories : List (Option ℕ)) (accounts : List (Option quota_tree.Account)) (bytes : List ℕ) (roles : List Role)
     (pids : length directories ≡ 64) (least : 16 ≤ length roles) (few : length roles ≤ 1048576) (small : (i : ℕ) → slice_index bytes i < 256)
@@ -223,8 +226,15 @@ module _ (directories : List (Option ℕ)) (accounts : List (Option quota_tree.A
   -- all processes together cost no more than all frames but frame 0
   pub room : HasRoom directories bytes roles
   room =
-      grind (arith, total-within state well_formed, total-book directories state live-directory process-small,
-        root-quota, well_formed, live-directory, process-small)
+      grind (
+        arith,
+        total-within state well_formed,
+        total-book directories state live-directory process-small,
+        root-quota,
+        well_formed,
+        live-directory,
+        process-small,
+      )
 
   charged : (p : ℕ) → IsLive (containers_in accounts) p → used_of (containers_in accounts) p ≡ cost spaces p
   charged p live = grind (arith, some_value, in-book, get-collected, used-is)
