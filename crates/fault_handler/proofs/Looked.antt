@@ -1,17 +1,16 @@
 -- One lookup of each page of an access gives its plan and its charge.
 use Rattle.fault_handler.proofs.Prelude
-use Prelude.{◌≡◌, ℕ, ◌+◌, nat_lt, arith, Bool, true, not, ◌&&◌, cond, refl, sym, ap, ◌∙◌, Option, Some, None, unwrap_or}
+use Prelude.{◌≡◌, ℕ, ◌+◌, nat_lt, arith, Bool, true, not, ◌&&◌, cond, refl, sym, ap, ◌∙◌, Option, Some, None}
 use Prelude.{if◌then◌else◌, option_map, option_and_then, page_number, slot_number, start_number, second_page, touched}
 use Prelude.{Size, first_by_page, crosses, Spaces, at_page, cost, page_need, access_need, regions_of, pages_of, Access}
 use Prelude.{Read, Write, extra_touched, View, Quota, Plan, Planned, outside, is_read_only, forbidden, fault_or}
-use Prelude.{step_at, goes_on, look_of, planned_by_looks}
+use Prelude.{goes_on, look_of, planned_by_looks}
 use Rattle.std.proofs.Common.{◌-◌, ◌==◌}
-use Rattle.fault_handler.specs.Looks.{look_behind, barred, need_by, ready_by, fault_by, planned_at}
+use Rattle.fault_handler.specs.Looks.{look_behind, barred, need_by, fault_by, planned_at}
 use Rattle.address_space.proofs.costs.AccessNeeds.{need-in_one, need-in_two, second_need}
-use Rattle.quota_tree.specs.Book.{Member, given}
 use Rattle.quota_tree.specs.declared.Container.{Container}
 use Rattle.process_table.proofs.Charged.{used-container}
-use Rattle.process_table.specs.State.{State, room, extra_cost, as_container, container_of}
+use Rattle.process_table.specs.State.{State, room, extra_cost, container_of}
 use Rattle.fault_handler.specs.declared.plans.Look.{Look}
 use Rattle.page_words.specs.FiniteMap as map
 use Rattle.page_words.specs.FiniteSet as set
@@ -19,11 +18,8 @@ use Rattle.fault_handler.specs.declared.plans.Plan.TheVariants as plan
 
 -- ---- A container
 
-same_container : (s : State) (p : ℕ) (c : Container) (m : Member) → option_map (λ member. as_container s p member) (Some m) ≡ Some c → as_container s p m ≡ c
-same_container s p c m h = ap (λ o. unwrap_or o c) h
-
 room_is : (s : State) (p : ℕ) (c : Container) → container_of s p ≡ Some c → c.quota - c.used - c.given ≡ room s p
-room_is s p c is = grind (arith, same_container)
+room_is s p c is = grind arith
 
 -- ---- The pages
 
@@ -58,9 +54,6 @@ module _ (v : View) (p address : ℕ) (size : Size) (access : Access) where
       by Write None is = sym (first_by_page test address size ∙ ap (λ y. cond (test page) (Some address) (option_and_then (λ n. cond (test n) (Some (start_number n)) None) y)) is)
       by Write (Some second) is = grind (arith, test, start, first_by_page)
 
-  steps_are : ready_by first (look_behind v p access address size) ≡ plan.Ready (step_at v p access page) (option_map (step_at v p access) (second_page address size))
-  steps_are = grind (arith, start)
-
   -- two pages need what the first does, and what the second does beside it
   beside : (m n r t same : Bool)
       → ◌≡◌ {A = ℕ} (if nat_lt 0 (if m then 0 else (if r then 1 else 2)) && (nat_lt 0 (if n then 0 else (if t then 1 else 2)) && same) then 1 else (if n then 0 else (if t then 1 else 2))) (if n then 0 else (if not m && same then 1 else (if t then 1 else 2)))
@@ -88,7 +81,7 @@ module _ (v : View) (p address : ℕ) (size : Size) (access : Access) where
 
   pub looked : (c : Container) → container_of s p ≡ Some c → outside address size ≡ None
       → planned_by_looks access first (look_behind v p access address size) c ≡ planned_at v p address size access
-  looked c has within = grind (arith, barred_is, nat_lt, room_is, need_is, steps_are, joined, used-container)
+  looked c has within = grind (arith, barred_is, nat_lt, room_is, need_is, joined, used-container)
 
   -- what is planned goes on with the charge that its pages need
   pub charge_goes : (x : Planned) → x ≡ planned_at v p address size access → goes_on x.plan ≡ true → x.charge ≡ cost S p + access_need S p address size

@@ -1,16 +1,15 @@
 -- An access whose plan is Ready: what its plan says, and that its pages, mapped first, leave what the definition says.
 use Rattle.fault_handler.proofs.Prelude
-use Prelude.{◌≡◌, ℕ, arith, Bool, true, false, not, ◌&&◌, cond, [], ◌∷◌, refl, sym, ap, ◌∙◌, Option, Some, None}
+use Prelude.{◌≡◌, ℕ, arith, Bool, true, false, not, ◌&&◌, [], ◌∷◌, refl, sym, ap, ◌∙◌, Option, Some, None}
 use Prelude.{option_map, page_number, covered, second_page, touched, EachTouched, IsUserPage, Size, first_by_page}
-use Prelude.{no_value, Slot, Spaces, at_page, slot_at, cell_or_fresh, need, page_need, access_need, with_page}
+use Prelude.{no_value, Slot, Spaces, at_page, cell_or_fresh, need, page_need, access_need, with_page}
 use Prelude.{is_lazy_at, with_touched-same, touched-there, Access, Read, Write, View, memory_of, access_value}
 use Prelude.{after_access, page_is_user, Plan, outside, is_read_only, forbidden, step_at, maps_page, plan_at, goes_on}
 use Prelude.{takes_no_frame}
-use Rattle.std.proofs.Common.{◌≢◌, ◌≤◌, List, map as each, is_some}
-use Rattle.page_words.specs.Addresses.{offset_number}
-use Rattle.address_space.specs.Spaces.{Cell, value_of, with_pages}
+use Rattle.std.proofs.Common.{◌≢◌, ◌≤◌, List, is_some}
+use Rattle.address_space.specs.Spaces.{Cell, with_pages}
 use Rattle.fault_handler.specs.Plans.{planned_by}
-use Rattle.std.specs.Prelude.{nat_lt, IfSome, find, slice_index}
+use Rattle.std.specs.Prelude.{nat_lt, IfSome, find}
 use Rattle.std.proofs.lemmas.Bool.{le-ltb, not-false}
 use Rattle.page_words.proofs.MapLemmas.{same_or_not, get-insert}
 use Rattle.page_words.proofs.SetLemmas.{same_apart}
@@ -27,12 +26,9 @@ use Rattle.fault_handler.specs.declared.plans.Plan.TheVariants as plan
 
 -- ---- Where no byte stops an access
 
-either : (b : Bool) (a : ℕ) (r : Option ℕ) → cond b (Some a) r ≡ None → (b ≡ false) × (r ≡ None)
-either b a r h = grind arith
-
 -- where no byte is found, no page passes the test
 pub none_found : (test : ℕ → Bool) (address : ℕ) (size : Size) → find (λ a. test (page_number a)) (covered address size) ≡ None → EachTouched address size (λ page. test page ≡ false)
-none_found test address size none = grind (arith, either, first_by_page)
+none_found test address size none = grind (arith, first_by_page)
 
 -- what holds of each page, where something else does
 pub each_page : (address : ℕ) (size : Size) (P Q : ℕ → Type 0) → ((page : ℕ) → P page → Q page) → EachTouched address size P → EachTouched address size Q
@@ -73,8 +69,7 @@ module _ (s : State) (p address : ℕ) (size : Size) where
   mapped_state = record s { spaces = with_pages s.spaces p pages }
 
   pub mapped_value : (access : Access) → access_value mapped_state p address size access ≡ access_value s p address size access
-  mapped_value Read = ap (λ (f : ℕ → ℕ). value_of (each f (covered address size))) (λ i a. slice_index (same_cells s.spaces p pages (slot_at p a) i).bytes (offset_number a))
-  mapped_value Write = refl
+  mapped_value access = grind (arith, same_cells)
 
   pub mapped_after : (access : Access) (value : ℕ) → after_access mapped_state p address size access value ≡ after_access s p address size access value
   mapped_after access value = grind (arith, with_touched-same, touched-there)

@@ -34,7 +34,7 @@ module _ (v : View) (p address : ℕ) (size : Size) where
 
   all_steps : (access : Access) → EachTouched address size (λ page. is_mapped s (at_page p page) ≡ true) → (access ≡ Write → EachTouched address size Takes)
       → EachTouched address size (λ page. step_at v p access page ≡ step.Complete)
-  all_steps access mapped takes = grind (arith, each_page, and_parts, parts)
+  all_steps access mapped takes = grind (arith, each_page, and_parts)
 
   none_forbidden : (access : Access) → (access ≡ Write → EachTouched address size Takes) → forbidden s p address size access ≡ None
   none_forbidden access takes = grind (arith, none_passes, each_page, and_parts, parts)
@@ -46,7 +46,7 @@ module _ (v : View) (p address : ℕ) (size : Size) where
       (λ i. fault_or (inside i) access false (fault_or (none_forbidden access takes i) access true (if roomy i then plan.Refused Quota else plan.Ready ((all_steps access mapped takes).0 i) (option_map (step_at v p access) (second_page address size)))))
     where
       inside : outside address size ≡ None
-      inside = grind (arith, none_passes, each_page, page_is_user)
+      inside = grind (arith, each_page, page_is_user)
 
       roomy : overdrawn s p (touched address size) ≡ false
       roomy = grind (arith, cost-with_touched, with_touched-same, nat_lt, extra_touched, le-ltb)

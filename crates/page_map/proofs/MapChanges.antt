@@ -2,7 +2,7 @@
 use Rattle.page_map.proofs.Prelude
 use Prelude.{◌≡◌, ◌≢◌, ℕ, ◌+◌, ◌*◌, ◌^◌, ◌<◌, ◌≤◌, true, false, List, length, replicate, refl, ap, sym, ◌∙◌, subst}
 use Prelude.{arith, inl, inr, Option, Some, None, ◌⊎◌, if◌then◌else◌, option_and_then, cases_eq, length-replicate}
-use Prelude.{slot_number, index_number, IsUserPage, frame_number, is_present, IsKernelDirWord, IsKernelTableWord}
+use Prelude.{slot_number, index_number, IsUserPage, frame_number, is_present, IsKernelDirWord}
 use Prelude.{frame_bytes, word_in, with_word_in, with_frame, with_frame-same, with_frame-other, word_in-zeros}
 use Prelude.{PageEntry, Frames, dir_word, word_table, table_of, word_entry, entry_from, entry_at, entry_word, link_word}
 use Prelude.{IsPageMap, IsForeign, IsFreshTable, IsKernelEntry, TablesApart, entries_of}
@@ -94,10 +94,7 @@ module _ (n : ℕ) (m : Frames) (d slot t : ℕ) (T : TablesApart n m d) (small 
       | inl same ↦ subst IsKernelDirWord (sym (ap (dir_word (with_dir_word m d slot (link_word t)) d) same ∙ dir_word_own m d slot (link_word t) long_d small lt)) (inr (link_word-names t few nonzero))
       | inr differ ↦ subst IsKernelDirWord (sym (dir_word_other m d slot (link_word t) long_d small lt s differ)) (T.dir_words s l)
     ];
-    table_words = λ s u i l k found. elim (before s u found) [
-      | inl h ↦ inl (ap (λ g. word_in (with_dir_word m d slot (link_word t) g) i) h.1 ∙ ap (λ b. word_in b i) (frame_kept t F.no_directory) ∙ zeros i k)
-      | inr h ↦ subst (λ b. IsKernelTableWord (word_in b i)) (sym (frame_kept u (T.apart s u l h.1))) (T.table_words s u i l k h.1)
-    ];
+    table_words = λ s u i l k found. grind (arith, before, with_dir_word, frame_kept);
   }
 
   -- no entry is there that wasn't
@@ -106,13 +103,7 @@ module _ (n : ℕ) (m : Frames) (d slot t : ℕ) (T : TablesApart n m d) (small 
 
 -- a foreign frame is none of the way to an entry
 entry_foreign : (m : Frames) (d f : ℕ) (new : List ℕ) → IsForeign m d f → (q : ℕ) → slot_number q < 1024 → entry_at (with_frame m f new) d q ≡ entry_at m d q
-entry_foreign m d f new F q l =
-    ap (option_and_then (λ table. word_entry (word_in (with_frame m f new table) (index_number q)))) (table_foreign m d f new F.no_directory (slot_number q))
-    ∙ by (table_of m d (slot_number q)) refl
-  where
-    by : (y : Option ℕ) → table_of m d (slot_number q) ≡ y
-        → option_and_then (λ table. word_entry (word_in (with_frame m f new table) (index_number q))) y ≡ option_and_then (λ table. word_entry (word_in (m table) (index_number q))) y
-    by h found = grind (arith, with_frame-other)
+entry_foreign m d f new h q l = grind (arith, table_foreign, with_frame-other)
 
 module _ (bytes after : List ℕ) (d slot t : ℕ) (P : IsPageMap bytes d) (small : slot < 1024) (inside : 4096 * t + 4096 ≤ length bytes) (few : t < 2 ^ 20) (apart : t ≢ d)
     (frames : frame_bytes after ≡ with_table (frame_bytes bytes) d slot t) where
@@ -219,7 +210,4 @@ module _ (bytes after : List ℕ) (d page : ℕ) (freed : Option ℕ) (P : IsPag
       let m : Frames = frame_bytes bytes in
       let t = frame_number (dir_word (frame_bytes bytes) d (slot_number page)) in
       let apart : f ≢ t = F.no_table (slot_number page) t (user_slot page user) (table_there m d (slot_number page) present) in
-      elim (cleared_ways m d page freed (frame_bytes after) cleared) [
-        | inl is ↦ (λ i. is i f) ∙ with_frame-other m t f (with_word_in (m t) (index_number page) 0) apart
-        | inr h ↦ (λ i. (h.0 i) f) ∙ with_frame-other (with_word_at m t page 0) d f (with_word_in (with_word_at m t page 0 d) (slot_number page) 0) F.no_directory ∙ with_frame-other m t f (with_word_in (m t) (index_number page) 0) apart
-      ]
+      grind (arith, cleared_ways, with_frame-other, with_word_at)

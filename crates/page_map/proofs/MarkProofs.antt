@@ -110,10 +110,7 @@ module _ (n : ℕ) (m : Frames) (d slot w : ℕ) (T : TablesApart n m d) (small 
 
   pub tables-redirected : IsKernelDirWord w → TablesApart n (with_dir_word m d slot w) d
   tables-redirected good = record {
-    long = λ f inside. elim (cases_eq f d) [
-      | inl here ↦ ap (λ g. length (with_dir_word m d slot w g)) here ∙ dir_long m d slot w long_d small lt
-      | inr differ ↦ ap length (with_frame-other m d f (with_word_in (m d) slot w) differ) ∙ T.long f inside
-    ];
+    long = λ f inside. grind (arith, inside, cases_eq, with_dir_word, dir_long, long_d, small, with_frame-other, T);
     directory_inside = T.directory_inside;
     tables_inside = λ s u l is. T.tables_inside s u l (sym (table_stays s) ∙ is);
     apart = λ s u l is. T.apart s u l (sym (table_stays s) ∙ is);
@@ -148,8 +145,7 @@ frames_second : (bytes : List ℕ) (d slot t page v w : ℕ) → slot < 1024 →
     → frame_bytes (with_word (with_first bytes d slot v) (word_place t (index_number page)) w) ≡ with_word_at (with_dir_word (frame_bytes bytes) d slot v) t page w
 frames_second bytes d slot t page v w small inside also =
     let size : length (with_first bytes d slot v) ≡ length bytes = length-with_word bytes (word_place d slot) v (omega arith) in
-    frames-with_word (with_first bytes d slot v) t (index_number page) w (omega arith) (omega arith)
-    ∙ ap (λ f. with_word_at f t page w) (frames_first bytes d slot v small inside)
+    grind (arith, frames-with_word, with_word_at, frames_first)
 
 second_word : (bytes : List ℕ) (d slot t page v : ℕ) → slot < 1024 → 4096 * d + 4096 ≤ length bytes → t ≢ d → word_at (with_first bytes d slot v) (word_place t (index_number page)) ≡ word_in (frame_bytes bytes t) (index_number page)
 second_word bytes d slot t page v small inside apart = grind (arith, word_in-frame, frames_first, with_frame-other)
@@ -190,7 +186,6 @@ module _ (bytes : List ℕ) (d address v w : ℕ) (access : Access) (e : PageEnt
       let whole = can.whole in
       let leads = walked bytes d address access can.found in
       let named : (ok_value (walk_of bytes d address access) can.found).0 ≡ w / 4096 = leads.named ∙ ap frame_number table_is in
-      let page_inside : 4096 * (w / 4096) < length bytes = omega (arith, leads.inside, named) in
       omega arith
 
   right : access ≡ Write → is_writable w ≡ true

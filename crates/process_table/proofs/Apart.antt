@@ -1,10 +1,10 @@
 -- The replies of a process apart, and the effect of calls on it.
 use Rattle.process_table.proofs.Prelude
-use Prelude.{◌≡◌, ◌≢◌, ℕ, ◌+◌, ◌-◌, ◌&&◌, not, Bool, true, false, List, [], ◌∷◌, length, map, refl, sym, ap, ◌∙◌}
+use Prelude.{◌≡◌, ◌≢◌, ℕ, ◌+◌, ◌&&◌, not, Bool, true, false, List, [], ◌∷◌, length, map, refl, sym, ap, ◌∙◌}
 use Prelude.{Option, Some, None, is_some, unwrap_or, sum_by, arith, if◌then◌else◌, slice_index, option_map, cases_eq}
 use Prelude.{ne_eqb, same_Some, slot_number, is_user_page, page_number, offset_number, byte_count, touched, covered}
 use Prelude.{Size, same, nat_order, Set, same_itself, get-map_values, contains-insert, retain-insert, is_some-map, Slot}
-use Prelude.{slot_order, Cell, Spaces, cost, cost_of, need, pages_of, regions_of, fresh, cell_or_fresh, with_bytes}
+use Prelude.{slot_order, Cell, Spaces, cost, cost_of, need, pages_of, regions_of, fresh, cell_or_fresh}
 use Prelude.{with_holders, set_bytes, write_at, bytes_of, without, at_page, slot_at, accessed, stored, access_need}
 use Prelude.{with_page, with_pages, all_accessed, all_stored, value_of, missing, same_pages, OfferKey, State, is_mapped}
 use Prelude.{overdrawn, map_refusal, unmap_refusal, protect_refusal, exit_refusal, after_map, after_unmap}
@@ -27,13 +27,6 @@ given_none book p h = by (children book p) h
     by : (entries : List (ℕ × Member)) → length entries ≡ 0 → sum_by (λ (e : ℕ × Member). e.1.quota) entries ≡ 0
     by [] is = refl
     by (e ∷ entries) is = absurd (omega (arith, is))
-
--- what stands at a slot of its own, or a fresh page
-abbrev blank : Held
-blank = held_in (fresh (at_page 0 0) true)
-
-held_or_blank : (x : Option Cell) (slot : Slot) → held_in (unwrap_or x (fresh slot true)) ≡ unwrap_or (option_map held_in x) blank
-held_or_blank x slot = grind arith
 
 -- a slot of a process apart is in a group of its own, mapped or not
 pub own_group : (s : State) (p page : ℕ) → IsApart s p → (cell_or_fresh s.spaces (at_page p page)).holders ≡ lone (at_page p page)
@@ -59,7 +52,7 @@ module _ (s t : State) (p q : ℕ) (a : AreAlike s p t q) where
   no_room_alike page = grind (arith, cost_alike, given_alike, extra_page, mapped_alike, need_alike)
 
   pub cell_alike : (page : ℕ) → held_in (cell_or_fresh s.spaces (at_page p page)) ≡ held_in (cell_or_fresh t.spaces (at_page q page))
-  cell_alike page = grind (arith, held_or_blank)
+  cell_alike page = grind arith
 
   pub group_alike : (page : ℕ) → set.len (cell_or_fresh s.spaces (at_page p page)).holders ≡ set.len (cell_or_fresh t.spaces (at_page q page)).holders
   group_alike page = ap (λ (g : Set slot_order). set.len g) (own_group s p page a.one) ∙ sym (ap (λ (g : Set slot_order). set.len g) (own_group t q page a.other))
@@ -148,10 +141,7 @@ module _ (s t : State) (p q : ℕ) (a : AreAlike s p t q) where
 
 -- spaces where a group gets other bytes, at a slot that is not in it
 pub set_bytes_outside : (S : Spaces) (group : Set slot_order) (bytes : List ℕ) (slot : Slot) → set.contains group slot ≡ false → map.get (set_bytes S group bytes) slot ≡ map.get S slot
-set_bytes_outside S group bytes slot out = get-map_values slot_order (λ q c. if set.contains group q then with_bytes c bytes else c) S slot ∙ by (map.get S slot)
-  where
-    by : (x : Option Cell) → option_map (λ (c : Cell). if set.contains group slot then with_bytes c bytes else c) x ≡ x
-    by x = grind arith
+set_bytes_outside S group bytes slot out = grind (arith, get-map_values)
 
 -- what a store of these bytes at this place leaves at its own slot
 abbrev stored_cell : Cell → ℕ → List ℕ → Cell

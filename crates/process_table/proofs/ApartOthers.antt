@@ -1,10 +1,10 @@
 -- What the calls of others leave of a process apart, and how a child begins.
 use Rattle.process_table.proofs.Prelude
-use Prelude.{◌≡◌, ◌≢◌, ℕ, ◌+◌, ◌&&◌, ◌||◌, ◌==◌, not, Bool, true, false, cond, List, [], ◌∷◌, map, refl, sym, ap, ◌∙◌}
+use Prelude.{◌≡◌, ◌≢◌, ℕ, ◌+◌, ◌&&◌, ◌||◌, not, Bool, true, false, cond, List, [], ◌∷◌, map, refl, sym, ap, ◌∙◌}
 use Prelude.{Option, Some, None, is_some, unwrap_or, arith, inl, inr, if◌then◌else◌, option_map, nat_cmp, cases_eq}
-use Prelude.{ne_eqb, same_Some, page_number, offset_number, byte_count, touched, Size, Map, same, nat_order, Set}
+use Prelude.{ne_eqb, same_Some, offset_number, byte_count, touched, Size, Map, same, nat_order, Set}
 use Prelude.{some_value, no_value, same_cases, get-remove_other, Slot, slot_order, Cell, Spaces, pages_of, fresh}
-use Prelude.{cell_or_fresh, with_bytes, with_holders, set_bytes, set_holders, write_at, bytes_of, is_of, at_page}
+use Prelude.{cell_or_fresh, with_bytes, set_bytes, set_holders, write_at, bytes_of, at_page}
 use Prelude.{slot_at, accessed, stored, with_page, with_pages, all_accessed, all_stored, copy_of, copied}
 use Prelude.{contains-pages_of, copied-own, copied-other, Member, is_child, number_of_children, child_no}
 use Prelude.{get-insert_other, OfferKey, Offers, offer_order, offer_key, State, is_live, child_of, accept_refusal}
@@ -97,8 +97,7 @@ module _ (p q : ℕ) (d : q ≢ p) where
   accessed_same : (S : Spaces) (pages : List ℕ) (n : ℕ) → map.get (all_accessed S q pages) (at_page p n) ≡ map.get S (at_page p n)
   accessed_same S [] n = refl
   accessed_same S (page ∷ pages) n =
-      accessed_same (accessed S (at_page q page)) pages n
-      ∙ get-inserted_other S (at_page q page) (record (cell_or_fresh S (at_page q page)) { accessed = true }) (at_page p n) (pids_differ p q n page d)
+      grind (arith, get-inserted_other, pids_differ, accessed_same (accessed S (at_page q page)) pages n)
 
   stored_same : (S : Spaces) (page at : ℕ) (new : List ℕ) → IsOutside S q p → (n : ℕ) → map.get (stored S (at_page q page) at new) (at_page p n) ≡ map.get S (at_page p n)
   stored_same S page at new out n =
@@ -110,9 +109,12 @@ module _ (p q : ℕ) (d : q ≢ p) where
   all_stored_same : (S : Spaces) (addr : ℕ) (bytes : List ℕ) → IsOutside S q p → (n : ℕ) → map.get (all_stored S q addr bytes) (at_page p n) ≡ map.get S (at_page p n)
   all_stored_same S addr [] out n = refl
   all_stored_same S addr (byte ∷ bytes) out n =
-      all_stored_same (stored S (slot_at q addr) (offset_number addr) (byte ∷ [])) (addr + 1) bytes
-      (λ m k. ap (λ (g : Set slot_order). set.contains g (at_page p k)) (holders_stored S q (page_number addr) (offset_number addr) m (byte ∷ [])) ∙ out m k) n
-      ∙ stored_same S (page_number addr) (offset_number addr) (byte ∷ []) out n
+      grind (
+        arith,
+        holders_stored,
+        stored_same,
+        all_stored_same (stored S (slot_at q addr) (offset_number addr) (byte ∷ [])) (addr + 1) bytes,
+      )
 
 module _ (s : State) (p q : ℕ) (w : IsWellFormed s) (a : IsApart s p) (d : q ≢ p) where
   -- a group of a slot of another holds no slot of it
@@ -169,10 +171,7 @@ module _ (s : State) (p q : ℕ) (w : IsWellFormed s) (a : IsApart s p) (d : q �
 
 -- spaces where a group holds other slots, at a slot that is not in it
 set_holders_outside : (S : Spaces) (group holders : Set slot_order) (slot : Slot) → set.contains group slot ≡ false → map.get (set_holders S group holders) slot ≡ map.get S slot
-set_holders_outside S group holders slot out = get-map_values slot_order (λ q c. if set.contains group q then with_holders c holders else c) S slot ∙ by (map.get S slot)
-  where
-    by : (x : Option Cell) → option_map (λ (c : Cell). if set.contains group slot then with_holders c holders else c) x ≡ x
-    by x = grind arith
+set_holders_outside S group holders slot out = grind (arith, get-map_values)
 
 pub accept_leaves : (s : State) (p q giver giver_page page : ℕ) → IsWellFormed s → IsApart s p → q ≢ p → accept_refusal s q giver giver_page page ≡ None → AreAlike s p (after_accept s q giver giver_page page) p
 accept_leaves s p q giver giver_page page w a d allowed =
@@ -193,12 +192,7 @@ exit_leaves s p q a d live =
     let m = some_value (map.get s.book q) live in
     let before = a.childless in
     let fewer = number-remove s.book q m.0 m.1 p in
-    left_alike s (after_exit s q) p a (record {
-      pages = λ n. without_others s p (is_of q) n a (ne_eqb p q (λ e. d (sym e)));
-      member = get-remove_other s.book q p (λ e. d (sym e));
-      childless = omega (arith, before, fewer);
-      offers = retained_left s p (λ (k : OfferKey). not ((k.offerer == q) || (k.target == q))) a;
-    })
+    grind (arith, left_alike, without_others, ne_eqb, get-remove_other, retained_left)
 
 -- ---- Spawns
 

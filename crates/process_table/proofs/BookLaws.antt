@@ -3,7 +3,7 @@ use Rattle.process_table.proofs.Prelude
 use Prelude.{◌≡◌, ◌≢◌, ℕ, zero, suc, ◌+◌, ◌-◌, ◌<◌, ◌≤◌, ◌&&◌, ◌||◌, ◌==◌, not, Bool, true, false, cond, refl, sym, ap}
 use Prelude.{subst, ◌∙◌, Option, Some, None, is_some, is_none, unwrap_or, arith, inl, inr, if◌then◌else◌, nat_lt}
 use Prelude.{option_map, range_with_len, cases_eq, not-true, eqb-false, nat_order, same_itself, get-insert}
-use Prelude.{get-retain_keys, Slot, Cell, Spaces, cost, without, is_slot, is_of, at_page, Book, Member, is_child, given}
+use Prelude.{get-retain_keys, Slot, Cell, Spaces, cost, without, is_slot, is_of, at_page, Book, Member, given}
 use Prelude.{number_of_children, quota_of, next_number, OfferKey, Offers, pending, State, open_with, is_live, room}
 use Prelude.{child_of, spawn_refusal, exit_refusal, after_unmap, after_spawn, after_exit, IsOfferIn, IsWellFormed}
 use Prelude.{total, eq-eqb, same_Some, some_value, no_value, get-remove, same_cases, get-remove_other, child_yes}
@@ -127,11 +127,17 @@ module _ (s : State) (p quota k : ℕ) (w : IsWellFormed s) (live : is_live s p 
 
   room_child : cost s.spaces k + given book_more k ≤ quota_of book_more k
   room_child =
-      let a = cost-no_pages s.spaces k no_slots in
-      let b = given-other k (λ e. live_apart p live (sym e)) in
-      let c = given-none s.book k none (parents_in s w) in
-      let d : quota_of book_more k ≡ quota = ap (λ o. unwrap_or (option_map (λ (m : Member). m.quota) o) 0) get-child in
-      omega (arith, a, b, c, d, some)
+      grind (
+        arith,
+        cost-no_pages s.spaces k no_slots,
+        given-none s.book k none (parents_in s w),
+        no_slots,
+        given-other,
+        live_apart,
+        none,
+        parents_in,
+        get-child,
+      )
 
   room_parent : cost s.spaces p + given book_more p ≤ quota_of book_more p
   room_parent = grind (arith, given-parent, quota_of-other, live_apart)
@@ -176,7 +182,7 @@ module _ (s : State) (p quota : ℕ) (w : IsWellFormed s) (live : is_live s p �
   child_is = ap (λ o. unwrap_or o 0) parts.1.1
 
   quota_some : 1 ≤ quota
-  quota_some = grind (arith, cases_eq, eq-eqb, parts)
+  quota_some = grind (arith, cases_eq, eq-eqb)
 
   -- a spawn that is not refused
   pub well_formed-spawn : IsWellFormed (after_spawn s p quota)
@@ -217,15 +223,8 @@ module _ (s : State) (p : ℕ) (w : IsWellFormed s) (live : is_live s p ≡ true
 
   -- nobody's parent is the process that exits
   parent_stays : (q : ℕ) (member : Member) → map.get s.book q ≡ Some member → member.parent ≢ p
-  parent_stays q member h e = elim (cases_eq q 0) [
-    | inl is ↦ not_root (sym e ∙ w.root_parent member (ap (map.get s.book) (sym is) ∙ h))
-    | inr other ↦ (
-        let a = number-remove s.book q member h p in
-        let yes : is_child p (q, member) ≡ true = ap (λ n. is_child n (q, member)) (sym e) ∙ child_yes member.parent q member.quota other in
-        let one : ◌≡◌ {A = ℕ} (cond (is_child p (q, member)) 1 0) 1 = ap (λ t. cond t 1 0) yes in
-        let c = childless in
-        absurd (omega (arith, a, one, c)))
-  ]
+  parent_stays q member h e =
+      grind (arith, number-remove s.book q member h p, childless, cases_eq, not_root, child_yes)
 
   given_less : (q : ℕ) → given book_less q ≤ given s.book q
   given_less q = let m = some_value (map.get s.book p) live in let a = given-remove s.book p m.0 m.1 q in omega (arith, a)
@@ -235,16 +234,11 @@ module _ (s : State) (p : ℕ) (w : IsWellFormed s) (live : is_live s p ≡ true
       let m = some_value (map.get book_less q) h in
       let o = was_other q m.0 m.1 in
       let a = cost-fewer s.spaces (without s.spaces (is_of p)) q (without-keys s.spaces (is_of p)) in
-      let b = given_less q in
-      let c : quota_of book_less q ≡ quota_of s.book q = ap (λ o. unwrap_or (option_map (λ (m : Member). m.quota) o) 0) (get-remove_other s.book p q o.0) in
-      let d = w.rooms q (ap is_some o.1) in
-      omega (arith, a, b, c, d)
+      grind (arith, given_less, get-remove_other)
 
   processes-exit : (q : ℕ) (member : Member) → map.get book_less q ≡ Some member → (q < 64) × (map.contains_key book_less member.parent ≡ true)
   processes-exit q member h =
-      let o = was_other q member h in
-      let old = w.processes q member o.1 in
-      (old.0, still_live member.parent (parent_stays q member o.1) old.1)
+      grind (arith, was_other q member h, w.processes q member (was_other q member h).1, still_live, parent_stays)
 
   owners-exit : (slot : Slot) (cell : Cell) → map.get (without s.spaces (is_of p)) slot ≡ Some cell → map.contains_key book_less slot.pid ≡ true
   owners-exit slot cell h = grind (arith, without-was, still_live, eqb-false)
@@ -281,18 +275,9 @@ module _ (n : ℕ) (two : 2 ≤ n) where
   abbrev root : Member
   root = record { parent = 0; quota = n - 1 }
 
-  root_alone : (q : ℕ) (member : Member) → map.get (open_with n).book q ≡ Some member → (q ≡ 0) × (root ≡ member)
-  root_alone q member h = grind (arith, same_cases, same_Some, get-insert)
-
-  room_opening : cost (open_with n).spaces 0 + given (open_with n).book 0 ≤ quota_of (open_with n).book 0
-  room_opening = let a = cost-no_pages map.empty 0 (λ page. refl) in omega (arith, a)
-
-  rooms-opening : (q : ℕ) → is_live (open_with n) q ≡ true → cost (open_with n).spaces q + given (open_with n).book q ≤ quota_of (open_with n).book q
-  rooms-opening q h = grind (arith, some_value, root_alone, room_opening)
-
   -- a machine of two frames or more, as it boots
   pub well_formed-open : IsWellFormed (open_with n)
-  well_formed-open = grind (arith, root_alone, rooms-opening)
+  well_formed-open = grind arith
 
 -- ---- All costs
 

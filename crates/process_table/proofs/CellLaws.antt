@@ -80,16 +80,12 @@ module _ (S T : Spaces) (slot : Slot) (c : Cell) (bytes : List ℕ) (at : map.ge
     (forth : (q : Slot) (d : Cell) → map.get S q ≡ Some d → (e : Cell) × (map.get T q ≡ Some e) × IsRenewed c.holders bytes q d e)
     (back : (q : Slot) (e : Cell) → map.get T q ≡ Some e → (d : Cell) × (map.get S q ≡ Some d))
     (cells : AreCells S) (long : length bytes ≡ 4096) (small : All (λ b. b < 256) bytes) where
-  -- a slot of the group holds the group
-  in_group : (q : Slot) (d : Cell) → map.get S q ≡ Some d → set.contains c.holders q ≡ true → d.holders ≡ c.holders
-  in_group q d h inside = grind (arith, same_Some)
-
   bytes_of_one : (q : Slot) (d e : Cell) (b : Bool) → set.contains c.holders q ≡ b → IsRenewed c.holders bytes q d e → e.bytes ≡ cond b bytes d.bytes
   bytes_of_one q d e b is r = grind arith
 
   -- two slots of one group are both in the group that changes, or neither is
   together : (q other : Slot) (d o : Cell) → map.get S q ≡ Some d → map.get S other ≡ Some o → o.holders ≡ d.holders → set.contains d.holders other ≡ true → set.contains c.holders other ≡ set.contains c.holders q
-  together q other d o at_q at_other shared inside = grind (arith, in_group)
+  together q other d o at_q at_other shared inside = grind arith
 
   renewed_long : (q : Slot) (d e : Cell) (b : Bool) → set.contains c.holders q ≡ b → length d.bytes ≡ 4096 → IsRenewed c.holders bytes q d e → length e.bytes ≡ 4096
   renewed_long q d e b is l r = grind arith

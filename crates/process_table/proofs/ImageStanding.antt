@@ -1,9 +1,9 @@
 -- What memory and the book together represent: the image of a view is sound, and represents one state.
 use Rattle.process_table.proofs.Prelude
-use Prelude.{◌≡◌, ℕ, ◌+◌, ◌<◌, ◌≤◌, ◌&&◌, Bool, true, false, cond, List, [], ◌∷◌, length, refl, sym, ap, subst, ◌∙◌}
-use Prelude.{Option, Some, None, is_some, sum_by, arith, unwrap_or, ◌*◌, filter, nat_lt, if◌then◌else◌, option_and_then}
+use Prelude.{◌≡◌, ℕ, ◌+◌, ◌<◌, ◌≤◌, Bool, true, cond, List, [], ◌∷◌, length, refl, sym, ap, subst, ◌∙◌}
+use Prelude.{Option, Some, is_some, sum_by, arith, unwrap_or, ◌*◌, filter, nat_lt}
 use Prelude.{option_map, range_with_len, nat_tests, sum_by-cons, slice_get_within, slot_number, index_number, Slot}
-use Prelude.{Cell, Spaces, pages_of, regions_of, cost, at_page, table_at, page_word, present_word, word_of}
+use Prelude.{Cell, Spaces, pages_of, regions_of, cost, at_page, table_at, page_word}
 use Prelude.{directory_of, contains-pages_of, Member, is_child, given, quota_of, State, is_live, View, Account}
 use Prelude.{as_account, account_of, memory_of, IsCharge, quota_from, IsSoundImage, StandsFor, is_some-map, some_value}
 use Prelude.{same_map, Table, region_member, region_there, stands_for_one}
@@ -25,12 +25,9 @@ module _ (M : memory.Image) (S : Spaces) (stands : memory.StandsFor M S) (p : �
   page_is : (page : ℕ) → set.contains (pages_of S p) page ≡ is_some (page_word M (page_at page))
   page_is page = contains-pages_of S p page ∙ both_or_none (page_at page) (page_word M (page_at page)) (map.get S (page_at page)) (stands.cells (page_at page))
 
-  through : (x : Option ℕ) (f : ℕ → Option ℕ) → is_some (option_and_then f x) ≡ true → is_some x ≡ true
-  through x f h = grind arith
-
   -- the table of a mapped page is named
   named-region : (s : ℕ) → set.contains (regions_of (pages_of S p)) s ≡ true → is_some (table_at M p s) ≡ true
-  named-region s h = grind (arith, region_member, through, page_is)
+  named-region s h = grind (arith, region_member, page_is)
 
   -- a table that is named has a present word, which is a mapped page of its region
   region-named : (s t : ℕ) → table_at M p s ≡ Some t → set.contains (regions_of (pages_of S p)) s ≡ true
@@ -41,11 +38,7 @@ module _ (M : memory.Image) (S : Spaces) (stands : memory.StandsFor M S) (p : �
       let index : index_number page ≡ used.0 = omega (arith, used.1) in
       let inside = slice_get_within M.roles t (Table p s) ((stands.sound.tables t p s).1 is) in
       let small : nat_lt t (length M.roles) ≡ true = grind (arith, nat_tests) in
-      let word : is_some (page_word M (page_at page)) ≡ true =
-      ap (λ x. is_some (option_and_then (λ t. present_word M t (word_of M t (index_number page))) x)) (ap (table_at M p) region ∙ is)
-      ∙ ap (λ i. is_some (present_word M t (word_of M t i))) index
-      ∙ (λ i. is_some (if small i && used.2 i then Some (word_of M t used.0) else None)) in
-      subst (λ n. set.contains (regions_of (pages_of S p)) n ≡ true) region (region_there (pages_of S p) page (page_is page ∙ word))
+      grind (arith, region_there, page_is)
 
   region-some : (s : ℕ) (x : Option ℕ) → table_at M p s ≡ x → is_some x ≡ true → set.contains (regions_of (pages_of S p)) s ≡ true
   region-some s x is h = grind (arith, region-named)
@@ -63,8 +56,7 @@ module _ (M : memory.Image) (S : Spaces) (stands : memory.StandsFor M S) (p : �
 -- ---- What a process gives
 
 chosen : {A : Type 0} (f : A → ℕ) (b : Bool) (e : A) (rest : List A) → sum_by f (cond b (e ∷ rest) rest) ≡ cond b (f e) 0 + sum_by f rest
-chosen f true e rest = sum_by-cons f e rest
-chosen f false e rest = omega arith
+chosen f b e rest = grind (arith, sum_by-cons)
 
 -- a sum over what passes a test is one with 0 for the others
 pub sum-filter : {A : Type 0} (f : A → ℕ) (t : A → Bool) (es : List A) → sum_by f (filter t es) ≡ sum_by (λ e. cond (t e) (f e) 0) es

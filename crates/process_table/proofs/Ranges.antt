@@ -1,6 +1,6 @@
 -- Sums over a map's entries as sums over the numbers below a bound.
 use Rattle.process_table.proofs.Prelude
-use Prelude.{◌≡◌, ◌≢◌, ℕ, ◌+◌, ◌<◌, ◌&&◌, ◌==◌, Bool, true, false, cond, List, [], ◌∷◌, refl, sym, ap, subst, ◌∙◌}
+use Prelude.{◌≡◌, ◌≢◌, ℕ, ◌+◌, ◌<◌, ◌&&◌, Bool, true, cond, List, [], ◌∷◌, refl, sym, ap, subst, ◌∙◌}
 use Prelude.{Option, Some, None, is_some, sum_by, arith, inl, inr, T, nat_cmp, range_with_len, cases_eq, sum_by-cons}
 use Prelude.{Map, nat_order, cost, directory_of, live_cost, total_cost, sum_one, Member, State, is_live, total}
 use Prelude.{eqb-true, eq-eqb, unsigned_tied, below_all, is_sorted}
@@ -15,8 +15,7 @@ found g (Some x) = g x
 
 -- sums of the same terms are the same
 pub sum-same : {A : Type 0} (f g : A → ℕ) (xs : List A) → ((x : A) → f x ≡ g x) → sum_by f xs ≡ sum_by g xs
-sum-same f g [] is = refl
-sum-same f g (x ∷ xs) is = sum_by-cons f x xs ∙ (λ i. is x i + sum-same f g xs is i) ∙ sym (sum_by-cons g x xs)
+sum-same f g xs is = grind (arith, sum_by-cons)
 
 -- a sum of zeros is 0
 pub sum-zero : {A : Type 0} (xs : List A) → 0 ≡ sum_by (λ (_ : A). 0) xs
@@ -36,10 +35,7 @@ module _ {X : Type 0} where
   find-head e es = ap (λ b. cond b (Some e.1) (find nat_cmp e.0 es)) (unsigned_tied e.0 e.0 ∙ eq-eqb e.0 e.0 refl)
 
   find-other : (k : ℕ) (e : ℕ × X) (es : List (ℕ × X)) → k ≢ e.0 → find nat_cmp k (e ∷ es) ≡ find nat_cmp k es
-  find-other k e es n = ap (λ b. cond b (Some e.1) (find nat_cmp k es)) (unsigned_tied k e.0 ∙ by (k == e.0) refl)
-    where
-      by : (b : Bool) → (k == e.0) ≡ b → b ≡ false
-      by b is = grind (arith, eqb-true)
+  find-other k e es n = grind (arith, eqb-true)
 
   sum-entries : (f : ℕ → X → ℕ) (n : ℕ) (es : List (ℕ × X)) → T (is_sorted nat_cmp es) → ((k : ℕ) (x : X) → find nat_cmp k es ≡ Some x → k < n)
       → sum_by (λ e. f e.0 e.1) es ≡ sum_by (λ k. found (f k) (find nat_cmp k es)) (range_with_len 0 n)

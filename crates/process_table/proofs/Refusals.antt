@@ -1,7 +1,7 @@
 -- What follows where a call is not refused.
 use Rattle.process_table.proofs.Prelude
-use Prelude.{◌≡◌, ◌≢◌, ℕ, ◌+◌, ◌<◌, ◌&&◌, Bool, true, false, not, [], ◌∷◌, sym, ap, ◌∙◌, Option, Some, None, Ok, Err}
-use Prelude.{arith, is_some, if◌then◌else◌, IsOk, nat_le, nat_tests, is_user_page, fresh, cell_or_fresh, cost, need}
+use Prelude.{◌≡◌, ◌≢◌, ℕ, ◌+◌, ◌<◌, Bool, true, false, [], ◌∷◌, sym, ap, ◌∙◌, Option, Some, None, Ok, Err}
+use Prelude.{arith, is_some, if◌then◌else◌, IsOk, is_user_page, fresh, cell_or_fresh, cost, need}
 use Prelude.{at_page, cost-insert, cost-joined, offer_key, pending, State, is_live, is_mapped, overdrawn, map_refusal}
 use Prelude.{unmap_refusal, protect_refusal, offer_refusal, accept_refusal, Cause, NoProcess, Mapped, Quota, no_value}
 use Prelude.{first_cause, number_unless, done_unless, map_answer, accept_answer, not-false, eqb-false}
@@ -17,14 +17,11 @@ pub record MayMap (s : State) (p page : ℕ) : Type 0 where
   pub room : overdrawn s p (page ∷ []) ≡ false
 
 pub may_map : (s : State) (p page : ℕ) → map_refusal s p page ≡ None → MayMap s p page
-may_map s p page h = grind (arith, choice, not-false, no_value)
+may_map s p page h = grind (arith, not-false, no_value)
 
 -- a page may be unmapped: it is mapped
 pub may_unmap : (s : State) (p page : ℕ) → unmap_refusal s p page ≡ None → is_some (map.get s.spaces (at_page p page)) ≡ true
-may_unmap s p page h = grind (arith, choice, not-false)
-
-right_of_not : (write may : Bool) → (write && not may) ≡ false → write ≡ true → may ≡ true
-right_of_not write may h e = grind (arith, not-false)
+may_unmap s p page h = grind (arith, not-false)
 
 -- a page's right may be set: what it tells
 pub record MayProtect (s : State) (p page : ℕ) (write : Bool) : Type 0 where
@@ -33,10 +30,7 @@ pub record MayProtect (s : State) (p page : ℕ) (write : Bool) : Type 0 where
   pub right : write ≡ true → (cell_or_fresh s.spaces (at_page p page)).may ≡ true
 
 pub may_protect : (s : State) (p page : ℕ) (write : Bool) → protect_refusal s p page write ≡ None → MayProtect s p page write
-may_protect s p page write h = grind (arith, choice, not-false, right_of_not)
-
-below_of : (n : ℕ) → nat_le 32 n ≡ false → n < 32
-below_of n h = grind (arith, nat_tests)
+may_protect s p page write h = grind (arith, not-false)
 
 -- a page may be offered: what it tells
 pub record MayOffer (s : State) (p page target : ℕ) (write : Bool) : Type 0 where
@@ -49,7 +43,7 @@ pub record MayOffer (s : State) (p page target : ℕ) (write : Bool) : Type 0 wh
   pub few : map.len (pending s.offers p) < 32
 
 pub may_offer : (s : State) (p page target : ℕ) (write : Bool) → offer_refusal s p page target write ≡ None → MayOffer s p page target write
-may_offer s p page target write h = grind (arith, choice, not-false, eqb-false, right_of_not, below_of)
+may_offer s p page target write h = grind (arith, choice, not-false, eqb-false)
 
 -- an offer may be accepted: what it tells
 pub record MayAccept (s : State) (p giver giver_page page : ℕ) : Type 0 where
@@ -59,7 +53,7 @@ pub record MayAccept (s : State) (p giver giver_page page : ℕ) : Type 0 where
   pub room : overdrawn s p (page ∷ []) ≡ false
 
 pub may_accept : (s : State) (p giver giver_page page : ℕ) → accept_refusal s p giver giver_page page ≡ None → MayAccept s p giver giver_page page
-may_accept s p giver giver_page page h = grind (arith, choice, not-false, no_value)
+may_accept s p giver giver_page page h = grind (arith, not-false, no_value)
 
 -- a test that answers a number has found no cause
 pub no_cause : (s : State) (p : ℕ) (cause : Option Cause) (number : ℕ) → IsOk (number_unless (first_cause s p cause) number) → (is_live s p ≡ true) × (cause ≡ None)

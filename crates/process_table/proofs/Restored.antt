@@ -4,7 +4,7 @@ use Prelude.{◌≡◌, ℕ, ◌+◌, ◌<◌, ◌≤◌, Bool, true, false, Lis
 use Prelude.{is_some, unwrap_or, arith, option_map, option_and_then, range_with_len, slice_get_within, slot_number}
 use Prelude.{index_number, IsUserPage, Order, nat_order, same_set, is_some-map, some_value, Slot, Cell, Spaces, cost}
 use Prelude.{SlotStands, directory_at, table_at, present_word, page_word, word_of, Book, Member, given, quota_of}
-use Prelude.{Containers, IsLive, used_of, Offers, Account, as_account, account_of, IsCharge, quota_from, IsSoundImage}
+use Prelude.{Containers, IsLive, used_of, Offers, as_account, account_of, IsCharge, quota_from, IsSoundImage}
 use Prelude.{StandsFor, State, IsWhole, IsCellAt, IsWellFormed, ◌↔◌, IsTrue, MatchBool, slice_index, Page, directory_of}
 use Prelude.{spaces_in, one_group, word_names}
 use Rattle.address_space.specs.Image.{IsCount, CellStands, IsOneGroup, image_from, named_by, page_frame}
@@ -36,11 +36,11 @@ count_one order n k P a b = a.count ∙ ap set.len (same_set a.members b.members
 
 charge_one : (M : memory.Image) (p a b : ℕ) → IsCharge M p a → IsCharge M p b → a ≡ b
 charge_one M p a b x y =
-    let tables = count_one nat_order x.tables y.tables _ x.named y.named in
-    let pages = count_one nat_order x.pages y.pages _ x.mapped y.mapped in
-    let s = x.sum in
-    let t = y.sum in
-    omega (arith, tables, pages, s, t)
+    grind (
+      arith,
+      count_one nat_order x.tables y.tables _ x.named y.named,
+      count_one nat_order x.pages y.pages _ x.mapped y.mapped,
+    )
 
 module _ (directories : List (Option ℕ)) (accounts : List (Option quota_tree.Account)) (bytes : List ℕ) (roles : List Role)
     (pids : length directories ≡ 64) (least : 16 ≤ length roles) (few : length roles ≤ 1048576) (small : (i : ℕ) → slice_index bytes i < 256)
@@ -206,10 +206,7 @@ module _ (directories : List (Option ℕ)) (accounts : List (Option quota_tree.A
       let m = some_value (map.get book p) live in
       let b = in-book p m.0 m.1 in
       let w = I.within p (account_told b.0) (account-is p b.0 b.1) in
-      let u = used-is p b.0 b.1 in
-      let g = given-is p b.0 b.1 in
-      let q = quota-is p b.0 b.1 in
-      omega (arith, w, u, g, q)
+      grind (arith, used-is, given-is, quota-is)
 
   pub well_formed : IsWellFormed state
   well_formed = record {
@@ -229,10 +226,15 @@ module _ (directories : List (Option ℕ)) (accounts : List (Option quota_tree.A
   -- all processes together cost no more than all frames but frame 0
   pub room : HasRoom directories bytes roles
   room =
-      let t = total-within state well_formed in
-      let e = total-book directories state live-directory process-small in
-      let q = root-quota in
-      omega (arith, t, e, q)
+      grind (
+        arith,
+        total-within state well_formed,
+        total-book directories state live-directory process-small,
+        root-quota,
+        well_formed,
+        live-directory,
+        process-small,
+      )
 
   charged : (p : ℕ) → IsLive (containers_in accounts) p → used_of (containers_in accounts) p ≡ cost spaces p
   charged p live = grind (arith, some_value, in-book, get-collected, used-is)
@@ -243,7 +245,4 @@ module _ (directories : List (Option ℕ)) (accounts : List (Option quota_tree.A
 
   -- and the image stands for their state
   pub state_stands : StandsFor image state
-  state_stands = record { sound = I; memory = stands; accounts = λ p. by p (account_at accounts p) refl }
-    where
-      by : (p : ℕ) (x : Option quota_tree.Account) → account_at accounts p ≡ x → option_map account_told (account_at accounts p) ≡ option_map (as_account state p) (map.get book p)
-      by p x is = grind (arith, get-book, used-is, given-is)
+  state_stands = grind (arith, stands, get-book, used-is, given-is)

@@ -180,8 +180,7 @@ module _ (s : State) (slot : Slot) (c : Cell) (at : map.get s.spaces slot ≡ So
         own is = record { holders = refl; bytes_in = λ _. refl; bytes_out = λ out. absurd (let x : set.contains c.holders q ≡ true = ap (set.contains c.holders) is ∙ (w.cells slot c at).own in cc); write = λ f. f; may = refl; dirty = λ _ _. refl }
 
         by : (b : Bool) → set.contains c.holders q ≡ b → IsRenewed c.holders bytes q d (if b then with_bytes d bytes else d)
-        by true is = record { holders = refl; bytes_in = λ _. refl; bytes_out = λ out. absurd (cc); write = λ f. f; may = refl; dirty = λ f. f }
-        by false is = record { holders = refl; bytes_in = λ inside. absurd (cc); bytes_out = λ _. refl; write = λ f. f; may = refl; dirty = λ f. f }
+        by b is = grind arith
 
     written_back : (q : Slot) (e : Cell) → map.get written_spaces q ≡ Some e → (d : Cell) × (map.get s.spaces q ≡ Some d)
     written_back q e h = elim (same_cases slot_order q slot) [

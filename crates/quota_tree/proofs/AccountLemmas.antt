@@ -62,16 +62,10 @@ module _ (accounts : List (Option Account)) (containers : List (Option Container
   used-kept n x = grind arith
 
   same-book : collected member_of containers ≡ book_in accounts
-  same-book = same_map (collected member_of containers) (book_in accounts) (λ q.
-      get-collected member_of containers q ∙ ap (option_map member_of) (container-is q)
-      ∙ member-kept (number_of_children (book_in accounts) q) (account_at accounts q)
-      ∙ sym (get-collected member_in accounts q))
+  same-book = search (arith, same_map, get-collected, container-is, member-kept)
 
   same-used : collected (λ (c : Container). c.used) containers ≡ collected (λ (a : Account). a.used) accounts
-  same-used = same_map (collected (λ (c : Container). c.used) containers) (collected (λ (a : Account). a.used) accounts) (λ q.
-      get-collected (λ (c : Container). c.used) containers q ∙ ap (option_map (λ (c : Container). c.used)) (container-is q)
-      ∙ used-kept (number_of_children (book_in accounts) q) (account_at accounts q)
-      ∙ sym (get-collected (λ (a : Account). a.used) accounts q))
+  same-used = search (arith, same_map, get-collected, container-is, used-kept)
 
   pub seen : seen_as containers ≡ containers_in accounts
   seen = λ i. record { book = same-book i; used = same-used i }

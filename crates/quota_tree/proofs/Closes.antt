@@ -1,7 +1,7 @@
 -- What a close leaves.
 use Rattle.quota_tree.proofs.Prelude.{◌≡◌, ◌≢◌, ℕ, ◌+◌, ◌<◌, ◌≤◌, ◌⊎◌, inl, inr, true, false, List, length, get_or}
-use Rattle.quota_tree.proofs.Prelude.{is_some, refl, sym, ap, ◌∙◌, Option, Some, None, arith, subst}
-use Rattle.quota_tree.proofs.Prelude.{length-set, slice_set, option_map, nat_order, Container, Book}
+use Rattle.quota_tree.proofs.Prelude.{is_some, sym, ap, ◌∙◌, Option, Some, None, arith, subst}
+use Rattle.quota_tree.proofs.Prelude.{length-set, slice_set, nat_order, Container, Book}
 use Rattle.quota_tree.proofs.Prelude.{is_child, given, number_of_children, collected, member_of, seen_as, IsBooked}
 use Rattle.quota_tree.proofs.Prelude.{IsQuotas, same_Some}
 use Rattle.page_words.proofs.SetLemmas.{same_cases, get-remove_other}
@@ -54,52 +54,21 @@ module _ (cs : List (Option Container)) (kept : IsQuotas cs) (k : ℕ) (k_in : k
     length_giver = length-set cs d.parent (Some (giver_after_close g d.quota))
 
     book_after_close : collected member_of (slice_set (slice_set cs d.parent (Some (giver_after_close g d.quota))) k None) ≡ closed_book
-    book_after_close =
-        collected-unset member_of (slice_set cs d.parent (Some (giver_after_close g d.quota))) k (omega (arith, length_giver, k_in))
-        ∙ ap (λ b. map.remove b k) (book-set cs kept d.parent p_in g (giver_after_close g d.quota) hg refl)
+    book_after_close = grind (arith, collected-unset, length_giver, book-set)
 
     pub seen_as-close : seen_as (slice_set (slice_set cs d.parent (Some (giver_after_close g d.quota))) k None) ≡ after_close (seen_as cs) k
     seen_as-close =
-        let used = collected-unset (λ c. c.used) (slice_set cs d.parent (Some (giver_after_close g d.quota))) k (omega (arith, length_giver, k_in)) in
-        let same_used = collected-set (λ c. c.used) cs d.parent (giver_after_close g d.quota) p_in ∙ insert_same (collected (λ c. c.used) cs) d.parent g.used (get-collected (λ c. c.used) cs d.parent ∙ ap (option_map (λ c. c.used)) hg) in
-        λ i. record { book = book_after_close i; used = (used ∙ ap (λ m. map.remove m k) same_used) i }
+        grind (arith, collected-unset, length_giver, collected-set, insert_same, get-collected, book_after_close)
 
     stays_live : (x : ℕ) → x ≢ k → map.contains_key (collected member_of cs) x ≡ true → map.contains_key closed_book x ≡ true
     stays_live x n h = ap is_some (get-remove_other (collected member_of cs) k x n) ∙ h
 
     giver_stays : IsBooked closed_book d.parent (giver_after_close g d.quota)
-    giver_stays =
-        let old = kept.each d.parent g hg in
-        let a = closing in
-        let b = closing_number in
-        let e = old.given in
-        let f = old.children in
-        let w = old.within in
-        record {
-          parent = stays_live g.parent (parent_other d.parent g hg) old.parent;
-          given = omega (arith, a, e);
-          children = omega (arith, b, f);
-          used = old.used;
-          within = omega (arith, w);
-        }
+    giver_stays = grind (arith, kept.each d.parent g hg, closing, closing_number, stays_live, parent_other)
 
     other_stays : (x : ℕ) (c : Container) → x ≢ d.parent → get_or cs x None ≡ Some c → IsBooked closed_book x c
     other_stays x c n h =
-        let old = kept.each x c h in
-        let no = child_no d.parent x k d.quota (λ e. n (sym e)) in
-        let a = given_now x in
-        let b = number_now x in
-        let e : only_if (is_child x (k, member_of d)) d.quota ≡ 0 = ap (λ t. only_if t d.quota) no in
-        let f : only_if (is_child x (k, member_of d)) 1 ≡ 0 = ap (λ t. only_if t 1) no in
-        let j = old.given in
-        let l = old.children in
-        record {
-          parent = stays_live c.parent (parent_other x c h) old.parent;
-          given = omega (arith, a, e, j);
-          children = omega (arith, b, f, l);
-          used = old.used;
-          within = old.within;
-        }
+        grind (arith, kept.each x c h, child_no, given_now, number_now, only_if, stays_live, parent_other)
 
     pub quotas-close : IsQuotas (slice_set (slice_set cs d.parent (Some (giver_after_close g d.quota))) k None)
     quotas-close = record {

@@ -1,5 +1,5 @@
 -- What the map of a list of options answers, and what a write into the list leaves of it.
-use Rattle.quota_tree.proofs.Prelude.{◌≡◌, ◌≢◌, ℕ, zero, suc, ◌+◌, ◌<◌, inl, inr, Bool, cond, List}
+use Rattle.quota_tree.proofs.Prelude.{◌≡◌, ℕ, zero, suc, ◌+◌, ◌<◌, inl, inr, Bool, cond, List}
 use Rattle.quota_tree.proofs.Prelude.{[], ◌∷◌, length, replicate, get_or, refl, sym, ap, ◌∙◌, Option, Some, None, arith}
 use Rattle.quota_tree.proofs.Prelude.{position, slice_set, option_map, get_or-set_same, get_or-set_other}
 use Rattle.quota_tree.proofs.Prelude.{nat_order, collected_from, collected}
@@ -13,10 +13,7 @@ module _ {C X : Type 0} (f : C → X) where
   get-before start [] q h = refl
   get-before start (None ∷ values) q h = get-before (start + 1) values q (omega arith)
   get-before start (Some c ∷ values) q h =
-      let other : q ≢ start = omega arith in
-      get-insert (collected_from f (start + 1) values) start (f c) q
-      ∙ ap (λ b. cond b (Some (f c)) (map.get (collected_from f (start + 1) values) q)) (same_apart nat_order q start other)
-      ∙ get-before (start + 1) values q (omega arith)
+      grind (arith, get-insert, same_apart, get-before (start + 1) values q (omega arith))
 
   get-at : (start : ℕ) (values : List (Option C)) (i q : ℕ) → q ≡ start + i → map.get (collected_from f start values) q ≡ option_map f (get_or values i None)
   get-at start [] i q e = refl
@@ -24,10 +21,7 @@ module _ {C X : Type 0} (f : C → X) where
   get-at start (None ∷ values) (suc i) q e = get-at (start + 1) values i q (omega arith)
   get-at start (Some c ∷ values) zero q e = grind (arith, get-insert, same_itself)
   get-at start (Some c ∷ values) (suc i) q e =
-      let other : q ≢ start = omega arith in
-      get-insert (collected_from f (start + 1) values) start (f c) q
-      ∙ ap (λ b. cond b (Some (f c)) (map.get (collected_from f (start + 1) values) q)) (same_apart nat_order q start other)
-      ∙ get-at (start + 1) values i q (omega arith)
+      grind (arith, get-insert, same_apart, get-at (start + 1) values i q (omega arith))
 
   -- the map answers as the list does
   pub get-collected : (values : List (Option C)) (q : ℕ) → map.get (collected f values) q ≡ option_map f (get_or values q None)
@@ -59,12 +53,9 @@ module _ {C X : Type 0} (f : C → X) where
       ∙ sym (get-remove (collected f values) k q))
 
 module _ {X : Type 0} (p : X → Bool) (t : ℕ → Bool) (start : ℕ) (x : X) (xs : List X) where
-  again : (o : Option ℕ) → option_map (λ i. (start + 1) + i) o ≡ option_map (λ i. start + i) (option_map (λ i. 1 + i) o)
-  again o = grind arith
-
   find-step : t start ≡ p x → find t (range_with_len (start + 1) (length xs)) ≡ option_map (λ i. (start + 1) + i) (position p xs) → (b : Bool) → p x ≡ b
       → find t (range_with_len start (length (x ∷ xs))) ≡ option_map (λ i. start + i) (position p (x ∷ xs))
-  find-step here rest b is = grind (arith, again)
+  find-step here rest b is = grind arith
 
 -- the first number that passes a test is the first place that does
 pub find-position : {X : Type 0} (p : X → Bool) (t : ℕ → Bool) (d : X) (start : ℕ) (xs : List X)

@@ -1,13 +1,13 @@
 -- What a split answers, and what it leaves.
 use Rattle.quota_tree.proofs.Prelude.{◌≡◌, ◌≢◌, ℕ, ◌+◌, ◌-◌, ◌<◌, ◌≤◌, ◌⊎◌, inl, inr, Bool, true, false, cond, not}
 use Rattle.quota_tree.proofs.Prelude.{◌==◌, List, length, get_or, is_some, refl, sym, ap, ◌∙◌, Option, Some, None}
-use Rattle.quota_tree.proofs.Prelude.{arith, subst, length-set, option_map, nat_tests, same, Container, Book, is_child}
+use Rattle.quota_tree.proofs.Prelude.{arith, subst, length-set, option_map, nat_tests, Container, Book, is_child}
 use Rattle.quota_tree.proofs.Prelude.{given, number_of_children, next_number, collected, Containers, room_of}
 use Rattle.quota_tree.proofs.Prelude.{opened_container, charged_with, with_used, split_answer, after_split, member_of}
 use Rattle.quota_tree.proofs.Prelude.{seen_as, IsBooked, IsQuotas, same_Some}
 use Rattle.quota_tree.specs.Containers.{giver_after_split, fitting}
-use Rattle.std.specs.Prelude.{slice_set, nat_lt, position, Ok, Err}
-use Rattle.quota_tree.specs.declared.QuotaFault.TheVariants.{BadQuota, NoRoom}
+use Rattle.std.specs.Prelude.{slice_set, position, Ok, Err}
+use Rattle.quota_tree.specs.declared.QuotaFault.TheVariants.{BadQuota}
 use Rattle.quota_tree.proofs.CollectedLemmas.{get-collected, collected-set}
 use Rattle.quota_tree.proofs.Sums.{given-insert, number-insert, given-none, number-none, number-given}
 use Rattle.quota_tree.proofs.Views.{live-container, parents_live, each_quota, room_of-container, within_places, absent_at, next_number-position}
@@ -27,17 +27,7 @@ module _ (c : Containers) (parent quota : ℕ) where
   can_split-of_answer child h = by (quota == 0) (next_number c.book) refl refl h
     where
       by : (b : Bool) (o : Option ℕ) → (quota == 0) ≡ b → next_number c.book ≡ o → cond b (Err BadQuota) (fitting c parent quota o) ≡ Ok child → CanSplit c parent quota child
-      by true o is next e = cc
-      by false None is next e = cc
-      by false (Some k) is next e = room (nat_lt (room_of c parent) quota) refl e
-        where
-          room : (b : Bool) → nat_lt (room_of c parent) quota ≡ b → cond b (Err NoRoom) (Ok k) ≡ Ok child → CanSplit c parent quota child
-          room true over e = cc
-          room false over e = record {
-            some = grind (arith, nat_tests);
-            next = (let same : k ≡ child = cc in next ∙ ap Some same);
-            room = grind (arith, nat_tests);
-          }
+      by b o is next e = grind (arith, nat_tests)
 
 -- ---- A split: a parent gives a part of its room to a child that wasn't there
 
@@ -79,65 +69,31 @@ module _ (cs : List (Option Container)) (kept : IsQuotas cs) (p k q : ℕ) (p_in
 
   child_kept : IsBooked book2 k child
   child_kept =
-      let no = child_no p k k q p_not_k in
-      let a = given2 k in
-      let b = number2 k in
-      let c : only_if (is_child k (k, record { parent = p; quota = q })) q ≡ 0 = ap (λ t. only_if t q) no in
-      let d : only_if (is_child k (k, record { parent = p; quota = q })) 1 ≡ 0 = ap (λ t. only_if t 1) no in
-      let e = given-none (collected member_of cs) k absent (parents_live cs kept) in
-      let f = number-none (collected member_of cs) k absent (parents_live cs kept) in
-      record {
-        parent = contains_key-insert (collected member_of cs) k (record { parent = p; quota = q }) p (live-container cs p g hg);
-        given = omega (arith, a, c, e);
-        children = omega (arith, b, d, f);
-        used = some;
-        within = omega (arith, fits);
-      }
+      grind (
+        arith,
+        child_no p k k q p_not_k,
+        given2 k,
+        number2 k,
+        given-none (collected member_of cs) k absent (parents_live cs kept),
+        number-none (collected member_of cs) k absent (parents_live cs kept),
+        p_not_k,
+        only_if,
+        absent,
+        parents_live,
+        contains_key-insert,
+        live-container,
+      )
 
   giver_kept : IsBooked book2 p (giver_after_split g q)
-  giver_kept =
-      let old = kept.each p g hg in
-      let yes = child_yes p k q k_not_0 in
-      let a = given2 p in
-      let b = number2 p in
-      let c : only_if (is_child p (k, record { parent = p; quota = q })) q ≡ q = ap (λ t. only_if t q) yes in
-      let d : only_if (is_child p (k, record { parent = p; quota = q })) 1 ≡ 1 = ap (λ t. only_if t 1) yes in
-      let e = old.given in
-      let f = old.children in
-      let w = old.within in
-      record {
-        parent = contains_key-insert (collected member_of cs) k (record { parent = p; quota = q }) g.parent old.parent;
-        given = omega (arith, a, c, e);
-        children = omega (arith, b, d, f);
-        used = old.used;
-        within = omega (arith, w, room);
-      }
+  giver_kept = grind (arith, kept.each p g hg, child_yes, k_not_0, given2, number2, only_if, contains_key-insert)
 
   other_kept : (x : ℕ) (c : Container) → x ≢ p → get_or cs x None ≡ Some c → IsBooked book2 x c
-  other_kept x c n h =
-      let old = kept.each x c h in
-      let no = child_no p x k q (λ e. n (sym e)) in
-      let a = given2 x in
-      let b = number2 x in
-      let d : only_if (is_child x (k, record { parent = p; quota = q })) q ≡ 0 = ap (λ t. only_if t q) no in
-      let e : only_if (is_child x (k, record { parent = p; quota = q })) 1 ≡ 0 = ap (λ t. only_if t 1) no in
-      let f = old.given in
-      let j = old.children in
-      record {
-        parent = contains_key-insert (collected member_of cs) k (record { parent = p; quota = q }) c.parent old.parent;
-        given = omega (arith, a, d, f);
-        children = omega (arith, b, e, j);
-        used = old.used;
-        within = old.within;
-      }
+  other_kept x c n h = grind (arith, kept.each x c h, child_no, given2, number2, only_if, contains_key-insert)
 
   pub quotas-split : IsQuotas (slice_set (slice_set cs p (Some (giver_after_split g q))) k (Some child))
   quotas-split = record {
     places = length-set (slice_set cs p (Some (giver_after_split g q))) k (Some child) ∙ length_first ∙ kept.places;
-    root = record {
-      quota = kept.root.quota;
-      is = ap (λ b. map.get b 0) book_after_split ∙ get-insert_other (collected member_of cs) k (record { parent = p; quota = q }) 0 (λ e. k_not_0 (sym e)) ∙ kept.root.is;
-    };
+    root = grind (arith, book_after_split, get-insert_other, k_not_0);
     each = λ x c at. subst (λ (b : Book). IsBooked b x c) (sym book_after_split) (new x c (after_set (slice_set cs p (Some (giver_after_split g q))) k (Some child) x c (omega (arith, length_first, k_in)) at));
   }
     where
@@ -172,8 +128,7 @@ module _ (cs : List (Option Container)) (kept : IsQuotas cs) (p q k : ℕ) (is :
         let some = can.some in
         let old = kept.each p g hg in
         let number = old.children in
-        let gives = old.given in
-        omega (arith, some, number, gives, giver_room, number-given (collected member_of cs) (each_quota cs kept) p)
+        omega (arith, some, number, giver_room, number-given (collected member_of cs) (each_quota cs kept) p)
 
     module _ (u : ℕ) (some : 1 ≤ u) (fits : u ≤ q) where
       absent_there : (k < length cs) × (get_or cs k None ≡ None)

@@ -4,7 +4,7 @@ use Rattle.std.proofs.Common.{◌≡◌, ℕ, ◌+◌, ◌≤◌, length, Bool, 
 use Rattle.std.specs.declared.cmp.Ordering.{Ordering}
 use Rattle.std.specs.declared.cmp.Ordering.TheVariants.{Less, Equal, Greater}
 use Rattle.std.specs.Ordering.{nat_cmp, is_lt, is_eq}
-use Rattle.std.specs.Cmp.{unsigned_tied, nat_eq_equiv}
+use Rattle.std.specs.Cmp.{unsigned_tied}
 use Rattle.std.specs.FinMap.Entries.{find, below_all, is_sorted, put, by_order}
 use Rattle.std.proofs.lemmas.List.Sums.{sum_by-cons}
 use Rattle.quota_tree.specs.Book.{Member, Book, is_child, given, number_of_children}
@@ -27,17 +27,11 @@ apart x y h = sym (unsigned_tied x y) ∙ lt_not_eq (nat_cmp x y) h
 
 module _ {X : Type 0} where
   sum_ext : (f g : X → ℕ) (xs : List X) → ((x : X) → f x ≡ g x) → sum_by f xs ≡ sum_by g xs
-  sum_ext f g [] is = refl
-  sum_ext f g (x ∷ xs) is = sum_by-cons f x xs ∙ (λ i. is x i + sum_ext f g xs is i) ∙ sym (sum_by-cons g x xs)
+  sum_ext f g xs is = grind (arith, sum_by-cons)
 
   sum_add : (f g : X → ℕ) (xs : List X) → sum_by (λ x. f x + g x) xs ≡ sum_by f xs + sum_by g xs
   sum_add f g [] = refl
-  sum_add f g (x ∷ xs) =
-      let a = sum_by-cons (λ x. f x + g x) x xs in
-      let b = sum_by-cons f x xs in
-      let c = sum_by-cons g x xs in
-      let d = sum_add f g xs in
-      omega arith
+  sum_add f g (x ∷ xs) = search (arith, sum_by-cons, sum_add f g xs)
 
   sum_zero : (xs : List X) → sum_by (λ (_ : X). 0) xs ≡ 0
   sum_zero [] = refl
@@ -133,20 +127,12 @@ costs_within book cost root found parents rooms =
     let c = given_sum book parents in
     let d = sum_add (at_key 0 quota) beyond_root book.entries in
     let e = sum_one 0 quota book.entries root book.sorted found in
-    let f = sum_ext quota (λ e. at_key 0 quota e + beyond_root e) book.entries (λ e. parts e.0 e.1.quota) in
-    omega arith
-  where
-    parts : (k q : ℕ) → q ≡ cond (0 == k) q 0 + cond (k == 0) 0 q
-    parts k q = rw (nat_eq_equiv.symm 0 k) (by (k == 0))
-      where
-        by : (b : Bool) → q ≡ cond b q 0 + cond b 0 q
-        by h = grind arith
+    grind (arith, sum_ext)
 
 -- ---- One member more, or less
 
 chosen : (f : Entry → ℕ) (b : Bool) (e : Entry) (rest : List Entry) → sum_by f (cond b (e ∷ rest) rest) ≡ cond b (f e) 0 + sum_by f rest
-chosen f true e rest = sum_by-cons f e rest
-chosen f false e rest = omega arith
+chosen f b e rest = grind (arith, sum_by-cons)
 
 sum_filter : (f : Entry → ℕ) (t : Entry → Bool) (es : List Entry) → sum_by f (filter t es) ≡ sum_by (λ e. cond (t e) (f e) 0) es
 sum_filter f t [] = refl
@@ -179,10 +165,7 @@ module _ (book : Book) (k : ℕ) (v : Member) (none : map.get book k ≡ None) w
   given-insert p = sum-put quota (is_child p) k v book.entries none
 
   pub number-insert : (p : ℕ) → number_of_children (map.insert book k v) p ≡ cond (is_child p (k, v)) 1 0 + number_of_children book p
-  number-insert p =
-      length_sum (filter (is_child p) (put nat_cmp k v book.entries))
-      ∙ sum-put (λ _. 1) (is_child p) k v book.entries none
-      ∙ ap (λ n. cond (is_child p (k, v)) 1 0 + n) (sym (length_sum (filter (is_child p) book.entries)))
+  number-insert p = grind (arith, length_sum, sum-put)
 
 module _ (book : Book) (k : ℕ) (v : Member) (h : map.get book k ≡ Some v) where
   -- one member less
@@ -195,20 +178,7 @@ module _ (book : Book) (k : ℕ) (v : Member) (h : map.get book k ≡ Some v) wh
 -- who isn't live is nobody's parent
 module _ (book : Book) (p : ℕ) (none : map.get book p ≡ None) (parents : Parents book) where
   no_child : (f : Entry → ℕ) → sum_by f (filter (is_child p) book.entries) ≤ 0
-  no_child f =
-      let a = sum_filter f (is_child p) book.entries in
-      let b = sum_le (λ e. cond (is_child p e) (f e) 0) (λ _. 0) book.entries book.sorted each in
-      let d = sum_zero book.entries in
-      omega (arith, a, b, d)
-    where
-      each : (k : ℕ) (v : Member) → map.get book k ≡ Some v → cond (is_child p (k, v)) (f (k, v)) 0 ≤ 0
-      each k v found = by (not (k == 0)) (v.parent == p) refl
-        where
-          m : (m : Member) × (map.get book v.parent ≡ Some m)
-          m = parents k v found
-
-          by : (a b : Bool) → (v.parent == p) ≡ b → cond (a && b) (f (k, v)) 0 ≤ 0
-          by h b is = grind (arith, m, eqb-true)
+  no_child f = grind (arith, sum_filter f (is_child p) book.entries, sum_zero book.entries, sum_le, eqb-true)
 
   pub given-none : given book p ≡ 0
   given-none = let a = no_child quota in omega arith
@@ -218,12 +188,4 @@ module _ (book : Book) (p : ℕ) (none : map.get book p ≡ None) (parents : Par
 
 -- each child has at least 1, so there are at most as many as was given
 pub number-given : (book : Book) → ((k : ℕ) (v : Member) → map.get book k ≡ Some v → 1 ≤ v.quota) → (p : ℕ) → number_of_children book p ≤ given book p
-number-given book each p =
-    let a = length_sum (filter (is_child p) book.entries) in
-    let b = sum_filter (λ _. 1) (is_child p) book.entries in
-    let d = sum_filter quota (is_child p) book.entries in
-    let e = sum_le (λ e. cond (is_child p e) 1 0) (λ e. cond (is_child p e) (quota e) 0) book.entries book.sorted (λ k v found. one (is_child p (k, v)) v.quota (each k v found)) in
-    omega (arith, a, b, d, e)
-  where
-    one : (b : Bool) (q : ℕ) → 1 ≤ q → cond b 1 0 ≤ cond b q 0
-    one known q h = grind arith
+number-given book each p = grind (arith, length_sum, sum_filter, sum_le)

@@ -1,5 +1,5 @@
 -- What containers are seen as, what holds of every process, and what they keep where they open.
-use Rattle.quota_tree.proofs.Prelude.{◌≡◌, ◌≢◌, ℕ, zero, suc, ◌+◌, ◌-◌, ◌<◌, ◌≤◌, inl, inr, true, false, not, List, ◌∷◌}
+use Rattle.quota_tree.proofs.Prelude.{◌≡◌, ◌≢◌, ℕ, zero, suc, ◌+◌, ◌-◌, ◌<◌, ◌≤◌, true, false, not, List, ◌∷◌}
 use Rattle.quota_tree.proofs.Prelude.{length, replicate, get_or, is_some, refl, sym, ap, ◌∙◌, Option, Some, None}
 use Rattle.quota_tree.proofs.Prelude.{unwrap_or, arith, find, range_with_len, option_map, cases_lt}
 use Rattle.quota_tree.proofs.Prelude.{Container, Member, given, quota_of, next_number, collected}
@@ -43,31 +43,20 @@ module _ (cs : List (Option Container)) where
 
   module _ (kept : IsQuotas cs) where
     member_kept : (p : ℕ) (m : Member) → map.get (collected member_of cs) p ≡ Some m → (c : Container) × (get_or cs p None ≡ Some c) × (m ≡ member_of c)
-    member_kept p m h =
-        let c = container_where_live p (ap is_some h) in
-        (c.0, c.1, same_Some m (member_of c.0) (sym h ∙ get-member p c.0 c.1))
+    member_kept p m h = grind (arith, container_where_live p (ap is_some h), same_Some, get-member)
 
     pub parents_live : Parents (collected member_of cs)
     parents_live p m h =
         let c = member_kept p m h in
         let k = kept.each p c.0 c.1 in
         let live : IsLive (seen_as cs) m.parent = ap (λ x. map.contains_key (collected member_of cs) x.parent) c.2 ∙ k.parent in
-        let d = container_where_live m.parent live in
-        (member_of d.0, get-member m.parent d.0 d.1)
+        grind (arith, container_where_live, get-member)
 
     pub each_quota : (p : ℕ) (m : Member) → map.get (collected member_of cs) p ≡ Some m → 1 ≤ m.quota
-    each_quota p m h =
-        let c = member_kept p m h in
-        let k = kept.each p c.0 c.1 in
-        let used = k.used in
-        let within = k.within in
-        let e : m.quota ≡ c.0.quota = ap (λ x. x.quota) c.2 in
-        omega arith
+    each_quota p m h = grind (arith, member_kept p m h, kept.each p (member_kept p m h).0 (member_kept p m h).1)
 
     pub room_of-container : (p : ℕ) (c : Container) → get_or cs p None ≡ Some c → room_of (seen_as cs) p ≡ c.quota - c.used - c.given
-    room_of-container p c h =
-        let k = kept.each p c h in
-        λ i. quota_of-container p c h i - used_of-container p c h i - sym k.given i
+    room_of-container p c h = grind (arith, kept.each p c h, quota_of-container, used_of-container)
 
     pub container_of-kept : (p : ℕ) → container_of (seen_as cs) p ≡ get_or cs p None
     container_of-kept p = by (get_or cs p None) refl
@@ -88,10 +77,7 @@ module _ (cs : List (Option Container)) where
             }))
 
     pub within_places : (p : ℕ) (c : Container) → get_or cs p None ≡ Some c → p < length cs
-    within_places p c h = elim (cases_lt p (length cs)) [
-      | inl below ↦ below
-      | inr past ↦ absurd (let e : false ≡ true = ap is_some (sym (get_or_past cs p None past) ∙ h) in cc)
-    ]
+    within_places p c h = grind (arith, cases_lt, get_or_past)
 
     pub next_number-position : next_number (collected member_of cs) ≡ position (λ c. not (is_some c)) cs
     next_number-position =
@@ -100,25 +86,19 @@ module _ (cs : List (Option Container)) where
         ∙ from_0 (position (λ c. not (is_some c)) cs)
       where
         present : (o : Option Container) → is_some (option_map member_of o) ≡ is_some o
-        present None = refl
-        present (Some c) = refl
+        present o = grind arith
 
         alike : (i : ℕ) → i < length cs → not (map.contains_key (collected member_of cs) (0 + i)) ≡ not (is_some (get_or cs i None))
         alike i h = let e : 0 + i ≡ i = omega arith in ap (λ k. not (map.contains_key (collected member_of cs) k)) e ∙ ap (λ o. not (is_some o)) (get-collected member_of cs i) ∙ ap not (present (get_or cs i None))
 
         from_0 : (o : Option ℕ) → option_map (λ i. 0 + i) o ≡ o
-        from_0 None = refl
-        from_0 (Some i) = let e : 0 + i ≡ i = omega arith in ap Some e
+        from_0 o = grind arith
 
     -- the next number's place is empty
     pub absent_at : (k : ℕ) → next_number (collected member_of cs) ≡ Some k → (k < length cs) × (get_or cs k None ≡ None)
     absent_at k h =
         let found = position-Some (λ c. not (is_some c)) cs k None (sym next_number-position ∙ h) in
-        (found.0, empty (get_or cs k None) found.1)
-      where
-        empty : (o : Option Container) → not (is_some o) ≡ true → o ≡ None
-        empty None e = refl
-        empty (Some c) e = cc
+        grind arith
 
     -- all together use at most the root's quota
     pub within_root : total_used (seen_as cs) ≤ quota_of (collected member_of cs) 0
@@ -134,7 +114,6 @@ module _ (cs : List (Option Container)) where
             let k = kept.each p c.0 c.1 in
             let used = used_of-container p c.0 c.1 in
             let given_is = k.given in
-            let within = k.within in
             let e : m.quota ≡ c.0.quota = ap (λ x. x.quota) c.2 in
             omega arith
 
@@ -142,11 +121,7 @@ module _ (cs : List (Option Container)) where
 
 module _ (cs : List (Option Container)) (kept : IsQuotas cs) where
   pub all_numbers : (p : ℕ) → IsLive (seen_as cs) p → p < 64
-  all_numbers p live =
-      let c = container_where_live cs p live in
-      let h = within_places cs kept p c.0 c.1 in
-      let e = kept.places in
-      omega arith
+  all_numbers p live = grind (arith, container_where_live, within_places)
 
   pub all_parents : (p : ℕ) (m : Member) → map.get (collected member_of cs) p ≡ Some m → IsLive (seen_as cs) m.parent
   all_parents p m h = let parent = parents_live cs kept p m h in ap is_some parent.1
@@ -155,18 +130,13 @@ module _ (cs : List (Option Container)) (kept : IsQuotas cs) where
   all_used p live =
       let c = container_where_live cs p live in
       let used = (kept.each p c.0 c.1).used in
-      let is = used_of-container cs p c.0 c.1 in
-      omega arith
+      grind (arith, used_of-container)
 
   pub all_within : (p : ℕ) → IsLive (seen_as cs) p → used_of (seen_as cs) p + given (collected member_of cs) p ≤ quota_of (collected member_of cs) p
   all_within p live =
       let c = container_where_live cs p live in
       let k = kept.each p c.0 c.1 in
-      let within = k.within in
-      let gives = k.given in
-      let used = used_of-container cs p c.0 c.1 in
-      let quota = quota_of-container cs p c.0 c.1 in
-      omega arith
+      grind (arith, used_of-container, quota_of-container)
 
 -- ---- The opening
 

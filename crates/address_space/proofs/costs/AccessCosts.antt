@@ -1,11 +1,10 @@
 -- What accesses cost: nothing where the page is mapped, and what its page needs where it is not.
 use Rattle.address_space.proofs.Prelude
-use Prelude.{arith, ◌≡◌, ℕ, true, cond, List, ap, sym, ◌∙◌, Option, is_some, if◌then◌else◌, option_map, same, Set}
+use Prelude.{arith, ◌≡◌, ℕ, true, cond, List, ap, sym, ◌∙◌, is_some, same, Set}
 use Prelude.{same_or_not, get-insert, get-map_values, Slot, slot_order, Cell, Spaces, cost, cost_of, stored, set_bytes}
-use Prelude.{with_bytes, cell_or_fresh, at_page}
+use Prelude.{cell_or_fresh, at_page}
 use Rattle.address_space.proofs.costs.Costs.{same_pages}
 use Rattle.page_words.specs.FiniteMap as map
-use Rattle.page_words.specs.FiniteSet as set
 
 -- spaces that map the same slots cost the same
 pub cost-same : (S T : Spaces) (p : ℕ) → ((q : Slot) → map.contains_key S q ≡ map.contains_key T q) → cost S p ≡ cost T p
@@ -15,10 +14,7 @@ pub key-insert : (S : Spaces) (slot : Slot) (c : Cell) (q : Slot) → map.contai
 key-insert S slot c q = grind (arith, is_some, get-insert, same, slot_order)
 
 key-set_bytes : (S : Spaces) (group : Set slot_order) (bytes : List ℕ) (q : Slot) → map.contains_key (set_bytes S group bytes) q ≡ map.contains_key S q
-key-set_bytes S group bytes q = ap is_some (get-map_values slot_order (λ slot cell. if set.contains group slot then with_bytes cell bytes else cell) S q) ∙ by (map.get S q)
-  where
-    by : (x : Option Cell) → is_some (option_map (λ cell. if set.contains group q then with_bytes cell bytes else cell) x) ≡ is_some x
-    by x = grind arith
+key-set_bytes S group bytes q = grind (arith, get-map_values)
 
 -- a store maps the slots that an insertion maps
 pub key-stored : (S : Spaces) (slot : Slot) (at : ℕ) (new : List ℕ) (c : Cell) (q : Slot) → map.contains_key (stored S slot at new) q ≡ map.contains_key (map.insert S slot c) q

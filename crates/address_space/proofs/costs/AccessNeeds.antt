@@ -51,8 +51,7 @@ module _ (S : Spaces) (p : ℕ) where
   new_regions regions = set.len (set.retain regions is_new)
 
   kept_one : (s : Set nat_order) (t : ℕ → Bool) (k : ℕ) → (b : Bool) → t k ≡ b → set.retain (set.insert s k) t ≡ cond b (set.insert (set.retain s t) k) (set.retain s t)
-  kept_one s t k true is = retain-insert s t k tt is
-  kept_one s t k false is = retain-insert_other s t k tt is
+  kept_one s t k b is = grind (arith, retain-insert, retain-insert_other)
 
   -- one page alone
   need-one_page : (page : ℕ) → need_of S p (set.retain (set.from_list (page ∷ [])) is_missing) ≡ page_need S p page

@@ -123,10 +123,7 @@ module _ (directories : List (Option ℕ)) (bytes : List ℕ) (roles : List Role
       by q b there = grind (arith, user_region, lt_true, and-true)
 
   pub regions_next : (s n k : ℕ) → 256 ≤ s → s < 960 → n ≡ regions_below regions s → k ≡ counted (is_some (table_of (frame_bytes bytes) d s)) → n + k ≡ regions_below regions (s + 1)
-  regions_next s n k low high so_far one =
-      let a = below_next regions s in
-      let b : counted (set.contains regions s) ≡ counted (is_some (table_of (frame_bytes bytes) d s)) = ap counted (region_table s low high) in
-      omega (arith, a, b, so_far, one)
+  regions_next s n k low high so_far one = grind (arith, below_next, region_table)
 
   -- ---- Its pages
 

@@ -4,7 +4,7 @@ use Prelude.{◌≡◌, ◌≢◌, ℕ, zero, suc, ◌+◌, ◌<◌, ◌≤◌, 
 use Prelude.{◌∙◌, arith, inl, inr, Option, Some, None, ◌*◌, ◌⊎◌, is_some, if◌then◌else◌, sum_by, option_map}
 use Prelude.{option_and_then, list_any, range_with_len, is_some-find, cases_eq, sum_by-cons, slot_number, index_number}
 use Prelude.{Frames, word_entry, entry_from, PageEntry, word_in, Set, nat_order, same, Slot, slot_order, Cell, Spaces}
-use Prelude.{cost, cost_of, need, pages_of, regions_of, at_page, user_slots, same_itself, same_or_not, get-insert}
+use Prelude.{cost, cost_of, need, pages_of, regions_of, at_page, same_itself, same_or_not, get-insert}
 use Prelude.{contains-from_list, list_any-map, same-true, Entries, cell_of, spaces_of, Directories, directory_of}
 use Prelude.{table_in, entry_in, entries_in, live_cost, total_cost, InUseAt, or-true, is_some-map}
 use Rattle.address_space.proofs.entries.UserSlots.{in_user_slots}
@@ -78,9 +78,7 @@ passing o t h = let r = by (set.items o) h in (r.0, r.1, is_some-find nat_order.
 
 -- a region has a page
 pub region_member : (pages : Set nat_order) (r : ℕ) → set.contains (regions_of pages) r ≡ true → (page : ℕ) × (slot_number page ≡ r) × (set.contains pages page ≡ true)
-region_member pages r h =
-    let k = passing pages (λ n. same nat_order r (slot_number n)) (sym (contains-from_list nat_order (map slot_number (set.items pages)) r ∙ list_any-map slot_number (same nat_order r) (set.items pages)) ∙ h) in
-    (k.0, sym (same-true nat_order r (slot_number k.0) k.1), k.2)
+region_member pages r h = grind (arith, passing, contains-from_list, list_any-map, same-true)
 
 abbrev counted : Bool → ℕ
 counted b = if b then 1 else 2
@@ -121,15 +119,7 @@ pub need-two : (D : Directories) (m : Frames) (p page : ℕ) → table_in D m p 
 need-two D m p page none = by (set.contains (regions_of (pages_of (spaces_of (entries_in D m) m) p)) (slot_number page)) refl
   where
     clash : (other : ℕ) → slot_number other ≡ slot_number page → map_of.contains_key (spaces_of (entries_in D m) m) (at_page p other) ≡ true → ⊥
-    clash other same_region h =
-        let q : Slot = at_page p other in
-        let entry : is_some (cond (list_any (same slot_order q) user_slots) (entry_in D m q) None) ≡ true =
-        sym (ap is_some (get-spaces_of (entries_in D m) m q) ∙ is_some-map (cell_of (entries_in D m) m q) (map_of.get (entries_in D m) q) ∙ ap is_some (get-entries_in D m q)) ∙ h in
-        let no : entry_in D m q ≡ None = entry_by_table D m q ∙ ap (option_and_then _) (ap (table_in D m p) same_region ∙ none) in
-        absurd (gone (list_any (same slot_order q) user_slots) (entry_in D m q) no entry)
-      where
-        gone : (b : Bool) (x : Option PageEntry) → x ≡ None → is_some (cond b x None) ≡ true → ⊥
-        gone b x n h = grind arith
+    clash other same_region h = grind (arith, get-spaces_of, is_some-map, get-entries_in, entry_by_table)
 
     by : (b : Bool) → set.contains (regions_of (pages_of (spaces_of (entries_in D m) m) p)) (slot_number page) ≡ b → ◌≡◌ {A = ℕ} (if set.contains (regions_of (pages_of (spaces_of (entries_in D m) m) p)) (slot_number page) then 1 else 2) 2
     by false is = ap (λ b. counted b) is

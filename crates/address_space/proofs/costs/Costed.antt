@@ -1,7 +1,7 @@
 -- The frames in use stay within the costs.
 use Rattle.address_space.proofs.Prelude
-use Prelude.{◌≡◌, ℕ, ◌+◌, ◌<◌, ◌≤◌, List, length, refl, ap, sym, ◌∙◌, arith, inl, inr, Option, slot_number, frame_bytes}
-use Prelude.{Role, free_frames, frames_weight, Spaces, need, spaces_of, directory_of, table_in, entries_in, spaces_in}
+use Prelude.{◌≡◌, ℕ, ◌+◌, ◌<◌, ◌≤◌, List, length, ap, sym, ◌∙◌, arith, inl, inr, Option, slot_number, frame_bytes}
+use Prelude.{Role, free_frames, frames_weight, Spaces, need, directory_of, table_in, spaces_in}
 use Prelude.{total_cost, IsSound, IsSpaces, table_need, TableGiven, SlotAdded, free-by-weight}
 use Rattle.address_space.proofs.costs.CostSteps.{need-two, need-least}
 use Rattle.address_space.proofs.frames.FrameSteps.{here_or_not}
@@ -9,10 +9,7 @@ use Rattle.address_space.proofs.frames.FrameSteps.{here_or_not}
 -- a new page needs a table's frame too where the slot has none
 need_table : (directories : List (Option ℕ)) (bytes : List ℕ) (p page : ℕ) → table_need (table_in (directory_of directories) (frame_bytes bytes) p (slot_number page)) + 1 ≤ need (spaces_in directories bytes) p page
 unfolding spaces_in
-need_table directories bytes p page = by (table_in (directory_of directories) (frame_bytes bytes) p (slot_number page)) refl
-  where
-    by : (x : Option ℕ) → table_in (directory_of directories) (frame_bytes bytes) p (slot_number page) ≡ x → table_need x + 1 ≤ need (spaces_of (entries_in (directory_of directories) (frame_bytes bytes)) (frame_bytes bytes)) p page
-    by x is = grind (arith, need-two, need-least)
+need_table directories bytes p page = grind (arith, need-two, need-least)
 
 abbrev pub Room : List (Option ℕ) → Spaces → List Role → ℕ → ℕ → Type 0
 Room directories spaces roles p page = 1 + total_cost directories spaces + need spaces p page ≤ length roles
@@ -24,22 +21,12 @@ free_where_light directories bytes roles s = free-by-weight roles (λ i c is. (s
 -- where the costs leave room, a frame for the table is free
 pub room_for_table : (directories : List (Option ℕ)) (bytes : List ℕ) (roles : List Role) (p page : ℕ) → IsSpaces directories bytes roles → Room directories (spaces_in directories bytes) roles p page
     → table_need (table_in (directory_of directories) (frame_bytes bytes) p (slot_number page)) ≤ free_frames roles
-room_for_table directories bytes roles p page s room =
-    let a = s.weighs in
-    let b = need_table directories bytes p page in
-    let c = free_where_light directories bytes roles s.sound in
-    omega (arith, a, b, c, room)
+room_for_table directories bytes roles p page s room = grind (arith, need_table, free_where_light)
 
 -- and then one for the page
 pub room_for_page : (directories : List (Option ℕ)) (bytes bytes1 : List ℕ) (roles roles1 : List Role) (p page : ℕ) → IsSpaces directories bytes roles → Room directories (spaces_in directories bytes) roles p page
     → TableGiven directories p (slot_number page) bytes roles bytes1 roles1 → 0 < free_frames roles1
-room_for_page directories bytes bytes1 roles roles1 p page s room given =
-    let a = s.weighs in
-    let b = need_table directories bytes p page in
-    let c = given.weight in
-    let n = given.length in
-    let l = free_where_light directories bytes1 roles1 given.sound in
-    omega (arith, a, b, c, n, l, room)
+room_for_page directories bytes bytes1 roles roles1 p page s room given = grind (arith, need_table, free_where_light)
 
 pub mapped : (directories : List (Option ℕ)) (bytes bytes1 bytes2 : List ℕ) (roles roles1 roles2 : List Role) (p page : ℕ) → IsSpaces directories bytes roles → Room directories (spaces_in directories bytes) roles p page
     → TableGiven directories p (slot_number page) bytes roles bytes1 roles1 → SlotAdded directories p page bytes1 roles1 bytes2 roles2 → IsSpaces directories bytes2 roles2

@@ -28,13 +28,7 @@ sum-add g h a (suc n) = let rest = sum-add g h (a + 1) n in omega (arith, rest)
 -- one place is one frame's
 once-most : (x a n : ℕ) → sum_from (λ f. once (x == f)) a n ≤ 1
 once-most x a zero = omega arith
-once-most x a (suc n) = elim (cases_eq x a) [
-  | inl is ↦ grind (arith, eq-eqb, sum-none, ne_eqb)
-  | inr differ ↦
-      let own : once (x == a) ≡ 0 = ap once (ne_eqb x a differ) in
-      let rest = once-most x (a + 1) n in
-      omega (arith, own, rest)
-]
+once-most x a (suc n) = grind (arith, cases_eq, eq-eqb, sum-none, ne_eqb, once-most x (a + 1) n)
 
 -- all frames together stand in a list no more often than it is long
 pub sum-hits : (xs : List ℕ) (a n : ℕ) → sum_from (λ f. hits f xs) a n ≤ length xs

@@ -54,18 +54,11 @@ module _ (S : Spaces) (p page : ℕ) where
 
   -- another page of the process is left as it was
   pub page_left : (other : ℕ) → page ≢ other → map.contains_key left (at_page p other) ≡ map.contains_key S (at_page p other)
-  page_left other apart = others_left (at_page p other) (elim (same_or_not slot_order slot (at_page p other)) [
-    | inl e ↦ absurd (apart (ap (λ (x : Slot). x.page) e.0))
-    | inr n ↦ n
-  ])
+  page_left other apart = grind (arith, others_left, same_or_not)
 
   -- a process that is charged for its directory alone doesn't have the page
   pub light_lacks : cost S p ≤ 1 → map.get S slot ≡ None
-  light_lacks light = by (map.get S slot) refl
-    where
-      by : (x : Option Cell) → map.get S slot ≡ x → map.get S slot ≡ None
-      by None is = is
-      by (Some cell) is = absurd (omega (arith, cost_left cell is, need-least left p page))
+  light_lacks light = grind (arith, cost_left, need-least)
 
 abbrev counted : Bool → ℕ
 counted b = if b then 1 else 2

@@ -62,5 +62,4 @@ cost-without_other S gone p stays = cost-by-pages (without S gone) S p (λ page.
 -- a new page costs at most two more
 pub total_mapped_most : (directories : List (Option ℕ)) (S : Spaces) (slot : Slot) (cell : Cell) → slot.pid < 64 → is_some (directory_of directories slot.pid) ≡ true → map.get S slot ≡ None
     → total_cost directories (map.insert S slot cell) ≤ 2 + total_cost directories S
-total_mapped_most directories S slot cell few live none =
-    grind (arith, some_value, directory_of, total-insert, need-most)
+total_mapped_most directories S slot cell few live none = grind (arith, some_value, total-insert, need-most)

@@ -25,14 +25,7 @@ use Rattle.page_words.specs.FiniteSet as set
 -- a list has at least as many places as keys
 len-from_list : {K : Type 0} (o : Order K) (ks : List K) → set.len (set.from_list {o = o} ks) ≤ length ks
 len-from_list o [] = omega arith
-len-from_list o (k ∷ ks) =
-    let l = len-insert (set.from_list {o = o} ks) k tt in
-    let most = at_most (set.contains (set.from_list {o = o} ks) k) (set.len (set.from_list {o = o} ks)) in
-    let rest = len-from_list o ks in
-    omega (arith, l, most, rest)
-  where
-    at_most : (b : Bool) (n : ℕ) → cond b n (n + 1) ≤ n + 1
-    at_most b n = grind arith
+len-from_list o (k ∷ ks) = grind (arith, len-insert, len-from_list o ks)
 
 member : {K : Type 0} {o : Order K} (s : Set o) (k : K) → set.contains s k ≡ true → list_any (same o k) (set.items s) ≡ true
 member {K} {o} s k h = sym (is_some-find o.cmp k s.entries) ∙ h
@@ -111,10 +104,14 @@ module _ (directories : List (Option ℕ)) (bytes : List ℕ) (roles : List Role
 
   directory-hits : (p f : ℕ) → D p ≡ Some f → 1 ≤ hits f (uses 0 64)
   directory-hits p f live =
-      let few = small p f live in
-      let own : 1 ≤ hits f (uses_of p (D p)) = subst (λ x. 1 ≤ hits f (uses_of p x)) (sym live) (let e : once (f == f) ≡ 1 = ap once (eq-eqb f f refl) in omega (arith, e)) in
-      let all = hits-uses f p 0 64 (omega arith) (omega (arith, few)) in
-      omega (arith, own, all)
+      grind (
+        arith,
+        small p f live,
+        hits-uses f p 0 64 (omega arith) (omega (arith, (small p f live))),
+        hits,
+        once,
+        eq-eqb,
+      )
 
   -- a slot outside the user range has no table
   user_slot : (p d s t : ℕ) → D p ≡ Some d → s < 1024 → table_of m d s ≡ Some t → (256 ≤ s) × (s < 960)
@@ -196,11 +193,7 @@ module _ (directories : List (Option ℕ)) (bytes : List ℕ) (roles : List Role
   unfolding uses slots
   length-slots f a zero = omega arith
   length-slots f a (suc n) =
-      let l = length-append (slots_of f a (D a)) (slots f (a + 1) n) in
-      let h = hits-append f (uses_of a (D a)) (uses (a + 1) n) in
-      let own = length-slots_of f a (D a) in
-      let rest = length-slots f (a + 1) n in
-      omega (arith, l, h, own, rest)
+      grind (arith, length-append, slots, hits-append, uses, length-slots_of, length-slots f (a + 1) n)
 
   any-slots : (f : ℕ) (t : Slot → Bool) (p a n : ℕ) → a ≤ p → p < a + n → list_any t (slots_of f p (D p)) ≡ true → list_any t (slots f a n) ≡ true
   unfolding slots
@@ -233,9 +226,7 @@ module _ (directories : List (Option ℕ)) (bytes : List ℕ) (roles : List Role
   holders-hits : (f : ℕ) → set.len (holders_of E f) ≤ hits f (uses 0 64)
   holders-hits f =
       let a = len-subset (holders_of E f) (set.from_list {o = slot_order} (slots f 0 64)) (λ slot h. contains-from_list slot_order (slots f 0 64) slot ∙ holder-in f slot h) in
-      let b = len-from_list slot_order (slots f 0 64) in
-      let c = length-slots f 0 64 in
-      omega (arith, a, b, c)
+      grind (arith, len-from_list, slots, length-slots)
 
   -- ---- All frames
 

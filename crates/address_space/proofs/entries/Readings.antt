@@ -1,6 +1,6 @@
 -- What a slot, its bytes and its needs are read as.
 use Rattle.address_space.proofs.Prelude
-use Prelude.{◌≡◌, ℕ, ◌+◌, ◌*◌, ◌<◌, ◌≤◌, true, false, cond, List, [], ◌∷◌, length, take, drop, refl, ap, sym, ◌∙◌}
+use Prelude.{◌≡◌, ℕ, ◌+◌, ◌*◌, ◌<◌, ◌≤◌, true, false, cond, List, length, take, refl, sym}
 use Prelude.{arith, Option, Some, None, length-drop, slice_index, slice_get, is_some, option_and_then, option_map}
 use Prelude.{get_or-drop, is_some-map, slot_number, frame_bytes, word_at, Role, Page, entry_at, IsKernelEntry}
 use Prelude.{PageEntry, Slot, need, value_of, bytes_at, at_page, group_of, cell_of, spaces_of, holders_of, directory_of}
@@ -27,32 +27,20 @@ mapped_read directories bytes p d page live few low high = grind (arith, get-spa
 -- ---- Numbers in a page
 
 four_of : (xs : List ℕ) → 4 ≤ length xs → slice_index xs 0 + 256 * (slice_index xs 1 + 256 * (slice_index xs 2 + 256 * (slice_index xs 3 + 256 * 0))) ≡ value_of (take 4 xs)
-four_of [] h = absurd (omega arith)
-four_of (a ∷ []) h = absurd (omega arith)
-four_of (a ∷ b ∷ []) h = absurd (omega arith)
-four_of (a ∷ b ∷ c ∷ []) h = absurd (omega arith)
-four_of (a ∷ b ∷ c ∷ d ∷ xs) h = refl
+four_of xs h = grind arith
 
 one_of : (xs : List ℕ) → 1 ≤ length xs → slice_index xs 0 ≡ value_of (take 1 xs)
-one_of [] h = absurd (omega arith)
-one_of (a ∷ xs) h = omega arith
+one_of xs h = grind arith
 
 -- a word of memory is the number in its page's bytes
 pub word_read_in : (bytes : List ℕ) (f at : ℕ) → Inside bytes f → at + 4 ≤ 4096 → word_at bytes (4096 * f + at) ≡ value_of (bytes_at (frame_bytes bytes f) at 4)
 unfolding word_at
-word_read_in bytes f at i l =
-    let long = length-frame bytes f i.fits in
-    let rest = length-drop at (frame_bytes bytes f) in
-    word_at-frame bytes f at l
-    ∙ four_of (drop at (frame_bytes bytes f)) (omega (arith, long, rest))
+word_read_in bytes f at i l = grind (arith, length-frame, length-drop, word_at-frame, four_of)
 
 pub byte_read_in : (bytes : List ℕ) (f at : ℕ) → Inside bytes f → at < 4096 → slice_index bytes (4096 * f + at) ≡ value_of (bytes_at (frame_bytes bytes f) at 1)
 byte_read_in bytes f at i l =
     let z : at ≡ at + 0 = omega arith in
-    let long = length-frame bytes f i.fits in
-    let rest = length-drop at (frame_bytes bytes f) in
-    sym (byte-frame bytes f at l) ∙ ap (slice_index (frame_bytes bytes f)) z
-    ∙ sym (get_or-drop at (frame_bytes bytes f) 0 0) ∙ one_of (drop at (frame_bytes bytes f)) (omega (arith, long, rest))
+    grind (arith, length-frame, length-drop, byte-frame, get_or-drop, one_of)
 
 pub byte_in_frame : (bytes : List ℕ) (f at : ℕ) → at < 4096 → slice_index bytes (4096 * f + at) ≡ slice_index (frame_bytes bytes f) at
 byte_in_frame bytes f at l = sym (byte-frame bytes f at l)

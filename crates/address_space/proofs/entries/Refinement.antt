@@ -65,14 +65,6 @@ names-insert_same entries slot old new found kept f q = grind (arith, get-insert
 pub cell_at : (entries : Entries) (bytes : ℕ → List ℕ) (slot : Slot) (e : PageEntry) → map.get entries slot ≡ Some e → cell_or_fresh (spaces_of entries bytes) slot ≡ cell_of entries bytes slot e
 cell_at entries bytes slot e found = ap (λ c. unwrap_or c (fresh slot true)) (get-spaces_of entries bytes slot ∙ ap (option_map (cell_of entries bytes slot)) found)
 
--- where the slots of its frame stay, an entry's cell changes in its bytes alone
-cell_kept : (d e : Entries) (b c : ℕ → List ℕ) (slot : Slot) (entry : PageEntry) → group_of e slot entry.frame ≡ group_of d slot entry.frame → cell_of e c slot entry ≡ with_bytes (cell_of d b slot entry) (c entry.frame)
-cell_kept d e b c slot entry h = λ i. record { write = entry.write; may = entry.may; accessed = entry.accessed; dirty = entry.dirty; bytes = c entry.frame; holders = h i }
-
-chosen : (b : Bool) (cell : Cell) (new : List ℕ) → with_bytes cell (if b then new else cell.bytes) ≡ (if b then with_bytes cell new else cell)
-chosen true cell new = refl
-chosen false cell new = refl
-
 -- where the other slots keep their groups, an entry that is put in changes its own cell alone
 spaces_kept : (entries : Entries) (bytes : ℕ → List ℕ) (slot : Slot) (new : PageEntry) (own : Cell) → cell_of (map.insert entries slot new) bytes slot new ≡ own
     → ((q : Slot) (d : PageEntry) → map.get entries q ≡ Some d → group_of (map.insert entries slot new) q d.frame ≡ group_of entries q d.frame)
@@ -81,7 +73,7 @@ spaces_kept entries bytes slot new own mine kept =
     spaces_insert entries bytes slot new (spaces_of entries bytes) own mine (λ q x is. by q x is ∙ sym (get-spaces_of entries bytes q ∙ ap (option_map (cell_of entries bytes q)) is))
   where
     by : (q : Slot) (x : Option PageEntry) → map.get entries q ≡ x → option_map (cell_of (map.insert entries slot new) bytes q) x ≡ option_map (cell_of entries bytes q) x
-    by q x is = grind (arith, cell_kept)
+    by q x is = grind arith
 
 -- storing into the frame of a slot changes its group as the machine says
 pub store_refines : (entries : Entries) (bytes : ℕ → List ℕ) (slot : Slot) (e : PageEntry) (at : ℕ) (new : List ℕ) → map.get entries slot ≡ Some e → (e.frame == 0) ≡ false
@@ -96,7 +88,7 @@ store_refines entries bytes slot e at new found real =
     let held : (q : Slot) → set.contains cell.holders q ≡ names e.frame (map.get entries q) = λ q. ap (λ g. set.contains g q) (group-real entries slot e.frame real) ∙ contains-holders_of entries e.frame q in
     let others : (q : Slot) (x : Option PageEntry) → map.get entries q ≡ x → option_map (cell_of entries' bytes' q) x ≡ option_map (f q) (option_map (cell_of entries bytes q) x) = λ q x. elim x as (λ x. map.get entries q ≡ x → option_map (cell_of entries' bytes' q) x ≡ option_map (f q) (option_map (cell_of entries bytes q) x)) [
       | None ↦ λ _. refl
-      | Some d ↦ grind (arith, cell_kept, chosen)
+      | Some d ↦ grind arith
     ] in
     spaces_insert entries bytes' slot (stored_entry e) (set_bytes (spaces_of entries bytes) cell.holders after) (record cell { bytes = after; accessed = true; dirty = true })
     (λ i. record { write = e.write; may = e.may; accessed = true; dirty = true; bytes = if eqb_itself e.frame i then after else bytes e.frame; holders = kept slot e.frame i })
@@ -209,9 +201,7 @@ flags_refine entries bytes slot old new found same_frame =
     let entries' : Entries = map.insert entries slot new in
     let kept : (q : Slot) (f : ℕ) → group_of entries' q f ≡ group_of entries q f = λ q f. group-kept entries entries' q f (λ _. same_holders entries' entries f (names-insert_same entries slot old new found same_frame f)) in
     let flagged : Cell → Cell = λ c. record c { write = new.write; may = new.may; accessed = new.accessed; dirty = new.dirty } in
-    spaces_kept entries bytes slot new (flagged (cell_of entries bytes slot old))
-    (λ i. record { write = new.write; may = new.may; accessed = new.accessed; dirty = new.dirty; bytes = bytes (same_frame i); holders = kept slot (same_frame i) i }) (λ q d _. kept q d.frame)
-    ∙ sym (ap (λ (c : Cell). map.insert (spaces_of entries bytes) slot (flagged c)) (cell_at entries bytes slot old found))
+    grind (arith, spaces_kept, cell_at)
 
 -- ---- A fresh page, and one that gets its frame
 

@@ -1,9 +1,9 @@
 -- Entries on the same frame, and in the same table, after a change.
 use Rattle.address_space.proofs.Prelude
-use Prelude.{arith, subst, ◌≡◌, ◌≢◌, ℕ, false, cond, ap, sym, ◌∙◌, inl, inr, Some, None, none_goes, Gone, of_page}
-use Prelude.{of_lazy, entry_frame, EntriesStay, PlacesStay, slot_table, option_map, option_and_then, get-insert}
-use Prelude.{same_or_not, same_itself, PageEntry, Slot, slot_order, at_page, is_slot, Entries, slot_number}
-use Prelude.{index_number, word_in, Frames, word_entry, list_any, same, user_slots, Directories, table_in, entry_in}
+use Prelude.{arith, subst, ◌≡◌, ℕ, false, cond, ap, sym, ◌∙◌, inl, inr, Some, None, none_goes, Gone, of_page}
+use Prelude.{of_lazy, entry_frame, EntriesStay, PlacesStay, slot_table, option_map, get-insert}
+use Prelude.{same_or_not, same_itself, PageEntry, Slot, slot_order, at_page, Entries, slot_number}
+use Prelude.{Frames, Directories, table_in}
 use Prelude.{entries_in, eq-eqb}
 use Rattle.address_space.proofs.entries.EntrySteps.{get-entries_in, entry_by_table}
 use Rattle.address_space.proofs.entries.Removal.{kept_other}
@@ -25,10 +25,6 @@ pub stay_new : (gone : Gone) (E : Entries) (slot : Slot) (e : PageEntry) → map
     → EntriesStay gone E (map.insert E slot e)
 stay_new gone E slot e none q f stays names = grind (arith, option_map, get-insert, same_or_not, slot_order)
 
--- another slot than this page of this process
-apart : (p page : ℕ) (q : Slot) → is_slot p page q ≡ false → q ≢ at_page p page
-apart p page q h e = grind (arith, is_slot, same_itself, slot_order, at_page)
-
 -- a lazy page's entry was put on another frame
 pub stay_filled : (E : Entries) (p page : ℕ) (e e' : PageEntry) → map.get E (at_page p page) ≡ Some e → e.frame ≡ 0
     → EntriesStay (of_lazy p page) E (map.insert E (at_page p page) e')
@@ -41,7 +37,7 @@ stay_filled E p page e e' there zero q f stays names =
 
 -- a page's entry went
 pub stay_removed : (E : Entries) (p page : ℕ) → EntriesStay (of_page p page) E (map.remove E (at_page p page))
-stay_removed E p page q f stays names = grind (arith, option_map, kept_other, at_page, apart)
+stay_removed E p page q f stays names = grind (arith, option_map, kept_other, at_page)
 
 -- ---- With their tables
 
@@ -79,19 +75,4 @@ places_more gone gone' D m D' m' fewer places = grind arith
 -- a slot without a table has no entry
 pub entry_needs_table : (D : Directories) (m : Frames) (q : Slot) (f : ℕ) → slot_table D m q ≡ None
     → entry_frame (entries_in D m) q ≡ Some f → ⊥
-entry_needs_table D m q f none names =
-    grind (
-      arith,
-      entry_in,
-      entry_by_table,
-      option_and_then,
-      word_entry,
-      word_in,
-      index_number,
-      option_map,
-      get-entries_in,
-      list_any,
-      same,
-      slot_order,
-      user_slots,
-    )
+entry_needs_table D m q f none names = grind (arith, entry_by_table, get-entries_in)

@@ -1,8 +1,8 @@
 -- Every slot of the user range is one of the user slots.
 use Rattle.address_space.proofs.Prelude
 use Prelude.{◌≡◌, ℕ, zero, suc, ◌+◌, ◌<◌, ◌≤◌, Bool, true, false, ◌||◌, List, [], ◌∷◌, ◌++◌, map, refl, sym, ap, ◌∙◌}
-use Prelude.{arith, inl, inr, ◌&&◌, nat_cmp, list_any, range_with_len, same, nat_order, same_or_not, same_itself}
-use Prelude.{list_any-map, slot_order, at_page, user_slots, slots_below, or-true, tied_then}
+use Prelude.{arith, inl, inr, list_any, range_with_len, same, nat_order, same_or_not, same_itself}
+use Prelude.{list_any-map, slot_order, at_page, user_slots, slots_below, or-true}
 
 any-append : {A : Type 0} (t : A → Bool) (xs ys : List A) → list_any t (xs ++ ys) ≡ (list_any t xs || list_any t ys)
 any-append t [] ys = refl
@@ -25,19 +25,12 @@ range_any x a (suc n) low high =
     above : (x a : ℕ) → a ≤ x → ((x ≡ a) → ⊥) → a + 1 ≤ x
     above x a low n = omega arith
 
-slot_same_parts : (p page : ℕ) (q n : ℕ) → same slot_order (at_page p page) (at_page q n) ≡ (same nat_order p q && same nat_order page n)
-slot_same_parts p page q n = sym (tied_then (nat_cmp p q) (nat_cmp page n))
-
-any_ext : {A : Type 0} (s t : A → Bool) (xs : List A) → ((x : A) → s x ≡ t x) → list_any s xs ≡ list_any t xs
-any_ext s t [] is = refl
-any_ext s t (x ∷ xs) is = λ i. is x i || any_ext s t xs is i
-
 slots_any : (p page n : ℕ) (pages : List ℕ) → p < n → list_any (λ y. same nat_order page y) pages ≡ true → list_any (same slot_order (at_page p page)) (slots_below n pages) ≡ true
 slots_any p page zero pages low user = absurd (omega arith)
 slots_any p page (suc n) pages low user =
     any-append (same slot_order (at_page p page)) (map (at_page n) pages) (slots_below n pages)
     ∙ elim (same_or_not nat_order p n) [
-      | inl h ↦ grind (arith, list_any-map, any_ext, slot_same_parts)
+      | inl h ↦ grind (arith, list_any-map)
       | inr h ↦ ap (λ b. list_any (same slot_order (at_page p page)) (map (at_page n) pages) || b) (slots_any p page n pages (below p n low (apart p n h)) user)
           ∙ or-true (list_any (same slot_order (at_page p page)) (map (at_page n) pages))
     ]

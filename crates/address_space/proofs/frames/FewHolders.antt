@@ -1,10 +1,9 @@
 -- A page has fewer holders than a count can say.
 use Rattle.address_space.proofs.Prelude
 use Prelude.{◌≡◌, ℕ, zero, suc, ◌+◌, ◌*◌, ◌<◌, ◌≤◌, Bool, cond, List, [], ◌∷◌, length, refl, ap, arith, Option, Some}
-use Prelude.{None, length-append, range_with_len, Page, PageEntry, Frames, change_each, collect, put_some, where_key}
-use Prelude.{length-map, Slot, slot_order, at_page, user_slots, slots_below, len-insert, Entries, names, holders_of}
-use Prelude.{nothing, Directories, Roles, entry_in, entries_in, Pages}
-use Rattle.std.proofs.Common.{map as map_list}
+use Prelude.{length-append, range_with_len, Page, PageEntry, Frames, change_each, collect, put_some, where_key}
+use Prelude.{length-map, Slot, slot_order, user_slots, slots_below, len-insert, Entries, names, holders_of}
+use Prelude.{nothing, Directories, Roles, entries_in, Pages}
 use Rattle.std.proofs.Math.Nat.{add-mul}
 use Rattle.page_words.specs.FiniteMap as map
 use Rattle.page_words.specs.FiniteSet as set
@@ -30,11 +29,7 @@ collected g [] = omega arith
 collected g (k ∷ ks) = by (g k) (collected g ks)
   where
     by : (x : Option PageEntry) → map.len (collect {o = slot_order} g ks) ≤ length ks → map.len (put_some k x (collect {o = slot_order} g ks)) ≤ length (k ∷ ks)
-    by None h = omega arith
-    by (Some e) h = let l = len-insert (collect {o = slot_order} g ks) k e in let c = at_most (map.contains_key (collect {o = slot_order} g ks) k) (map.len (collect {o = slot_order} g ks)) in omega (arith, l, c, h)
-      where
-        at_most : (b : Bool) (n : ℕ) → cond b n (n + 1) ≤ n + 1
-        at_most b n = grind arith
+    by x h = grind (arith, len-insert)
 
 suc_times : (n k : ℕ) → suc n * k ≡ k + n * k
 suc_times n k = omega (arith, add-mul n 1 k)
@@ -45,14 +40,7 @@ length-range a (suc n) = ap suc (length-range (a + 1) n)
 
 length-slots : (n a k : ℕ) → length (slots_below n (range_with_len a k)) ≡ n * k
 length-slots zero a k = omega arith
-length-slots (suc n) a k =
-    let pages : List ℕ = range_with_len a k in
-    let x = length-append (map_list (at_page n) pages) (slots_below n pages) in
-    let b = length-slots n a k in
-    let c : length (map_list (at_page n) pages) ≡ length pages = length-map pages (at_page n) in
-    let r = length-range a k in
-    let d = suc_times n k in
-    omega (arith, x, b, c, d, r)
+length-slots (suc n) a k = grind (arith, length-append, length-map, length-range, suc_times, length-slots n a k)
 
 user_slots-count : length user_slots ≡ 64 * 0xb0000
 unfolding user_slots
@@ -63,8 +51,4 @@ user_slots-few = let a = user_slots-count in omega (arith, a)
 
 pub count_few : (D : Directories) (m : Frames) (R : Roles) (f c : ℕ) → Pages (entries_in D m) R → R f ≡ Some (Page c) → c < 4294967295
 unfolding entries_in
-count_few D m R f c P is =
-    let a = (P.counts f c is).1 in
-    let b = few_holders (entries_in D m) f (length user_slots) (collected (entry_in D m) user_slots) in
-    let l = user_slots-few in
-    omega (arith, a, b, l)
+count_few D m R f c h is = grind (arith, few_holders, collected, user_slots-few)

@@ -1,7 +1,7 @@
 -- How tables and entries stay where a page's bytes or its role change, and how a blank table is linked.
 use Rattle.address_space.proofs.Prelude
 use Prelude.{◌≡◌, ◌≢◌, ℕ, ◌^◌, ◌<◌, ◌≤◌, false, List, length, replicate, ap, sym, ◌∙◌, subst, arith, inl, inr, Some}
-use Prelude.{None, ◌⊎◌, if◌then◌else◌, option_and_then, cases_eq, length-replicate, slot_number, index_number}
+use Prelude.{None, ◌⊎◌, option_and_then, cases_eq, length-replicate, slot_number, index_number}
 use Prelude.{IsKernelDirWord, IsKernelTableWord, is_present, word_in, with_word_in, with_frame, with_frame-same}
 use Prelude.{with_frame-other, word_in_same, word_in_other, length-with_word_in, word_in-zeros, Role, Reserved, Free}
 use Prelude.{Directory, Table, Frames, table_of, word_entry, with_table, without_table, link_word, Slot, Directories}
@@ -62,9 +62,6 @@ module _ (D : Directories) (m : Frames) (R : Roles) (T : Tables D m R) (p d s t 
   none_in : table_in D m p s ≡ None
   none_in = ap (option_and_then (λ d. table_of m d s)) live ∙ none
 
-  own_directory : with_table m d s t d ≡ with_word_in (m d) s (link_word t)
-  own_directory = with_frame-same (with_frame m t (replicate 4096 0)) d (with_word_in (m d) s (link_word t))
-
   own_table : with_table m d s t t ≡ replicate 4096 0
   own_table = with_frame-other (with_frame m t (replicate 4096 0)) d t (with_word_in (m d) s (link_word t)) apart ∙ with_frame-same m t (replicate 4096 0)
 
@@ -75,20 +72,16 @@ module _ (D : Directories) (m : Frames) (R : Roles) (T : Tables D m R) (p d s t 
   not_t g r is n same = n (let k : R g ≡ R t = ap R same in let f = free in cc)
 
   dir_other : (q d' : ℕ) → D q ≡ Some d' → q ≢ p → with_table m d s t d' ≡ m d'
-  dir_other q d' is n =
-      let r = T.directory q d' is in
-      linked-other d' (λ same. n (let k : R d' ≡ R d = ap R same in let a = T.directory p d live in cc)) (not_t d' (Directory q) r (λ e. cc))
+  dir_other q d' is n = grind (arith, T.directory q d' is, linked-other, not_t)
 
   pub linked-own : table_in D (with_table m d s t) p s ≡ Some t
-  linked-own = grind (arith, own_directory, word_in_same, long_d, link_word-lt, word_table-link_word)
+  linked-own = grind (arith, word_in_same, long_d, link_word-lt, word_table-link_word)
 
   pub linked-others : (q r : ℕ) → (q ≡ p → r ≡ s → ⊥) → table_in D (with_table m d s t) q r ≡ table_in D m q r
-  linked-others q r n = grind (arith, cases_eq, dir_other, one_directory, own_directory, word_in_other, long_d)
+  linked-others q r n = grind (arith, cases_eq, dir_other, one_directory, word_in_other, long_d)
 
   pub kept_table : (q r f : ℕ) → table_in D m q r ≡ Some f → with_table m d s t f ≡ m f
-  kept_table q r f is =
-      let a = T.table q r f is in
-      linked-other f (λ same. let k : R f ≡ R d = ap R same in let b = T.directory p d live in cc) (not_t f (Table q r) a (λ e. cc))
+  kept_table q r f is = grind (arith, T.table q r f is, linked-other, not_t)
 
   pub linked-entry : (q : Slot) → entry_in D (with_table m d s t) q ≡ entry_in D m q
   linked-entry q = elim (here_or_not p s q.pid (slot_number q.page)) [
@@ -106,7 +99,7 @@ module _ (D : Directories) (m : Frames) (R : Roles) (T : Tables D m R) (p d s t 
   linked-entries = same_entries D m (with_table m d s t) linked-entry
 
   dir_word_kept : (q d' r : ℕ) → D q ≡ Some d' → (q ≡ p → r ≡ s → ⊥) → word_in (with_table m d s t d') r ≡ word_in (m d') r
-  dir_word_kept q d' r is n = grind (arith, cases_eq, one_directory, own_directory, word_in_other, long_d, dir_other)
+  dir_word_kept q d' r is n = grind (arith, cases_eq, one_directory, word_in_other, long_d, dir_other)
 
   pub tables-linked : (R' : Roles) → R' t ≡ Some (Table p s) → ((g : ℕ) → g ≢ t → R' g ≡ R g) → Tables D (with_table m d s t) R'
   tables-linked R' own others = record {
@@ -118,7 +111,7 @@ module _ (D : Directories) (m : Frames) (R : Roles) (T : Tables D m R) (p d s t 
     table = grind (arith, here_or_not, linked-own, linked-others, not_t);
     table_back = grind (arith, cases_eq, linked-own, linked-others, none_in);
     dir_words = λ q d' r is h. elim (here_or_not p s q r) [
-      | inl x ↦ grind (arith, one_directory, own_directory, word_in_same, long_d, link_word-lt, link_word-names, one_up)
+      | inl x ↦ grind (arith, one_directory, word_in_same, long_d, link_word-lt, link_word-names, one_up)
       | inr n ↦ subst IsKernelDirWord (sym (dir_word_kept q d' r is n)) (T.dir_words q d' r is h)
     ];
     outside = λ q d' r is h o. dir_word_kept q d' r is (λ a b. out r o b) ∙ T.outside q d' r is h o;
@@ -130,7 +123,7 @@ module _ (D : Directories) (m : Frames) (R : Roles) (T : Tables D m R) (p d s t 
       | inr n ↦ let old = sym (linked-others q r n) ∙ is in subst (λ w. IsKernelTableWord (word_in w i)) (sym (kept_table q r f old)) (T.table_words q r f i old h)
     ];
     long =
-        grind (arith, cases_eq, own_table, length-replicate, own_directory, length-with_word_in, long_d, linked-other);
+        grind (arith, cases_eq, own_table, length-replicate, length-with_word_in, long_d, linked-other);
   }
     where
       out : (r : ℕ) → (r < 256) ⊎ (960 ≤ r) → r ≡ s → ⊥
@@ -155,15 +148,8 @@ module _ (D : Directories) (m : Frames) (R : Roles) (T : Tables D m R) (p d s t 
   unlinked-own = grind (arith, own_dir, word_in_same, long_dir)
 
   word_elsewhere : (q d' r : ℕ) → D q ≡ Some d' → (q ≡ p → r ≡ s → ⊥) → word_in (without_table m d s d') r ≡ word_in (m d') r
-  word_elsewhere q d' r is n = elim (cases_eq d' d) [
-    | inl same ↦
-        let a = T.directory q d' is in
-        let b = T.directory p d live in
-        let k : R d' ≡ R d = ap R same in
-        let side : q ≡ p = cc in
-        ap (λ g. word_in (without_table m d s g) r) same ∙ ap (λ l. word_in l r) own_dir ∙ word_in_other (m d) s r 0 long_dir s_small (λ e. n side e) ∙ ap (λ g. word_in (m g) r) (sym same)
-    | inr differ ↦ ap (λ l. word_in l r) (gone_dir d' differ)
-  ]
+  word_elsewhere q d' r is n =
+      grind (arith, T.directory q d' is, T.directory p d live, cases_eq, own_dir, word_in_other, long_dir, gone_dir)
 
   pub unlinked-others : (q r : ℕ) → (q ≡ p → r ≡ s → ⊥) → table_in D (without_table m d s) q r ≡ table_in D m q r
   unlinked-others q r n = grind (arith, word_elsewhere)
@@ -182,10 +168,10 @@ module _ (D : Directories) (m : Frames) (R : Roles) (T : Tables D m R) (p d s t 
     table = grind (arith, here_or_not, unlinked-own, unlinked-others, there_in);
     table_back = grind (arith, unlinked-others, there_in);
     dir_words = λ q d' r is h. elim (here_or_not p s q r) [
-      | inl x ↦ grind (arith, one_directory, own_dir, word_in_same, long_dir)
+      | inl x ↦ grind (arith, own_dir, word_in_same, long_dir)
       | inr n ↦ subst IsKernelDirWord (sym (word_elsewhere q d' r is n)) (T.dir_words q d' r is h)
     ];
-    outside = grind (arith, here_or_not, one_directory, own_dir, word_in_same, long_dir, word_elsewhere);
+    outside = grind (arith, here_or_not, own_dir, word_in_same, long_dir, word_elsewhere);
     table_words = grind (arith, here_or_not, unlinked-own, unlinked-others, unlinked-table);
     long = grind (arith, cases_eq, own_dir, length-with_word_in, long_dir, gone_dir, there_in);
   }

@@ -2,7 +2,7 @@
 use Rattle.address_space.proofs.Prelude
 use Prelude.{arith, ◌≡◌, ℕ, false, List, refl, ap, sym, ◌∙◌, Option, Some, option_map, option_and_then, frame_number}
 use Prelude.{slot_number, frame_bytes, Role, PageEntry, entry_from, Slot, at_page, Image, directory_at, page_word}
-use Prelude.{image_from, directory_of, entries_in, IsSound, LooseStay, way_of, Gone, Spares, FramesStay, none_goes}
+use Prelude.{image_from, directory_of, entries_in, IsSound, LooseStay, way_of, Gone, FramesStay, none_goes}
 use Prelude.{entry_frame, PlacesStay}
 use Rattle.address_space.proofs.standing.Standing.{read_entry, same_table}
 
@@ -69,15 +69,11 @@ stays_same = grind arith
 pub stays_then : {gone : Gone} {a b c : Image} → FramesStay gone a b → FramesStay gone b c → FramesStay gone a c
 stays_then first second = grind arith
 
-spared_more : {gone gone' : Gone} {p : ℕ}
-    → ((slot : Slot) (frame : ℕ) → gone slot frame ≡ false → gone' slot frame ≡ false) → Spares gone p → Spares gone' p
-spared_more h = grind (arith, at_page)
-
 -- where fewer go
 pub stays_more : {gone gone' : Gone} {a b : Image}
     → ((slot : Slot) (frame : ℕ) → gone slot frame ≡ false → gone' slot frame ≡ false)
     → FramesStay gone' a b → FramesStay gone a b
-stays_more fewer stay = grind (arith, spared_more)
+stays_more fewer stay = grind arith
 
 pub stays_most : {gone : Gone} {a b : Image} → FramesStay none_goes a b → FramesStay gone a b
 stays_most stay = stays_more (λ q f stays. refl) stay

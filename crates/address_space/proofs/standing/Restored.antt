@@ -9,7 +9,7 @@ use Prelude.{count_range-same, Slot, slot_order, Cell, at_page, Entries, holders
 use Prelude.{StandsFor, image_from, directory_at, word_of, is_user_slot, named_by, table_at, page_word, page_frame}
 use Prelude.{CellStands, IsCount, own_frame, Directories, directory_of, table_in, entry_in, entries_in, spaces_in}
 use Prelude.{IsCounted, pages_by, Tables, HoldsPage, IsSound, InUse, IsSpaces, All, range_with_len, get_or_default}
-use Prelude.{HasRoom, words_by, words_where, counted_at}
+use Prelude.{HasRoom, words_by, counted_at}
 use Rattle.std.proofs.Common.{map as list_map}
 use Rattle.address_space.proofs.costs.CostSteps.{keys}
 use Rattle.address_space.proofs.costs.Weighed.{weighs}
@@ -179,6 +179,4 @@ module _ (directories : List (Option ℕ)) (bytes : List ℕ) (roles : List Role
 
   pub words_counted : (counts : List ℕ) → counts ≡ list_map (counted_at bytes roles) (range_with_len 0 (length roles)) → IsCounted (spaces_in directories bytes) roles counts
   unfolding spaces_in
-  words_counted counts is f =
-      ap (λ xs. slice_get xs f) is
-      ∙ all-words roles 0 (λ i r there. (let here : 0 + i ≡ i = omega arith in ap (counted_at bytes roles) here ∙ ap (words_where bytes i) there ∙ pages-words i r there)) f
+  words_counted counts is f = grind (arith, all-words, pages-words)

@@ -164,9 +164,7 @@ lazy_kept directories bytes bytes' roles sound sound' same slot =
     let old = lazy_slots directories bytes roles sound slot in
     let new = lazy_slots directories bytes' roles sound' slot in
     let is = ap (λ h. set.contains h slot) same in
-    same_truth (is_lazy_at (image_from directories bytes' roles) slot) (is_lazy_at (image_from directories bytes roles) slot)
-    (λ h. old.0 (subst IsTrue is (new.1 h)))
-    (λ h. new.0 (subst IsTrue (sym is) (old.1 h)))
+    grind (arith, same_truth)
 
 -- where no more slots name frame 0, a page that isn't lazy stays so
 pub real_kept : (directories : List (Option ℕ)) (bytes bytes' : List ℕ) (roles roles' : List Role) → IsSound directories bytes roles → IsSound directories bytes' roles'

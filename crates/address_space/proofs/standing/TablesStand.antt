@@ -2,7 +2,7 @@
 use Rattle.address_space.proofs.Prelude
 use Prelude.{◌≡◌, ℕ, ◌+◌, ◌*◌, ◌<◌, ◌≤◌, Bool, true, false, cond, List, [], ◌∷◌, length, drop, refl, ap, sym, ◌∙◌}
 use Prelude.{subst, arith, inl, inr, Option, Some, None, length-drop, ◌⊎◌, ◌↔◌, ◌&&◌, slice_get, slice_index, nat_lt}
-use Prelude.{nat_le, IsTrue, MatchBool, if◌then◌else◌, option_and_then, option_map, list_any, cases_lt, nat_tests}
+use Prelude.{nat_le, IsTrue, if◌then◌else◌, option_and_then, option_map, list_any, cases_lt, nat_tests}
 use Prelude.{slice_get_within, slot_number, index_number, frame_number, is_present, is_lazy, IsKernelTableWord}
 use Prelude.{NamesPage, same, same_or_not, same_itself, contains-insert, frame_bytes, word_at, word_in, Role, Directory}
 use Prelude.{Table, PageEntry, Frames, dir_word, entry_from, is_lazy_entry, Slot, slot_order, user_slots, Entries}
@@ -30,10 +30,6 @@ user_slot_is s low high = let a : nat_le 256 s ≡ true = grind (arith, nat_test
 
 pub not_user_slot : (s : ℕ) → is_user_slot s ≡ false → (s < 256) ⊎ (960 ≤ s)
 not_user_slot s h = grind (arith, cases_lt, user_slot_is)
-
--- what a table word says, where it is present
-entry_present : (word : ℕ) (b : Bool) → (if b then Some (entry_from word) else None) ≡ option_map entry_from (if b then Some word else None)
-entry_present word b = grind arith
 
 -- a present table word of a kernel is of a page
 present_names : (word : ℕ) → is_present word ≡ true → IsKernelTableWord word → NamesPage word
@@ -89,7 +85,7 @@ module _ (directories : List (Option ℕ)) (bytes : List ℕ) (roles : List Role
   table_small p s t is = let w = slice_get_within roles t (Table p s) (T.table p s t is) in grind (arith, nat_tests)
 
   pub same_entry : (slot : Slot) → entry_in D m slot ≡ option_map entry_from (page_word image slot)
-  same_entry slot = grind (arith, entry_by_table, same_table, entry_present, table_small)
+  same_entry slot = grind (arith, entry_by_table, same_table, table_small)
 
   -- a slot whose word is present is one of the user range
   user_page : (slot : Slot) (word : ℕ) → page_word image slot ≡ Some word → list_any (same slot_order slot) user_slots ≡ true
@@ -145,13 +141,7 @@ module _ (directories : List (Option ℕ)) (bytes : List ℕ) (roles : List Role
   alone slot other = grind (arith, same_or_not, contains-insert, same_itself)
 
   whole_group : (slot : Slot) (word : ℕ) → NamesPage word → (other : Slot) → IsTrue (set.contains (group_of E slot (frame_number word)) other) ↔ IsOneGroup image slot word other
-  whole_group slot word kernel other = by (is_lazy word) refl
-    where
-      by : (b : Bool) → is_lazy word ≡ b → IsTrue (set.contains (group_of E slot (frame_number word)) other) ↔ MatchBool b (other ≡ slot) (page_frame image other ≡ Some (frame_number word))
-      by true is = subst (λ g. IsTrue (set.contains g other) ↔ (other ≡ slot)) (sym (ap (group_of E slot) (kernel.zero is))) (alone slot other)
-      by false is =
-          let up = kernel.frame is in
-          subst (λ g. IsTrue (set.contains g other) ↔ (page_frame image other ≡ Some (frame_number word))) (sym (group-real E slot (frame_number word) (grind (arith, nat_tests)))) (group_is (frame_number word) other up)
+  whole_group slot word kernel other = grind (arith, alone, group-real, nat_tests, group_is)
 
   pub cell_stands : (slot : Slot) → SlotStands image slot (page_word image slot) (map.get (spaces_of E m) slot)
   cell_stands slot = grind (arith, get-spaces_of, read_entry, word_names, whole_group)

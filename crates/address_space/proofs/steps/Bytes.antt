@@ -133,9 +133,6 @@ number_in_two S p address behind size over long long' =
 write_at-cons : (x : ℕ) (xs : List ℕ) (at : ℕ) (new : List ℕ) → write_at (x ∷ xs) (suc at) new ≡ x ∷ write_at xs at new
 write_at-cons x xs at new = let e : suc at + length new ≡ suc (at + length new) = omega arith in ap (λ k. (x ∷ (take at xs ++ new)) ++ drop k (x ∷ xs)) e
 
-write_at-zero : (xs new : List ℕ) → write_at xs 0 new ≡ new ++ drop (length new) xs
-write_at-zero xs new = let e : 0 + length new ≡ length new = omega arith in ap (λ k. new ++ drop k xs) e
-
 no_more : (k : ℕ) → drop {A = ℕ} k [] ≡ []
 no_more k = grind arith
 
@@ -150,7 +147,7 @@ write_at-nothing xs at = let z : at + 0 ≡ at = omega arith in (λ i. append-ni
 -- bytes written behind others are written with them
 pub write_at-write_at : (xs : List ℕ) (at b : ℕ) (ys : List ℕ) → write_at (write_at xs at (b ∷ [])) (at + 1) ys ≡ write_at xs at (b ∷ ys)
 write_at-write_at [] at b ys = grind (arith, write_at-none, write_at-cons)
-write_at-write_at (x ∷ xs) zero b ys = grind (arith, write_at-zero, write_at-cons)
+write_at-write_at (x ∷ xs) zero b ys = grind (arith, write_at-cons)
 write_at-write_at (x ∷ xs) (suc at) b ys =
     let e : suc at + 1 ≡ suc (at + 1) = omega arith in
     ap (λ zs. write_at zs (suc at + 1) ys) (write_at-cons x xs at (b ∷ [])) ∙ ap (λ k. write_at (x ∷ write_at xs at (b ∷ [])) k ys) e
@@ -200,17 +197,11 @@ module _ (S : Spaces) (slot : Slot) where
 
   -- bytes stored behind one are stored with it
   pub stored-stored : (at b : ℕ) (ys : List ℕ) → stored (stored S slot at (b ∷ [])) slot (at + 1) ys ≡ stored S slot at (b ∷ ys)
-  stored-stored at b ys =
-      ap (λ (c : Cell). store_in (first (write_at cell.bytes at (b ∷ []))) slot c (write_at c.bytes (at + 1) ys)) (same_cell (write_at cell.bytes at (b ∷ [])))
-      ∙ ap (store_in (first (write_at cell.bytes at (b ∷ []))) slot (record cell { bytes = write_at cell.bytes at (b ∷ []); accessed = true; dirty = true })) (write_at-write_at cell.bytes at b ys)
-      ∙ twice (write_at cell.bytes at (b ∷ [])) (write_at cell.bytes at (b ∷ ys))
+  stored-stored at b ys = grind (arith, same_cell, write_at-write_at, twice)
 
   -- a store of no byte, and then one of some
   pub stored-none : (at : ℕ) (ys : List ℕ) → stored (stored S slot at []) slot at ys ≡ stored S slot at ys
-  stored-none at ys =
-      ap (λ (c : Cell). store_in (first (write_at cell.bytes at [])) slot c (write_at c.bytes at ys)) (same_cell (write_at cell.bytes at []))
-      ∙ ap (store_in (first (write_at cell.bytes at [])) slot (record cell { bytes = write_at cell.bytes at []; accessed = true; dirty = true })) (ap (λ xs. write_at xs at ys) (write_at-nothing cell.bytes at))
-      ∙ twice (write_at cell.bytes at []) (write_at cell.bytes at ys)
+  stored-none at ys = grind (arith, same_cell, write_at-nothing, twice)
 
   -- a store leaves both flags set
   pub stored-flags : (at : ℕ) (ys : List ℕ) → ((cell_or_fresh (stored S slot at ys) slot).accessed ≡ true) × ((cell_or_fresh (stored S slot at ys) slot).dirty ≡ true)
@@ -260,14 +251,7 @@ length-bytes (suc k) v = ap suc (length-bytes k (v / 256))
 pub stored_in_page : (S : Spaces) (p address : ℕ) (size : Size) (value : ℕ) → second_page address size ≡ None
     → all_stored S p address (bytes_of (byte_count size) value) ≡ stored S (slot_at p address) (offset_number address) (bytes_of (byte_count size) value)
 stored_in_page S p address size value within =
-    let fits = stays address size within in
-    let n = some_bytes size in
-    let count = n.1 in
-    ap (λ k. all_stored S p address (bytes_of k value)) count
-    ∙ stored_in S p (page_number address) address (offset_number address) (value % 256) (bytes_of n.0 (value / 256))
-    (λ i l. let long = length-bytes n.0 (value / 256) in page_stays address i (omega (arith, fits, l, count, long)))
-    (λ i l. let long = length-bytes n.0 (value / 256) in let s : offset_number address + i < 4096 = omega (arith, fits, l, count, long) in omega (arith, s))
-    ∙ sym (ap (λ k. stored S (slot_at p address) (offset_number address) (bytes_of k value)) count)
+    grind (arith, stays address size within, some_bytes size, (some_bytes size).1, stored_in, length-bytes, page_stays)
 
 -- ---- Bytes that lie in two pages
 
@@ -280,17 +264,12 @@ part_stored S p a (b ∷ bs) some fits = grind (arith, stored_in, page_stays)
 all_append : (S : Spaces) (p a : ℕ) (xs ys : List ℕ) → all_stored S p a (xs ++ ys) ≡ all_stored (all_stored S p a xs) p (a + length xs) ys
 all_append S p a [] ys = let z : a ≡ a + zero = omega arith in ap (λ n. all_stored S p n ys) z
 all_append S p a (x ∷ xs) ys =
-    let z : a + 1 + length xs ≡ a + suc (length xs) = omega arith in
-    all_append (stored S (slot_at p a) (offset_number a) (x ∷ [])) p (a + 1) xs ys
-    ∙ ap (λ n. all_stored (all_stored (stored S (slot_at p a) (offset_number a) (x ∷ [])) p (a + 1) xs) p n ys) z
+    grind (arith, all_append (stored S (slot_at p a) (offset_number a) (x ∷ [])) p (a + 1) xs ys)
 
 -- those at the end of a page, and those at the start of the next
 pub stored_two : (S : Spaces) (p a : ℕ) (xs ys : List ℕ) → 1 ≤ length xs → 1 ≤ length ys → offset_number a + length xs ≡ 4096 → length ys ≤ 4096
     → all_stored S p a (xs ++ ys) ≡ stored (stored S (slot_at p a) (offset_number a) xs) (slot_at p (a + length xs)) (offset_number (a + length xs)) ys
-stored_two S p a xs ys some more ends fits =
-    all_append S p a xs ys
-    ∙ ap (λ T. all_stored T p (a + length xs) ys) (part_stored S p a xs some (omega (arith, ends)))
-    ∙ part_stored (stored S (slot_at p a) (offset_number a) xs) p (a + length xs) ys more (omega (arith, ends, fits))
+stored_two S p a xs ys some more ends fits = grind (arith, all_append, part_stored)
 
 -- ---- The parts of a number's bytes
 

@@ -93,20 +93,7 @@ lazy_copied directories bytes two roles from source p d page t e sound home live
     let more = lazy-more E slot (copied_entry e e.frame) none zero in
     entry_copied directories bytes bytes two roles roles from source p d page t e.frame e sound home live low high unmapped there here
     (record {
-      ready = record {
-        size = refl;
-        length = refl;
-        small = omega (arith, zero);
-        tables = sound.tables;
-        pages = pages-lazy E (slice_get roles) slot (copied_entry e e.frame) sound.pages none zero sound.tables.zero_role;
-        entries = refl;
-        table = refl;
-        rules = record { frame = rules.frame; zero = rules.zero; clean = λ h. refl; right = rules.right; touched = λ h. cc };
-        kept = λ q x found. refl;
-        weight = omega (arith, more);
-        used = λ q r u. u;
-        linked = λ q r. refl;
-      };
+      ready = grind (arith, pages-lazy);
       copy = refl;
       alone = alone_lazy (map.insert E slot (copied_entry e e.frame)) slot e.frame zero;
       apart = λ q x found real. ap (λ n. n == x.frame) zero ∙ nat_eq_equiv.symm 0 x.frame ∙ real;
@@ -229,9 +216,7 @@ put_other m slot x q n = get-insert m slot x q ∙ ap (λ b. cond b (Some x) (ma
 -- a slot that isn't mapped has no entry
 no_entry : (directories : List (Option ℕ)) (bytes : List ℕ) (q : Slot) → map.get (spaces_in directories bytes) q ≡ None → map.get (entries_in (directory_of directories) (frame_bytes bytes)) q ≡ None
 unfolding spaces_in
-no_entry directories bytes q none =
-    let E : Entries = entries_in (directory_of directories) (frame_bytes bytes) in
-    none_before E (frame_bytes bytes) q (map.get E q) (sym (get-spaces_of E (frame_bytes bytes) q) ∙ none)
+no_entry directories bytes q none = grind (arith, none_before, get-spaces_of)
 
 pub copied_at_first : (directories : List (Option ℕ)) (bytes : List ℕ) (roles : List Role) (from to : ℕ) → IsSpaces directories bytes roles → IsEmptySpace (spaces_in directories bytes) to → CopiedBelow directories from to 0x40000 bytes roles bytes roles
 copied_at_first directories bytes roles from to s empty = record {

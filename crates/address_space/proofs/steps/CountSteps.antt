@@ -20,11 +20,8 @@ use Rattle.page_words.specs.FiniteMap as map
 
 -- ---- What is mapped stays, or the roles do
 
-same_region : (S T : Spaces) → ((q : Slot) → map.contains_key T q ≡ map.contains_key S q) → (p s : ℕ) → region_pages T p s ≡ region_pages S p s
-same_region S T is p s = count_range-same (λ page. map.contains_key T (at_page p page)) (λ page. map.contains_key S (at_page p page)) (1024 * s) (1024 * s) 1024 (λ i l. is (at_page p (1024 * s + i)))
-
 same_pages_by : (S T : Spaces) → ((q : Slot) → map.contains_key T q ≡ map.contains_key S q) → (r : Role) → pages_by T r ≡ pages_by S r
-same_pages_by S T is r = grind (arith, same_region)
+same_pages_by S T is r = grind arith
 
 map_alike : (S T : Spaces) (x : Option Role) → ((r : Role) → x ≡ Some r → pages_by T r ≡ pages_by S r) → option_map (pages_by T) x ≡ option_map (pages_by S) x
 map_alike S T x is = grind arith
@@ -95,12 +92,9 @@ module _ (S T : Spaces) (directories : List (Option ℕ)) (bytes : List ℕ) (ro
   pub table_count : slice_get counts t ≡ Some (region_pages S p s)
   table_count = C t ∙ ap (option_map (pages_by S)) role_t
 
-  other_role : (f : ℕ) → f ≢ t → ((q r : ℕ) → (q ≡ p → r ≡ s → ⊥) → region_pages T q r ≡ region_pages S q r) → (r : Role) → slice_get roles f ≡ Some r → pages_by T r ≡ pages_by S r
-  other_role f n others r is = grind arith
-
   pub counted_set : k ≡ region_pages T p s → ((q r : ℕ) → (q ≡ p → r ≡ s → ⊥) → region_pages T q r ≡ region_pages S q r) → IsCounted T roles (slice_set counts t k)
   counted_set is others f =
-      grind (arith, cases_eq, get-set_same, slice_get_within, table_count, role_t, get-set_other, map_alike, other_role)
+      grind (arith, cases_eq, get-set_same, slice_get_within, table_count, role_t, get-set_other, map_alike)
 
 -- ---- The pages of a region by their entries
 

@@ -4,7 +4,7 @@ use Prelude.{◌≡◌, ◌≢◌, ℕ, ◌+◌, ◌*◌, ◌<◌, ◌≤◌, Bo
 use Prelude.{arith, inl, inr, Option, Some, None, length-set, ◌&&◌, ◌⊎◌, is_some, slice_get, slice_set, if◌then◌else◌}
 use Prelude.{option_and_then, option_map, unwrap_or, list_any, cases_eq, cases_lt, slot_number, index_number, same, Set}
 use Prelude.{same_or_not, same_itself, same_map, same_set, get-map_values, get-retain_keys, contains-retain}
-use Prelude.{get-collect, frame_bytes, word_in, Role, Free, Directory, Table, frames_weight, weight, IsReleased}
+use Prelude.{get-collect, frame_bytes, word_in, Role, Free, Directory, frames_weight, weight, IsReleased}
 use Prelude.{released, weight-set, get-set_same, get-set_other, Frames, word_entry, table_of, entry_at, Slot}
 use Prelude.{slot_order, Cell, Spaces, cost, need, pages_of, regions_of, without, with_holders, is_slot, at_page, is_of}
 use Prelude.{user_slots, Entries, lazy_count, spaces_of, View, Directories, Roles, directory_of, table_in, entry_in}
@@ -64,9 +64,6 @@ without-without S first all among = same_map _ _ (λ q. get-without (without S f
 -- a slot is of its own process
 pub slot_of_process : (p page : ℕ) (q : Slot) → is_of p q ≡ false → is_slot p page q ≡ false
 slot_of_process p page q other = grind (arith, same_or_not, eq-eqb)
-
-nothing_if : (b : Bool) (f : Cell → Cell) (x : Option Cell) → x ≡ None → cond b (option_map f x) None ≡ None
-nothing_if b f x h = grind arith
 
 -- where no slot of a process is mapped, nothing leaves with it
 pub nothing_leaves : (directories : List (Option ℕ)) (bytes : List ℕ) (p : ℕ) → IsEmptySpace (spaces_in directories bytes) p → without (spaces_in directories bytes) (is_of p) ≡ spaces_in directories bytes
@@ -166,7 +163,7 @@ dropped_next v one two p page so_far high spaces stay loose directories long =
       spaces = ap (λ x. without x (is_of p)) spaces ∙ without-without one.spaces (is_slot p page) (is_of p) (slot_of_process p page) ∙ so_far.spaces;
       stay = stays_then so_far.stay (stays_more (λ q f stays. slot_of_process p page q stays) stay);
       loose = loose_then so_far.loose loose;
-      below = grind (arith, get-without, cases_eq, same_itself, nothing_if);
+      below = grind (arith, get-without, cases_eq, same_itself);
       length = long ∙ so_far.length;
       low = omega arith;
       high = omega arith;
@@ -234,27 +231,12 @@ module _ (D D' : Directories) (m : Frames) (R R' : Roles) (T : Tables D m R) (p 
   stays : (g : ℕ) (r : Role) → R g ≡ Some r → (r ≡ Directory p → ⊥) → R' g ≡ Some r
   stays g r is n = roles g (λ same_frame. n (let k : R g ≡ R d = ap R same_frame in let w = was in cc)) ∙ is
 
-  stayed : (g : ℕ) (r : Role) → R' g ≡ Some r → (r ≡ Free → ⊥) → (R g ≡ Some r) × (g ≢ d)
-  stayed g r is n = let apart : g ≢ d = (λ same_frame. n (let k : R' g ≡ R' d = ap R' same_frame in let f = role in cc)) in (sym (roles g apart) ∙ is, apart)
-
   -- a process that has a directory still is another one
   another : (q f : ℕ) → D' q ≡ Some f → q ≢ p
   another q f is same_pid = let k : D' q ≡ D' p = ap D' same_pid in let n = none in cc
 
   tables-without : Tables D' m R'
-  tables-without = record {
-    zero_role = stays 0 _ T.zero_role (λ e. cc);
-    zero_bytes = T.zero_bytes;
-    reserved = λ g is. T.reserved g (stayed g _ is (λ e. cc)).0;
-    directory = λ q f is. let n = another q f is in stays f (Directory q) (T.directory q f (sym (others q n) ∙ is)) (λ e. n cc);
-    directory_back = grind (arith, stayed);
-    table = λ q s t is. stays t (Table q s) (T.table q s t (sym (kept_tables q s) ∙ is)) (λ e. cc);
-    table_back = λ q s t is. kept_tables q s ∙ T.table_back q s t (stayed t (Table q s) is (λ e. cc)).0;
-    dir_words = λ q f s is l. T.dir_words q f s (sym (others q (another q f is)) ∙ is) l;
-    outside = λ q f s is l out. T.outside q f s (sym (others q (another q f is)) ∙ is) l out;
-    table_words = λ q s t i is l. T.table_words q s t i (sym (kept_tables q s) ∙ is) l;
-    long = grind (arith, cases_eq, was);
-  }
+  tables-without = grind (arith, stays, another, kept_tables, cases_eq, was)
 
 same_spaces : (directories directories' : List (Option ℕ)) (bytes : List ℕ) → entries_in (directory_of directories') (frame_bytes bytes) ≡ entries_in (directory_of directories) (frame_bytes bytes) → spaces_in directories' bytes ≡ spaces_in directories bytes
 unfolding spaces_in

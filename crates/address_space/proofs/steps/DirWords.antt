@@ -44,19 +44,13 @@ flagged_names w b lt k = record {
 -- a word with accessed set or cleared is like it, where it is present
 pub flagged_alike : (w : ℕ) (b : Bool) → w < 2 ^ 32 → is_present w ≡ true → Alike w (with_flag w 5 b)
 flagged_alike w b lt present =
-    let f : frame_number (with_flag w 5 b) ≡ frame_number w = frame-with_flag w 5 b lt (with_flag_lt w 5 b lt (omega arith)) (omega arith) in
-    let p : is_present (with_flag w 5 b) ≡ is_present w = flag-with_flag_other w 5 0 b (omega arith) (omega arith) (omega arith) in
-    record {
-      table = λ i. if p i then Some (f i) else None;
-      kernel = by;
-      zero = λ z. absurd (none z);
-    }
-  where
-    none : w ≡ 0 → ⊥
-    none z = let c : is_present 0 ≡ true = sym (ap is_present z) ∙ present in cc
-
-    by : IsKernelDirWord w → IsKernelDirWord (with_flag w 5 b)
-    by h = grind (arith, none, flagged_names)
+    grind (
+      arith,
+      flag-with_flag_other w 5 0 b (omega arith) (omega arith) (omega arith),
+      frame-with_flag,
+      with_flag_lt,
+      flagged_names,
+    )
 
 -- and so it is where nothing is done to a word that isn't present
 pub walked_alike : (w : ℕ) (b : Bool) → w < 2 ^ 32 → Alike w (walked_word b w)

@@ -1,11 +1,11 @@
 -- What walks that find a frame for each page of an access find at each of its bytes.
 use Rattle.address_space.proofs.Prelude
 use Prelude.{◌≡◌, ℕ, zero, suc, ◌+◌, ◌^◌, ◌<◌, true, List, ◌∷◌, refl, ap, sym, ◌∙◌, subst, arith, Option, Some, None}
-use Prelude.{is_some, IfSome, IsOk, slice_index, option_map, option_and_then, unwrap_or, range_with_len, and_parts}
+use Prelude.{is_some, IfSome, IsOk, slice_index, option_map, unwrap_or, range_with_len, and_parts}
 use Prelude.{IsUserPage, page_number, start_number, byte_count, covered, second_page, EachTouched, Size, some_bytes}
-use Prelude.{frame_bytes, Role, Access, Read, Write, walk_of, Image, directory_at, takes_stores, image_from, Spaces}
-use Prelude.{at_page, byte_at, number_of, value_of, slot_at, directory_of, spaces_in, IsSound, takes_stores_through}
-use Prelude.{entry_at, finds_at, finds, byte_place, number_found}
+use Prelude.{Role, Access, Read, Write, walk_of, Image, directory_at, takes_stores, image_from, Spaces}
+use Prelude.{at_page, byte_at, number_of, value_of, slot_at, directory_of, spaces_in, IsSound}
+use Prelude.{finds_at, finds, byte_place, number_found}
 use Rattle.std.proofs.Common.{map as each}
 use Rattle.address_space.proofs.entries.Readings.{mapped_read}
 use Rattle.address_space.proofs.standing.Standing.{stores_read}
@@ -85,13 +85,7 @@ found_each directories bytes roles p d address size access sound live h =
 
 -- and its addresses have 32 bits
 pub found_fits : (bytes : List ℕ) (d address : ℕ) (size : Size) (access : Access) → FoundEach bytes d address size access → address + byte_count size < 2 ^ 32
-found_fits bytes d address size access each =
-    let n = some_bytes size in
-    let count = n.1 in
-    let few = n.2 in
-    let u = each.user 0 (omega (arith, count)) in
-    let high = u.1 in
-    omega (arith, count, few, high)
+found_fits bytes d address size access each = grind (arith, some_bytes)
 
 -- the walk of each byte finds a frame, and its addresses have 32 bits
 pub record FindsEach (image : Image) (p address : ℕ) (size : Size) (access : Access) : Type 0 where
@@ -144,9 +138,7 @@ found_takes : (directories : List (Option ℕ)) (bytes : List ℕ) (roles : List
     → address < 2 ^ 32 → IsOk (walk_of bytes d address Write) → takes_stores (spaces_in directories bytes) (image_from directories bytes roles) (slot_at p address) ≡ true
 found_takes directories bytes roles p d address sound live small ok =
     let f = found_entry directories bytes roles p d sound live address Write small ok in
-    sym (stores_read directories bytes roles p (page_number address) sound f.low f.high)
-    ∙ ap takes_stores_through (ap (option_and_then (λ d. entry_at (frame_bytes bytes) d (page_number address))) live ∙ f.here)
-    ∙ f.right refl
+    grind (arith, stores_read)
 
 pub found_pages : (directories : List (Option ℕ)) (bytes : List ℕ) (roles : List Role) (p d address : ℕ) (size : Size) (access : Access) → IsSound directories bytes roles → directory_of directories p ≡ Some d
     → finds (image_from directories bytes roles) p address size access ≡ true
@@ -168,10 +160,7 @@ found_pages directories bytes roles p d address size access sound live h =
     parts = and_parts (finds_at image p access address) _ h
 
     each : (P : ℕ → Type 0) → ((a : ℕ) → finds_at image p access a ≡ true → P (page_number a)) → EachTouched address size P
-    each P at = (at address parts.0, by (second_page address size) parts.1)
-      where
-        by : (x : Option ℕ) → unwrap_or (option_map (λ page. finds_at image p access (start_number page)) x) true ≡ true → IfSome x P
-        by x is = grind arith
+    each P at = grind arith
 
 -- each page of a store takes stores
 pub finds_takes : (directories : List (Option ℕ)) (bytes : List ℕ) (roles : List Role) (p address : ℕ) (size : Size) → IsSound directories bytes roles

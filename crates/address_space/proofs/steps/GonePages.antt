@@ -3,7 +3,7 @@ use Rattle.address_space.proofs.Prelude
 use Prelude.{◌≡◌, ℕ, ◌-◌, ◌*◌, ◌<◌, ◌≤◌, true, false, List, length, refl, ap, sym, ◌∙◌, subst, Option, Some, is_some}
 use Prelude.{slice_get, slice_set, slot_number, IsUserPage, frame_bytes, Role, Page, IsInUse, get-set_same, table_of}
 use Prelude.{entry_at, IsCleared, count_range, Found, directory_of, spaces_in, IsCounted, AreCountedSpaces, EntryLeft}
-use Prelude.{TableFreed, SlotRemoved}
+use Prelude.{TableFreed, SlotRemoved, arith}
 use Rattle.address_space.specs.declared.Spaces.TheInside.{Inside as Inner}
 use Rattle.address_space.proofs.Insides.{AreCountedInside, found_at}
 use Rattle.address_space.proofs.steps.CountSteps.{one_less, counted_roles, alike_left, counted_freed, table_freed}
@@ -18,11 +18,7 @@ record AtHome (bytes : List ℕ) (d page : ℕ) (f : Found) : Type 0 where
 
 module _ (inner : Inner) (p d page : ℕ) (f : Found) (before : AreCountedInside inner) (user : IsUserPage page) (is : found_at inner p page ≡ Some f) (live : directory_of inner.directories p ≡ Some d) where
   at_home : AtHome inner.memory d page f
-  at_home =
-      let known = found_known inner p page f before user is in
-      let e : Some known.directory ≡ Some d = sym known.live ∙ live in
-      let same : known.directory ≡ d = cc in
-      subst (λ x. AtHome inner.memory x page f) same (record { table = known.table; here = known.here })
+  at_home = grind (arith, found_known)
 
   pub home_table : table_of (frame_bytes inner.memory) d (slot_number page) ≡ Some f.table
   home_table = at_home.table

@@ -30,11 +30,7 @@ room_to_fill directories bytes roles p d page e s live low high is lazy =
     let there = get_user (directory_of directories) (frame_bytes bytes) p d page e live (live_small directories p d s.sound.pids live) low high is in
     let zero = (entry_rules directories bytes roles p d page e s.sound live is).zero lazy in
     let less = (holders-less E (at_page p page) e there).0 in
-    let x : set.len (holders_of E e.frame) ≡ lazy_count E = ap (λ g. set.len (holders_of E g)) zero in
-    let w = s.weighs in
-    let i = s.within in
-    let l = free_where_light directories bytes roles s.sound in
-    omega (arith, less, x, w, i, l)
+    grind (arith, free_where_light)
 
 -- a lazy page got a frame of zeros: the spaces stay, and so do the costs
 pub page_filled : (directories : List (Option ℕ)) (bytes one two : List ℕ) (roles roles' : List Role) (p d page f : ℕ) (e : PageEntry) → IsSpaces directories bytes roles → directory_of directories p ≡ Some d

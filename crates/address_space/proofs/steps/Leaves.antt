@@ -271,12 +271,7 @@ slot_removed directories bytes two roles one last p d page e freed spaces live l
     record {
       length = same_length;
       stay = gone.stay;
-      after = record {
-        sound = sound_by directories bytes two roles last _ _ sound same_bytes_length same_length refl gone.tables gone.entries gone.pages;
-        in_use = gone.in_use;
-        weighs = omega (arith, old, cost, fits, total, lazy);
-        within = omega (arith, within, cost, total, same_length);
-      };
+      after = grind (arith, sound_by);
       spaces = ap (λ x. spaces_of x m2) gone.entries ∙ same_bytes E' m m2 gone.kept ∙ leave_refines E m (is_slot p page);
     }
 

@@ -1,6 +1,6 @@
 -- Frames of pages and free ones, where a page leaves or a frame is released.
 use Rattle.address_space.proofs.Prelude
-use Prelude.{◌≡◌, ◌≢◌, ◌-◌, ℕ, Bool, List, refl, ap, sym, ◌∙◌, subst, inl, inr, Option, Some, None, arith, ◌⊎◌}
+use Prelude.{◌≡◌, ◌≢◌, ℕ, Bool, List, refl, ap, sym, ◌∙◌, subst, inl, inr, Option, Some, None, arith, ◌⊎◌}
 use Prelude.{slice_get, option_and_then, cases_eq, slice_get_within, slot_number, frame_number, frame_bytes}
 use Prelude.{with_frame-other, Role, Free, Directory, Table, Page, IsReleased, released, get-set_same, get-set_other}
 use Prelude.{PageEntry, Frames, IsCleared, dir_word, table_of, image_from, LooseStay, IsSound, directory_of, EntryLeft}
@@ -16,10 +16,7 @@ loose_role r h = grind arith
 
 -- one frame is released
 release : (roles new : List Role) (g f : ℕ) → IsReleased roles g new → Loose (slice_get roles f) → Loose (slice_get new f)
-release roles new g f r loose = elim (cases_eq f g) [
-  | inl same ↦ grind (arith, slice_get_within, get-set_same, loose_role)
-  | inr differ ↦ subst Loose (sym (ap (λ l. slice_get l f) r.now ∙ get-set_other roles g f (released r.role) differ)) loose
-]
+release roles new g f r loose = grind (arith, cases_eq, slice_get_within, get-set_same, loose_role, get-set_other)
 
 pub loose_released : (directories later : List (Option ℕ)) (bytes : List ℕ) (roles new : List Role) (g : ℕ) → IsReleased roles g new
     → LooseStay (image_from directories bytes roles) (image_from later bytes new)

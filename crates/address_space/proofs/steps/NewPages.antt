@@ -81,17 +81,7 @@ table_stays : (directories : List (Option ℕ)) (bytes : List ℕ) (roles : List
     → TableGiven directories p s bytes roles bytes roles
 table_stays directories bytes roles p d s t sound live there =
     let named : table_in (directory_of directories) (frame_bytes bytes) p s ≡ Some t = ap (option_and_then (λ x. table_of (frame_bytes bytes) x s)) live ∙ there in
-    let n : table_need (table_in (directory_of directories) (frame_bytes bytes) p s) ≡ 0 = ap table_need named in
-    record {
-      sound = sound;
-      entries = refl;
-      spaces = refl;
-      table = (t, named);
-      tables = λ q r g found. found;
-      weight = omega (arith, n);
-      length = refl;
-      others = λ q r apart used. used;
-    }
+    grind arith
 
 -- what is known once a page's table is there
 record Ready (directories : List (Option ℕ)) (bytes : List ℕ) (roles : List Role) (p d page t : ℕ) (one : List ℕ) (roles1 : List Role) : Type 0 where
@@ -180,11 +170,7 @@ module _ (directories : List (Option ℕ)) (bytes : List ℕ) (roles : List Role
 
     -- the copy of another process's page
     pub ready_long : length one ≡ length bytes
-    ready_long = by linked
-      where
-        by : TableReady bytes roles p d (slot_number page) t one roles1 → length one ≡ length bytes
-        by (inl s) = ap length s.same_bytes
-        by (inr n) = n.long
+    ready_long = grind arith
 
     pub ready_lies : (f : ℕ) → Inside bytes f → Inside one f
     ready_lies f lies = record { fits = subst (λ n. 4096 * f + 4096 ≤ n) (sym ready_long) lies.fits; small = lies.small }
@@ -226,9 +212,7 @@ module _ (directories : List (Option ℕ)) (bytes : List ℕ) (roles : List Role
 
       -- the table that was given leads to the copy
       pub copy_linked : SlotCopied directories from p page one roles1 two roles2 → table_of (frame_bytes two) d (slot_number page) ≡ Some t
-      copy_linked added =
-          sym (ap (option_and_then (λ x. table_of (frame_bytes two) x (slot_number page))) live)
-          ∙ added.linked p (slot_number page) ∙ ap (option_and_then (λ x. table_of (frame_bytes one) x (slot_number page))) live ∙ ready_table
+      copy_linked added = grind (arith, ready_table)
 
       pub copy_whole : Room directories (spaces_in directories bytes) roles p page → SlotCopied directories from p page one roles1 two roles2 → PageCopied directories from p page bytes roles two roles2
       copy_whole room added = page_copied directories bytes one two roles roles1 roles2 from source p page before home user.0 user.1 room ready_given added

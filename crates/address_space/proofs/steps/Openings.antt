@@ -49,11 +49,8 @@ module _ (D D' : Directories) (m : Frames) (R R' : Roles) (T : Tables D m R) (p 
   no_table_own : (s : ℕ) → table_in D' m p s ≡ None
   no_table_own s = ap (option_and_then (λ d. table_of m d s)) own ∙ zeros_name_nothing m f s blank
 
-  no_table_before : (s : ℕ) → table_in D m p s ≡ None
-  no_table_before s = ap (option_and_then (λ d. table_of m d s)) none
-
   same_tables : (q s : ℕ) → table_in D' m q s ≡ table_in D m q s
-  same_tables q s = grind (arith, cases_eq, no_table_own, no_table_before)
+  same_tables q s = grind (arith, cases_eq, no_table_own)
 
   same_entry : (q : Slot) → entry_in D' m q ≡ entry_in D m q
   same_entry q = entry_by_table D' m q ∙ ap (option_and_then (λ table. word_entry (word_in (m table) (index_number q.page)))) (same_tables q.pid (slot_number q.page)) ∙ sym (entry_by_table D m q)
@@ -202,11 +199,7 @@ blank_length n = length-replicate {A = ℕ} (4096 * n) 0
 
 nothing_costs : (D : Directories) (S : Spaces) (a n : ℕ) → ((p : ℕ) → D p ≡ None) → sum_by (live_cost D S) (range_with_len a n) ≡ 0
 nothing_costs D S a zero none = refl
-nothing_costs D S a (suc n) none =
-    let s = sum_by-cons (live_cost D S) a (range_with_len (a + 1) n) in
-    let h : live_cost D S a ≡ 0 = ap (λ x. if is_some x then cost S a else 0) (none a) in
-    let r = nothing_costs D S (a + 1) n none in
-    omega (arith, s, h, r)
+nothing_costs D S a (suc n) none = grind (arith, sum_by-cons, nothing_costs D S (a + 1) n none)
 
 pub opening_cost : (S : Spaces) → total_cost (replicate 64 None) S ≡ 0
 unfolding total_cost
@@ -259,9 +252,7 @@ opening_is_sound n low high =
 -- a process without a directory has nothing mapped
 pub no_cell : (directories : List (Option ℕ)) (bytes : List ℕ) (p page : ℕ) → directory_of directories p ≡ None → map.get (spaces_in directories bytes) (at_page p page) ≡ None
 unfolding spaces_in
-no_cell directories bytes p page none =
-    get-spaces_of (entries_in (directory_of directories) (frame_bytes bytes)) (frame_bytes bytes) (at_page p page)
-    ∙ ap (option_map (cell_of (entries_in (directory_of directories) (frame_bytes bytes)) (frame_bytes bytes) (at_page p page))) (no_pages (directory_of directories) (frame_bytes bytes) p page none)
+no_cell directories bytes p page none = grind (arith, get-spaces_of, no_pages)
 
 -- one process costs no more than all together
 pub cost_within : (directories : List (Option ℕ)) (S : Spaces) (p : ℕ) → length directories ≡ 64 → is_some (directory_of directories p) ≡ true → cost S p ≤ total_cost directories S

@@ -1,23 +1,20 @@
 -- What the place of a page says.
 use Rattle.address_space.proofs.Prelude
 use Prelude.{arith, ◌≡◌, ℕ, List, refl, ap, sym, ◌∙◌, Option, Some, None, subst, true, is_some, option_and_then}
-use Prelude.{option_map, slot_number, index_number, IsUserPage, frame_bytes, word_in, Frames, table_of, word_entry}
-use Prelude.{PageEntry, Found, takes_stores_through, need, at_page, directory_of, table_in, View, place_there, place_by}
-use Prelude.{place_in, found_of, table_of_place, need_of, PlacesTell, entry_flags, cell_flags, Place, found_by}
+use Prelude.{option_map, slot_number, IsUserPage, frame_bytes, Frames, table_of}
+use Prelude.{Found, takes_stores_through, need, at_page, directory_of, View, place_there, place_by}
+use Prelude.{place_in, found_of, table_of_place, need_of, PlacesTell, entry_flags, cell_flags, Place}
 use Prelude.{found_in, entry_found}
 use Rattle.address_space.specs.declared.Spaces.TheInside.{Inside as Inner}
-use Rattle.address_space.specs.declared.place.Place.TheVariants.{Bare, Open, Mapped}
+use Rattle.address_space.specs.declared.place.Place.TheVariants.{Mapped}
 use Rattle.address_space.proofs.Insides.{AreCountedInside, spaces_at, image_at, table_at, found_at, view_of}
 use Rattle.address_space.proofs.steps.FoundPages.{absent_cell, need_without, need_with, found_mapped, found_takes}
 use Rattle.address_space.proofs.steps.FoundPages.{found_lazy, found_get}
 use Rattle.page_words.specs.FiniteMap as map
 
-there_found : (t : ℕ) (x : Option Found) → found_of (place_there t x) ≡ x
-there_found t x = grind arith
-
 -- what was found at a place is what is found by the page
 pub place_found : (inner : Inner) (p page : ℕ) → found_of (place_in inner.directories inner.memory p page) ≡ found_at inner p page
-place_found inner p page = grind (arith, table_at, frame_bytes, found_of, place_by, option_and_then, there_found)
+place_found inner p page = grind (arith, table_at, frame_bytes, found_of, place_by, option_and_then)
 
 there_need : (t : ℕ) (x : Option Found) → need_of (place_there t x) ≡ 1
 there_need t x = grind arith
@@ -45,32 +42,17 @@ places_tell inner before = record {
   need = λ p page user. place_need inner p page before user;
 }
 
-there_table : (m : Frames) (page t : ℕ) (x : Option PageEntry) → table_of_place (place_there t (option_map (λ e. record { page = page; table = t; entry = e }) x)) ≡ Some t
-there_table m page t x = grind arith
-
-by_table : (m : Frames) (page : ℕ) (x : Option ℕ) → table_of_place (place_by m page x) ≡ x
-by_table m page x = grind (arith, there_table, word_entry, word_in, index_number)
-
 -- the table of a place is that which the directory has
 pub place_table : (directories : List (Option ℕ)) (bytes : List ℕ) (p d page : ℕ) → directory_of directories p ≡ Some d
     → table_of_place (place_in directories bytes p page) ≡ table_of (frame_bytes bytes) d (slot_number page)
-place_table directories bytes p d page live =
-    grind (arith, by_table, frame_bytes, table_in, directory_of, slot_number, option_and_then, table_of)
-
-there_mapped : (t : ℕ) (x : Option Found) (f : Found) → x ≡ Some f → place_there t x ≡ Mapped f
-there_mapped t x f h = grind (arith, place_there)
+place_table directories bytes p d page live = grind arith
 
 -- what is found at a page is its place
 pub place_mapped : (directories : List (Option ℕ)) (bytes : List ℕ) (p page : ℕ) (f : Found) → found_in (directory_of directories) (frame_bytes bytes) p page ≡ Some f → place_in directories bytes p page ≡ Mapped f
-place_mapped directories bytes p page f h = by (table_in (directory_of directories) (frame_bytes bytes) p (slot_number page)) h
-  where
-    by : (x : Option ℕ) → option_and_then (found_by (frame_bytes bytes) page) x ≡ Some f → place_by (frame_bytes bytes) page x ≡ Mapped f
-    by x h = grind (arith, there_mapped)
+place_mapped directories bytes p page f h = grind arith
 
 found_there : (q : Place) (f : Found) → found_of q ≡ Some f → Mapped f ≡ q
-found_there (Mapped g) f is = cc
-found_there Bare f is = cc
-found_there (Open t) f is = cc
+found_there q f is = grind arith
 
 -- a page that was found is mapped, and this is its place
 pub found_placed : (v : View) (inner : Inner) (p page : ℕ) (f : Found) → AreCountedInside inner → view_of inner ≡ v → IsUserPage page

@@ -168,9 +168,7 @@ module _ {directories : List (Option ℕ)} {bytes one : List ℕ} {roles roles1 
         → linked ≡ table_of (frame_bytes one) target (slot_number (1024 * slot + index))
         → need (spaces_in directories one) to (1024 * slot + index) ≡ (if is_some linked then 1 else 2)
     unfolding spaces_in
-    copy_need {target} None live is =
-        need-two (directory_of directories) (frame_bytes one) to (1024 * slot + index)
-        (ap (option_and_then (λ d. table_of (frame_bytes one) d (slot_number (1024 * slot + index)))) live ∙ sym is)
+    copy_need {target} None live is = grind (arith, need-two)
     copy_need {target} (Some t) live is =
         let few = live_small directories to target copy.so_far.after.sound.pids live in
         need-one (directory_of directories) (frame_bytes one) to (1024 * slot + index) t few copy_user.0 copy_user.1
@@ -179,11 +177,7 @@ module _ {directories : List (Option ℕ)} {bytes one : List ℕ} {roles roles1 
 
     pub copy_fits : {target : ℕ} → directory_of directories to ≡ Some target
         → cost (spaces_in directories one) to + need (spaces_in directories one) to (1024 * slot + index) ≤ 1048576
-    copy_fits {target} live =
-        let room = copy_room live in
-        let within = cost_within directories (spaces_in directories one) to copy.so_far.after.sound.pids (ap is_some live) in
-        let few = copy.so_far.after.sound.few in
-        omega (arith, room, within, few)
+    copy_fits {target} live = grind (arith, copy_room, cost_within)
 
     pub copy_cost : {two : List ℕ} {roles2 : List Role} → PageCopied directories from to (1024 * slot + index) one roles1 two roles2
         → cost (spaces_in directories two) to ≡ cost (spaces_in directories one) to + need (spaces_in directories one) to (1024 * slot + index)

@@ -1,10 +1,10 @@
 -- The pages of a process leave from region to region, and those of a region by its table.
 use Rattle.address_space.proofs.Prelude
-use Prelude.{◌≡◌, ◌≢◌, ℕ, ◌+◌, ◌-◌, ◌*◌, ◌<◌, ◌≤◌, List, length, refl, ap, sym, ◌∙◌, arith, inl, inr, Option, Some}
-use Prelude.{None, ◌⊎◌, option_and_then, option_map, slot_number, index_number, is_present, frame_number, frame_bytes}
+use Prelude.{◌≡◌, ◌≢◌, ℕ, ◌+◌, ◌-◌, ◌*◌, ◌<◌, ◌≤◌, List, refl, ap, sym, ◌∙◌, arith, inl, inr, Option, Some}
+use Prelude.{None, ◌⊎◌, slot_number, index_number, frame_number, frame_bytes}
 use Prelude.{word_in, with_frame-same, with_frame-other, word_in_same, word_in_other, PageEntry, Frames, IsPageMap}
 use Prelude.{IsCleared, dir_word, table_of, entry_at, word_entry, without_entry, count_range-same, count_range-none}
-use Prelude.{Found, found_in, View, directory_of, cost, EntryGone, DroppedBelow, words_left}
+use Prelude.{found_in, View, directory_of, cost, EntryGone, DroppedBelow, words_left}
 use Rattle.address_space.specs.declared.Spaces.TheInside.{Inside as Inner}
 use Rattle.address_space.proofs.Insides.{spaces_at, view_of}
 use Rattle.address_space.proofs.costs.Relief.{light_lacks}
@@ -44,12 +44,7 @@ entry_gone bytes d t page freed m' apart few there cleared = by freed refl
 -- what is found at a page whose word was listed
 pub listed_found : (directories : List (Option ℕ)) (bytes : List ℕ) (p slot : ℕ) {d table index : ℕ} {e : PageEntry} → directory_of directories p ≡ Some d → table_of (frame_bytes bytes) d slot ≡ Some table → index < 1024
     → word_entry (word_in (frame_bytes bytes table) index) ≡ Some e → found_in (directory_of directories) (frame_bytes bytes) p (1024 * slot + index) ≡ Some (record { page = 1024 * slot + index; table = table; entry = e })
-listed_found directories bytes p slot {d} {table} {index} {e} live there few is =
-    let s : slot_number (1024 * slot + index) ≡ slot = omega arith in
-    let i : index_number (1024 * slot + index) ≡ index = omega arith in
-    let found : ℕ → ℕ → Option Found = λ t k. option_map (λ e. record { page = 1024 * slot + index; table = t; entry = e }) (word_entry (word_in (frame_bytes bytes t) k)) in
-    ap (option_and_then (λ t. found t (index_number (1024 * slot + index)))) (ap (option_and_then (λ d. table_of (frame_bytes bytes) d (slot_number (1024 * slot + index)))) live ∙ ap (table_of (frame_bytes bytes) d) s ∙ there)
-    ∙ ap (found table) i ∙ ap (option_map (λ e. record { page = 1024 * slot + index; table = table; entry = e })) is
+listed_found directories bytes p slot {d} {table} {index} {e} live there few is = grind arith
 
 -- how many words of the table are left then, and that it is linked while there is one
 pub record RegionLeft (bytes : List ℕ) (d slot table index left : ℕ) : Type 0 where
@@ -58,24 +53,13 @@ pub record RegionLeft (bytes : List ℕ) (d slot table index left : ℕ) : Type 
 
 -- a word that is left is of a table that is linked
 pub left_linked : {bytes : List ℕ} {d slot table index left : ℕ} (more : ℕ) → RegionLeft bytes d slot table index left → left ≡ more + 1 → table_of (frame_bytes bytes) d slot ≡ Some table
-left_linked more l some = elim l.linked [
-  | inl there ↦ there
-  | inr gone ↦ (let none = gone.1 in absurd (omega (arith, none, some)))
-]
+left_linked more l some = grind arith
 
 -- one goes
 pub left_next : {bytes bytes' : List ℕ} {d slot table index found left : ℕ} → RegionLeft bytes d slot table index left → found < 1024 → left ≡ words_left bytes table (found + 1) + 1
     → EntryGone (frame_bytes bytes) d table (1024 * slot + found) (frame_bytes bytes') → RegionLeft bytes' d slot table (found + 1) (left - 1)
 left_next {bytes} {bytes'} {d} {slot} {table} {index} {found} {left} l few some gone =
-    let kept : words_left bytes' table (found + 1) ≡ words_left bytes table (found + 1) = count_range-same (λ i. is_present (word_in (frame_bytes bytes' table) i)) (λ i. is_present (word_in (frame_bytes bytes table) i)) (found + 1) (found + 1) (1024 - (found + 1))
-    (λ i l. ap is_present (gone.words (found + 1 + i) (λ e. absurd (omega (arith, e, few))))) in
-    record {
-      words = omega (arith, some, kept);
-      linked = grind (arith, s, count_range-none);
-    }
-  where
-    s : slot_number (1024 * slot + found) ≡ slot
-    s = omega (arith, few)
+    grind (arith, count_range-same, count_range-none)
 
 -- the pages of a region leave over words without an entry
 pub region_passed : {v : View} (inner : Inner) {p d slot table index left : ℕ} (beyond : ℕ) → DroppedBelow v p (1024 * slot + index) (view_of inner) → directory_of inner.directories p ≡ Some d

@@ -2,7 +2,7 @@
 use Rattle.address_space.proofs.Prelude
 use Prelude.{◌≡◌, ◌≢◌, ℕ, ◌+◌, ◌*◌, ◌^◌, ◌<◌, ◌≤◌, Bool, true, false, List, length, replicate, refl, ap, sym, ◌∙◌}
 use Prelude.{subst, arith, inl, inr, Option, Some, None, length-set, cond, is_some, slice_get, slice_set}
-use Prelude.{option_and_then, unwrap_or, option_map, slice_get_within, slot_number, is_present, frame_number}
+use Prelude.{option_and_then, option_map, slice_get_within, slot_number, is_present, frame_number}
 use Prelude.{frame_bytes, word_in, with_frame, with_frame_bytes, Role, Reserved, Free, Directory, Table, Page, IsTaken}
 use Prelude.{frames_weight, get-set_same, get-set_other, weight-taken, length-frame, with_frame-other}
 use Prelude.{frames-with_frame_bytes, entry_word-names, entry_word-lt, entry_word-present, word_entry-entry_word}
@@ -109,10 +109,7 @@ table_given_there directories bytes bytes' roles roles' p d s t sound live low h
 
 -- a process with a directory is one of the 64
 pub live_small : (directories : List (Option ℕ)) (p d : ℕ) → length directories ≡ 64 → directory_of directories p ≡ Some d → p < 64
-live_small directories p d l live = by (slice_get directories p) refl live
-  where
-    by : (x : Option (Option ℕ)) → slice_get directories p ≡ x → unwrap_or x None ≡ Some d → p < 64
-    by x is h = grind (arith, slice_get_within)
+live_small directories p d l live = grind (arith, slice_get_within)
 
 -- a frame that was zeroed
 pub zeroed : (bytes one : List ℕ) (f : ℕ) → Inside bytes f → one ≡ with_frame_bytes bytes f (replicate 4096 0) → frame_bytes one ≡ with_frame (frame_bytes bytes) f (replicate 4096 0)

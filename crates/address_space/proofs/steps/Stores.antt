@@ -1,6 +1,6 @@
 -- The effect of a store, a load and a change of the right through a mapped slot.
 use Rattle.address_space.proofs.Prelude
-use Prelude.{◌≡◌, ℕ, suc, ◌+◌, ◌*◌, ◌/◌, ◌%◌, ◌^◌, ◌<◌, ◌≤◌, Bool, true, false, List, [], ◌∷◌, ◌++◌, length, take, drop}
+use Prelude.{◌≡◌, ℕ, suc, ◌+◌, ◌*◌, ◌/◌, ◌%◌, ◌^◌, ◌<◌, ◌≤◌, Bool, true, false, List, ◌++◌, length, take, drop}
 use Prelude.{refl, ap, sym, ◌∙◌, subst, arith, inl, inr, Option, Some, length-append, length-drop, zero, append_assoc}
 use Prelude.{is_some, slice_get, slice_set, splice, option_and_then, slot_number, index_number, byte_count, Size}
 use Prelude.{frame_number, IsKernelTableWord, frame_bytes, word_in, with_word, with_frame, Role, Table, Page, PageEntry}
@@ -258,19 +258,12 @@ length-bytes_of zero v = refl
 length-bytes_of (suc k) v = ap suc (length-bytes_of k (v / 256))
 
 pub length-write_at : (frame : List ℕ) (at : ℕ) (new : List ℕ) → at + length new ≤ length frame → length (write_at frame at new) ≡ length frame
-length-write_at frame at new fits =
-    let a : length (write_at frame at new) ≡ length (take at frame ++ new) + length (drop (at + length new) frame) = length-append (take at frame ++ new) (drop (at + length new) frame) in
-    let b = length-append (take at frame) new in
-    let c = length-take-le at frame (omega (arith, fits)) in
-    let d = length-drop (at + length new) frame in
-    omega (arith, a, b, c, d, fits)
+length-write_at frame at new fits = grind (arith, length-append, length-take-le, length-drop)
 
 -- ---- Bytes of a page, by their place in memory
 
 pub byte_is_write : (frame : List ℕ) (at v : ℕ) → at < length frame → slice_set frame at (v % 256) ≡ write_at frame at (bytes_of 1 v)
-byte_is_write frame at v l =
-    let d : suc at ≡ at + 1 = omega arith in
-    set_split frame at (v % 256) l ∙ ap (λ k. take at frame ++ (v % 256 ∷ drop k frame)) d ∙ sym (append_assoc (take at frame) (v % 256 ∷ []) (drop (at + 1) frame))
+byte_is_write frame at v l = grind (arith, set_split, append_assoc)
 
 pub byte_placed : (bytes one : List ℕ) (f at v : ℕ) → Inside bytes f → at < 4096 → one ≡ slice_set bytes (4096 * f + at) v
     → frame_bytes one ≡ with_frame (frame_bytes bytes) f (slice_set (frame_bytes bytes f) at v)
@@ -332,14 +325,10 @@ cell_read directories bytes p d page e live few low high is = grind (arith, cell
 pub flagged_load : (directories : List (Option ℕ)) (bytes : List ℕ) (p d page : ℕ) (e : PageEntry) → directory_of directories p ≡ Some d → p < 64 → 0x40000 ≤ page → page < 0xf0000 → entry_at (frame_bytes bytes) d page ≡ Some e
     → flagged (spaces_in directories bytes) (at_page p page) e.write true ≡ accessed_in (spaces_in directories bytes) (at_page p page)
 flagged_load directories bytes p d page e live few low high is =
-    let cell = cell_read directories bytes p d page e live few low high is in
-    ap (map.insert (spaces_in directories bytes) (at_page p page))
-    (ap (λ (c : Cell). record c { write = e.write; accessed = true }) cell ∙ sym (ap (λ (c : Cell). record c { accessed = true }) cell))
+    grind (arith, cell_read directories bytes p d page e live few low high is)
 
 -- where an entry keeps its accessed flag, setting the right is what a change of rights leaves
 pub flagged_right : (directories : List (Option ℕ)) (bytes : List ℕ) (p d page : ℕ) (e : PageEntry) (write : Bool) → directory_of directories p ≡ Some d → p < 64 → 0x40000 ≤ page → page < 0xf0000 → entry_at (frame_bytes bytes) d page ≡ Some e
     → flagged (spaces_in directories bytes) (at_page p page) write e.accessed ≡ protected (spaces_in directories bytes) (at_page p page) write
 flagged_right directories bytes p d page e write live few low high is =
-    let cell = cell_read directories bytes p d page e live few low high is in
-    ap (map.insert (spaces_in directories bytes) (at_page p page))
-    (ap (λ (c : Cell). record c { write = write; accessed = e.accessed }) cell ∙ sym (ap (λ (c : Cell). record c { write = write }) cell))
+    grind (arith, cell_read directories bytes p d page e live few low high is)

@@ -46,9 +46,6 @@ pub record FoundEntry (bytes : List ℕ) (d address : ℕ) (access : Access) : T
 none_some : (x : Option PageEntry) (e : PageEntry) → x ≡ None → x ≡ Some e → ⊥
 none_some x e none some = cc
 
-both_true : (a b : Bool) → (a && not b) ≡ false → a ≡ true → b ≡ true
-both_true a b h e = grind arith
-
 module _ (directories : List (Option ℕ)) (bytes : List ℕ) (roles : List Role) (p d : ℕ) (sound : IsSound directories bytes roles) (live : directory_of directories p ≡ Some d) where
   -- only pages of the user range have an entry
   user_entry : (page : ℕ) (e : PageEntry) → entry_at (frame_bytes bytes) d page ≡ Some e → IsUserPage page
@@ -70,7 +67,7 @@ module _ (directories : List (Option ℕ)) (bytes : List ℕ) (roles : List Role
 
       end : (e : PageEntry) → entry_at (frame_bytes bytes) d (page_number address) ≡ Some e → (b c : Bool) → (is_write access && not (lets_writes e)) ≡ b
           → walk_of bytes d address access ≡ (if b then not_allowed address access else if c then Err Outside else Ok e.frame) → FoundEntry bytes d address access
-      end e here b c is walk = grind (arith, no_frame, user_entry, both_true)
+      end e here b c is walk = grind (arith, no_frame, user_entry)
 
       by : (x : Option PageEntry) → entry_at (frame_bytes bytes) d (page_number address) ≡ x → walk_of bytes d address access ≡ end_at_entry bytes address access x → FoundEntry bytes d address access
       by x here walk = grind (arith, no_frame, end)
@@ -98,9 +95,7 @@ module _ (directories : List (Option ℕ)) (bytes : List ℕ) (roles : List Role
 
   -- a walk finds a frame at each address of the page
   pub page_found : (address other : ℕ) (access : Access) → address < 2 ^ 32 → other < 2 ^ 32 → page_number other ≡ page_number address → IsOk (walk_of bytes d address access) → IsOk (walk_of bytes d other access)
-  page_found address other access small also same ok =
-      let f = found_entry address access small ok in
-      subst IsOk (sym (entry_found other access f.entry also (ap (entry_at (frame_bytes bytes) d) same ∙ f.here) f.right)) refl
+  page_found address other access small also same ok = grind (arith, found_entry address access small ok, entry_found)
 
   module _ (address : ℕ) (access : Access) (f : FoundEntry bytes d address access) where
     -- the frame that was found is the one that the table word names
@@ -141,10 +136,7 @@ found_apart directories bytes roles p d address access sound live small ok x is 
     let at = found D m p d (page_number address) e f.here in
     let role_t = sound.tables.table p s at.table (ap (option_and_then (λ x. table_of m x s)) live ∙ at.there) in
     let holds = sound.pages.pages (at_page p (page_number address)) e (get_user D m p d (page_number address) e live (live_small directories p d sound.pids live) f.low f.high f.here) in
-    let table : frame_number (word_at bytes (word_place d s)) ≡ at.table = ap frame_number (word_in-frame bytes d s (omega (arith, high))) ∙ table_by_word (dir_word m d s) at.table at.there in (
-      λ is_d. no_directory R e.frame d p holds (sound.tables.directory p d live) (same ∙ sym is_d),
-      λ is_t. no_table R e.frame at.table p s holds role_t (same ∙ sym is_t ∙ table),
-    )
+    grind (arith, word_in-frame, table_by_word, no_directory, no_table)
 
 -- ---- A mark
 

@@ -1,7 +1,7 @@
 -- Accesses that a processor makes by its walk, on what is kept.
 use Rattle.address_space.proofs.Prelude
 use Prelude.{◌≡◌, ◌+◌, ◌/◌, ◌%◌, ◌^◌, ◌<◌, ℕ, Bool, true, cond, List, [], ◌∷◌, length, refl, ap, sym, ◌∙◌, subst, arith}
-use Prelude.{inl, inr, Option, Some, None, if◌then◌else◌, ◌&&◌, IsOk, Ok, slice_set, option_map, unwrap_or, is_ok}
+use Prelude.{inl, inr, Option, Some, None, if◌then◌else◌, ◌&&◌, IsOk, Ok, slice_set, option_map, unwrap_or}
 use Prelude.{and_parts, page_number, offset_number, start_number, second_page, byte_count, covered, touched, page_and}
 use Prelude.{Size, Access, Read, Write, walk_of, finds_at, finds, byte_place, number_found, Image, image_from}
 use Prelude.{directory_at, Slot, slot_order, Cell, Spaces, fresh, with_bytes, set_bytes, write_at, bytes_of, accessed}
@@ -72,9 +72,7 @@ module _ (inner : Inner) (p d address : ℕ) (size : Size) (before : AreCountedI
     module _ (page at : ℕ) (is : second_page address size ≡ Some page) (at_is : at ≡ start_number page)
         (walks : (other a : ℕ) (kind : Access) → walk_of one other a kind ≡ walk_of inner.memory other a kind) where
       pub load_second : (at < 2 ^ 32) × IsOk (walk_of one d at Read)
-      load_second =
-          let f = found_at (image_at inner) p d (start_number page) Read live (finds_second (image_at inner) p address size Read page is test) in
-          subst (λ a. (a < 2 ^ 32) × IsOk (walk_of one d a Read)) (sym at_is) (f.0, ap is_ok (walks d (start_number page) Read) ∙ f.1)
+      load_second = grind (arith, found_at, image_at, finds_second)
 
       pub both_left : (two : List ℕ) → two ≡ marked one d at Read → Left inner (all_accessed (spaces_at inner) p (touched address size)) two
       both_left two is_two =

@@ -1,4 +1,4 @@
-use Rattle.address_space.proofs.Prelude.{ap, sym, ◌∙◌, is_some, lazy_found, found_of, lazy_place}
+use Rattle.address_space.proofs.Prelude.{ap, sym, ◌∙◌, is_some, found_of, arith}
 use Rattle.address_space.proofs.steps.Placing.{place_found, place_mapped}
 use Rattle.address_space.proofs.steps.FoundPages.{found_lies, room_found, found_filled, filled_kept, filled_real}
 use Rattle.address_space.proofs.steps.FoundPages.{filled_others, filled_stay, filled_found}
@@ -40,8 +40,7 @@ pub unwrap-found-requires : goal.unwrap-found-requires
 unwrap-found-requires c = ap is_some (c.found.ensures ∙ ap found_of c.requires.place) ∙ c.stands.ensures.places.mapped c.args.pid c.args.page c.requires.user ∙ c.requires.mapped
 
 pub returns-then-not-found-clause-real : goal.returns-then-not-found-clause-real
-returns-then-not-found-clause-real c =
-    sym (c.stands.ensures.places.lazy c.args.pid c.args.page c.requires.user) ∙ sym (ap lazy_place c.requires.place) ∙ ap lazy_found (sym c.found.ensures ∙ c.unwrap-found.ensures) ∙ c.if-not-found.true
+returns-then-not-found-clause-real c = grind arith
 
 pub returns-clause-place : goal.returns-clause-place
 returns-clause-place c =

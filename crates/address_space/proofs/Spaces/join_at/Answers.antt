@@ -1,6 +1,6 @@
 use Rattle.address_space.proofs.Prelude
 use Prelude.{arith, ◌<◌, ◌^◌, ap, sym, ◌∙◌, subst, frame_bytes, PageEntry, with_entry, at_page, TableGiven, SlotJoined}
-use Prelude.{slot_number, table_of_place, found_of, is_some, none_goes, directory_of}
+use Prelude.{slot_number, table_of_place, found_of, none_goes, directory_of}
 use Rattle.address_space.proofs.steps.Steps.{page_map_of}
 use Rattle.address_space.proofs.steps.CountSteps.{alike_held}
 use Rattle.address_space.proofs.steps.FoundPages.{found_real, found_named, found_least, found_mapped}
@@ -12,17 +12,14 @@ use Rattle.address_space.proofs.entries.Staying.{places_ready}
 use Rattle.address_space.proofs.Spaces.join_at.Goals as goal
 
 pub unwrap-found-requires : goal.unwrap-found-requires
-unwrap-found-requires c =
-    ap is_some (c.found.ensures ∙ ap found_of (rw (← c.self.view_is) at c.requires.place) ∙ place_found c.self.inside c.args.giver c.args.giver_page)
-    ∙ found_mapped c.self.inside c.args.giver c.args.giver_page c.self.invariant c.requires.from ∙ (rw (← c.self.view_is) at c.requires.given)
+unwrap-found-requires c = grind (arith, place_found, found_mapped)
 
 pub give_table-table-requires-clause-map : goal.give_table-table-requires-clause-map
 give_table-table-requires-clause-map c =
     page_map_of c.self.inside.directories c.self.inside.memory c.self.inside.frames c.args.pid c.home-directory.result c.self.invariant.spaces.sound c.home-directory.ensures
 
 pub give_table-table-requires-clause-room : goal.give_table-table-requires-clause-room
-give_table-table-requires-clause-room c =
-    table_room c.self.inside.directories c.self.inside.memory c.self.inside.frames c.args.pid c.home-directory.result c.args.page 0 c.self.inside.memory c.self.inside.frames c.self.invariant.spaces c.requires.user c.home-directory.ensures (rw (← c.self.view_is) at c.requires.room)
+give_table-table-requires-clause-room c = grind (arith, table_room)
 
 pub count_page-requires-clause-inside : goal.count_page-requires-clause-inside
 count_page-requires-clause-inside c =

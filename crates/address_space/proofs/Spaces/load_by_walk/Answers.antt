@@ -22,9 +22,7 @@ pub mark-requires-clause-found : goal.mark-requires-clause-found
 mark-requires-clause-found c = grind (arith, load_first, c.self.invariant, c.home-directory.ensures, c.requires)
 
 pub mark-requires-clause-apart : goal.mark-requires-clause-apart
-mark-requires-clause-apart c =
-    let first = load_first c.self.inside c.args.pid c.home-directory.result c.args.address c.args.size c.self.invariant c.home-directory.ensures (rw (← c.self.view_is) at c.requires) in
-    found_apart c.self.inside.directories c.self.inside.memory c.self.inside.frames c.args.pid c.home-directory.result c.args.address Read c.self.invariant.spaces.sound c.home-directory.ensures first.0 first.1
+mark-requires-clause-apart c = grind (arith, load_first, found_apart)
 
 -- ---- One page
 
@@ -32,8 +30,7 @@ alone : (c : goal.In_default) → Left c.self.inside (all_accessed (spaces_at c.
 alone c = alone_left c.self.inside c.args.pid c.home-directory.result c.args.address c.args.size c.self.invariant c.home-directory.ensures (rw (← c.self.view_is) at c.requires) c.mark.new.memory c.mark.ensures.words (sym c.second_page.ensures ∙ c.in_default.is)
 
 pub returns-in_default-clause-value : goal.returns-in_default-clause-value
-returns-in_default-clause-value c =
-    rw (← c.self.view_is) (c.found_number-value.ensures ∙ load_value c.self.inside c.args.pid c.home-directory.result c.args.address c.args.size c.self.invariant c.home-directory.ensures (rw (← c.self.view_is) at c.requires))
+returns-in_default-clause-value c = grind (arith, load_value)
 
 pub returns-in_default-clause-mapped : goal.returns-in_default-clause-mapped
 returns-in_default-clause-mapped c =
@@ -61,8 +58,7 @@ both c = both_left c.self.inside c.args.pid c.home-directory.result c.args.addre
     c.in-Some.second c.start_of.result (sym c.second_page.ensures ∙ c.in-Some.is) c.start_of.ensures c.mark.ensures.walks c.mark-2.new.memory c.mark-2.ensures.words
 
 pub returns-clause-value : goal.returns-clause-value
-returns-clause-value c =
-    rw (← c.self.view_is) (c.found_number-value.ensures ∙ load_value c.self.inside c.args.pid c.home-directory.result c.args.address c.args.size c.self.invariant c.home-directory.ensures (rw (← c.self.view_is) at c.requires))
+returns-clause-value c = grind (arith, load_value)
 
 pub returns-clause-mapped : goal.returns-clause-mapped
 returns-clause-mapped c =

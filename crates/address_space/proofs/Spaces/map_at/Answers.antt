@@ -16,8 +16,7 @@ give_table-table-requires-clause-map c =
     page_map_of c.self.inside.directories c.self.inside.memory c.self.inside.frames c.args.pid c.home-directory.result c.self.invariant.spaces.sound c.home-directory.ensures
 
 pub give_table-table-requires-clause-room : goal.give_table-table-requires-clause-room
-give_table-table-requires-clause-room c =
-    table_room c.self.inside.directories c.self.inside.memory c.self.inside.frames c.args.pid c.home-directory.result c.args.page 0 c.self.inside.memory c.self.inside.frames c.self.invariant.spaces c.requires.user c.home-directory.ensures (rw (← c.self.view_is) at c.requires.room)
+give_table-table-requires-clause-room c = grind (arith, table_room)
 
 pub count_page-requires-clause-inside : goal.count_page-requires-clause-inside
 count_page-requires-clause-inside c =

@@ -1,4 +1,4 @@
-use Rattle.address_space.proofs.Prelude.{ap, arith, is_some, frame_bytes, SlotRemoved}
+use Rattle.address_space.proofs.Prelude.{arith, frame_bytes, SlotRemoved}
 use Rattle.address_space.proofs.steps.Steps.{page_map_of}
 use Rattle.address_space.proofs.steps.GonePages.{home_table, home_entry, home_count, home_positive, home_counts}
 use Rattle.address_space.proofs.steps.GonePages.{home_in_use, gone_table, gone_page, gone_kept}
@@ -20,12 +20,10 @@ clear_found_entry-freed-requires-clause-map c =
     page_map_of c.self.inside.directories c.self.inside.memory c.self.inside.frames c.args.pid c.args.directory c.self.invariant.spaces.sound (rw (← c.self.view_is) at c.requires.home)
 
 pub clear_found_entry-freed-requires-clause-table : goal.clear_found_entry-freed-requires-clause-table
-clear_found_entry-freed-requires-clause-table c =
-    home_table c.self.inside c.args.pid c.args.directory c.args.page c.args.found.now c.self.invariant c.requires.user (rw (← c.self.view_is) at c.requires.found) (rw (← c.self.view_is) at c.requires.home)
+clear_found_entry-freed-requires-clause-table c = grind (arith, home_table)
 
 pub clear_found_entry-freed-requires-clause-entry : goal.clear_found_entry-freed-requires-clause-entry
-clear_found_entry-freed-requires-clause-entry c =
-    ap is_some (home_entry c.self.inside c.args.pid c.args.directory c.args.page c.args.found.now c.self.invariant c.requires.user (rw (← c.self.view_is) at c.requires.found) (rw (← c.self.view_is) at c.requires.home))
+clear_found_entry-freed-requires-clause-entry c = grind (arith, home_entry)
 
 pub clear_found_entry-freed-requires-clause-mapped : goal.clear_found_entry-freed-requires-clause-mapped
 clear_found_entry-freed-requires-clause-mapped c =
@@ -36,9 +34,7 @@ leave-requires c =
     home_in_use c.self.inside c.args.pid c.args.directory c.args.page c.args.found.now c.self.invariant c.requires.user (rw (← c.self.view_is) at c.requires.found) (rw (← c.self.view_is) at c.requires.home)
 
 pub free_table-requires : goal.free_table-requires
-free_table-requires c =
-    gone_table c.self.inside c.args.pid c.args.directory c.args.page c.args.found.now c.self.invariant c.requires.user (rw (← c.self.view_is) at c.requires.found) (rw (← c.self.view_is) at c.requires.home)
-    c.clear_found_entry-freed.new.memory c.leave.new.frames c.clear_found_entry-freed.result c.clear_found_entry-freed.ensures.cleared c.leave.ensures
+free_table-requires c = grind (arith, gone_table)
 
 gone : (c : goal.After-free_table) → SlotRemoved c.self.inside.directories c.args.pid c.args.page c.self.inside.memory c.self.inside.frames c.clear_found_entry-freed.new.memory c.free_table.new.frames
 gone c =

@@ -1,4 +1,4 @@
-use Rattle.quota_tree.proofs.Prelude.{ap, ◌∙◌, number_of_children, after_close}
+use Rattle.quota_tree.proofs.Prelude.{ap, ◌∙◌, number_of_children, arith}
 use Rattle.quota_tree.proofs.Closes.{giver_gave, giver_has_children, quotas-close, seen_as-close}
 use Rattle.quota_tree.proofs.Views.{is_some-live, within_places}
 use Rattle.page_words.specs.FiniteMap as map
@@ -13,22 +13,10 @@ live-giver-requires c =
     is_some-live c.self.inside.containers c.live-closed.result.parent (c.self.invariant.each c.args.pid c.live-closed.result at).parent
 
 pub without_child-giver-requires-clause-given : goal.without_child-giver-requires-clause-given
-without_child-giver-requires-clause-given c =
-    let cs = c.self.inside.containers in
-    let at = c.live-closed.ensures.container in
-    let giver = c.live-giver.ensures.container in
-    let childless = ap (λ view. number_of_children view.book c.args.pid) c.self.view_is ∙ c.requires.childless in
-    giver_gave cs c.self.invariant c.args.pid (within_places cs c.self.invariant c.args.pid c.live-closed.result at) c.live-closed.result at c.requires.not_root childless
-    c.live-giver.result giver (within_places cs c.self.invariant c.live-closed.result.parent c.live-giver.result giver)
+without_child-giver-requires-clause-given c = grind (arith, giver_gave, within_places)
 
 pub without_child-giver-requires-clause-children : goal.without_child-giver-requires-clause-children
-without_child-giver-requires-clause-children c =
-    let cs = c.self.inside.containers in
-    let at = c.live-closed.ensures.container in
-    let giver = c.live-giver.ensures.container in
-    let childless = ap (λ view. number_of_children view.book c.args.pid) c.self.view_is ∙ c.requires.childless in
-    giver_has_children cs c.self.invariant c.args.pid (within_places cs c.self.invariant c.args.pid c.live-closed.result at) c.live-closed.result at c.requires.not_root childless
-    c.live-giver.result giver (within_places cs c.self.invariant c.live-closed.result.parent c.live-giver.result giver)
+without_child-giver-requires-clause-children c = grind (arith, giver_has_children, within_places)
 
 pub invariant_of-self : goal.invariant_of-self
 invariant_of-self c =
@@ -41,12 +29,4 @@ invariant_of-self c =
     c.live-giver.result giver (within_places cs c.self.invariant c.live-closed.result.parent c.live-giver.result giver))
 
 pub returns : goal.returns
-returns c =
-    let cs = c.self.inside.containers in
-    let at = c.live-closed.ensures.container in
-    let giver = c.live-giver.ensures.container in
-    let childless = ap (λ view. number_of_children view.book c.args.pid) c.self.view_is ∙ c.requires.childless in
-    rw (c.put-2.ensures, c.put.ensures, c.without_child-giver.ensures)
-    (seen_as-close cs c.self.invariant c.args.pid (within_places cs c.self.invariant c.args.pid c.live-closed.result at) c.live-closed.result at c.requires.not_root childless
-    c.live-giver.result giver (within_places cs c.self.invariant c.live-closed.result.parent c.live-giver.result giver))
-    ∙ ap (λ view. after_close view c.args.pid) c.self.view_is
+returns c = grind (arith, seen_as-close, within_places)

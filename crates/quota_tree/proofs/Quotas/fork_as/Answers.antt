@@ -1,4 +1,4 @@
-use Rattle.quota_tree.proofs.Prelude.{ap, sym, ◌∙◌, arith, split_answer, after_split, with_used, used_of, seen_as}
+use Rattle.quota_tree.proofs.Prelude.{ap, sym, ◌∙◌, arith, split_answer, used_of}
 use Rattle.quota_tree.proofs.Splits.{place_there, giver_room, giver_children, quotas-child, seen_as-child}
 use Rattle.quota_tree.proofs.Views.{is_some-live, used_of-container}
 use Rattle.page_words.specs.FiniteMap as map
@@ -38,6 +38,4 @@ returns c =
     let is = ap (λ view. split_answer view c.args.parent c.args.quota) c.self.view_is ∙ c.requires.can in
     let some = (c.self.invariant.each c.args.parent c.live-giver.result c.live-giver.ensures.container).used in
     let used = sym (used_of-container cs c.args.parent c.live-giver.result c.live-giver.ensures.container) ∙ ap (λ view. used_of view c.args.parent) c.self.view_is in
-    ap seen_as c.add_child.ensures
-    ∙ seen_as-child cs c.self.invariant c.args.parent c.args.quota c.args.child is c.live-giver.result c.live-giver.ensures.container c.live-giver.result.used some (omega (arith, used, c.requires.large))
-    ∙ (λ i. with_used (after_split (c.self.view_is i) c.args.parent c.args.quota c.args.child) c.args.child (used i))
+    grind (arith, seen_as-child)

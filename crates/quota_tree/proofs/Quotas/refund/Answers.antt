@@ -1,5 +1,4 @@
-use Rattle.quota_tree.proofs.Prelude.{◌-◌, Some, refl, sym, ap, ◌∙◌, arith, slice_set, used_of, with_used, charged_with}
-use Rattle.quota_tree.proofs.Prelude.{seen_as}
+use Rattle.quota_tree.proofs.Prelude.{◌-◌, refl, sym, ap, ◌∙◌, arith, used_of, charged_with}
 use Rattle.quota_tree.proofs.Views.{is_some-live, used_of-container, within_places}
 use Rattle.quota_tree.proofs.Writes.{quotas-charged, seen_as-charged}
 use Rattle.page_words.specs.FiniteMap as map
@@ -28,10 +27,4 @@ invariant_of-self c =
     }))
 
 pub returns : goal.returns
-returns c =
-    let at = c.live-container.ensures.container in
-    let used = sym (used_of-container c.self.inside.containers c.args.pid c.live-container.result at) ∙ ap (λ view. used_of view c.args.pid) c.self.view_is in
-    ap seen_as (c.put.ensures ∙ ap (λ x. slice_set c.self.inside.containers c.args.pid (Some x)) c.refunded.ensures)
-    ∙ seen_as-charged c.self.inside.containers c.self.invariant c.args.pid (within_places c.self.inside.containers c.self.invariant c.args.pid c.live-container.result at)
-    c.live-container.result (charged_with c.live-container.result (c.live-container.result.used - c.args.frames)) at refl
-    ∙ (λ i. with_used (c.self.view_is i) c.args.pid (used i - c.args.frames))
+returns c = grind (arith, used_of-container, seen_as-charged, within_places)

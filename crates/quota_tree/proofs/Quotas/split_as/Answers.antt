@@ -1,4 +1,4 @@
-use Rattle.quota_tree.proofs.Prelude.{ap, ◌∙◌, arith, split_answer, after_split, seen_as}
+use Rattle.quota_tree.proofs.Prelude.{ap, ◌∙◌, arith, split_answer}
 use Rattle.quota_tree.proofs.Splits.{can, place_there, giver_room, giver_children, quotas-child, seen_as-child, with_used-split}
 use Rattle.quota_tree.proofs.Views.{is_some-live}
 use Rattle.page_words.specs.FiniteMap as map
@@ -36,7 +36,4 @@ returns c =
     let cs = c.self.inside.containers in
     let is = ap (λ view. split_answer view c.args.parent c.args.quota) c.self.view_is ∙ c.requires.can in
     let least = (can cs c.self.invariant c.args.parent c.args.quota c.args.child is).some in
-    ap seen_as c.add_child.ensures
-    ∙ seen_as-child cs c.self.invariant c.args.parent c.args.quota c.args.child is c.live-giver.result c.live-giver.ensures.container 1 (omega arith) least
-    ∙ with_used-split (seen_as cs) c.args.parent c.args.quota c.args.child
-    ∙ ap (λ view. after_split view c.args.parent c.args.quota c.args.child) c.self.view_is
+    grind (arith, seen_as-child, with_used-split)

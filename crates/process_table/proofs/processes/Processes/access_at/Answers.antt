@@ -1,5 +1,5 @@
 use Rattle.process_table.proofs.Prelude
-use Prelude.{◌≡◌, ℕ, rules, ap, sym, subst, is_some, ◌∙◌, option_map, place_in, Size, IsUserPage, second_page}
+use Prelude.{◌≡◌, ℕ, rules, ap, sym, subst, is_some, ◌∙◌, option_map, place_in, Size, IsUserPage, second_page, arith}
 use Prelude.{EachTouched, page_number, IsThere, Read, Write, State, View, state_of, access_places}
 use Rattle.process_table.specs.declared.places.Places.{Places}
 use Rattle.process_table.proofs.Keeping.{whole-access}
@@ -14,8 +14,7 @@ unwrap-first-requires c =
 -- the second page's place, seen by the parts
 second : {w v : View} (places : Places) (p address : ℕ) (size : Size) → w ≡ v → places ≡ access_places v p address size → EachTouched address size IsUserPage
     → places.second ≡ option_map (place_in w.directories w.bytes p) (second_page address size)
-second {w} {v} places p address size is at user =
-    ap (λ (x : Places). x.second) at ∙ placed_second v p (second_page address size) user.1 ∙ ap (λ (v : View). option_map (place_in v.directories v.bytes p) (second_page address size)) (sym is)
+second {w} {v} places p address size is at user = grind (arith, placed_second)
 
 pub read_at-requires-clause-second : goal.read_at-requires-clause-second
 read_at-requires-clause-second c =

@@ -33,12 +33,4 @@ pub returns-clause-lazy : goal.returns-clause-lazy
 returns-clause-lazy c = c.map_at.ensures.lazy
 
 pub take_room-requires-clause-room : goal.take_room-requires-clause-room
-take_room-requires-clause-room c =
-    let p = c.args.pid in
-    let page = c.args.page in
-    let s : State = state_of c.self.inside.spaces c.self.inside.quotas c.self.inside.offers in
-    let ok : IsOk (map_answer s p page) = subst (λ (v : View). IsOk (map_answer v.state p page)) (sym c.self.view_is) c.requires.may in
-    let free = no_cause s p (map_refusal s p page) _ ok in
-    let may = may_map s p page free.1 in
-    let fits = new_fits s p page may.none may.room in
-    omega (arith, fits, c.self.invariant.kept.charged p free.0, c.need_at-need.ensures.value)
+take_room-requires-clause-room c = grind (arith, no_cause, may_map, new_fits)
