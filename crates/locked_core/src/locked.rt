@@ -257,6 +257,19 @@ impl<N: Name> Locked<N> {
         Ok(entry.reply)
     }
 
+    /// Which translations an event will end on the core under the lock, if that is asked; otherwise Nothing.
+    #[inline(always)]
+    fn ended_of(&self, asked: bool, event: &Event) -> Ended
+        ensures asked { asked ≡ true → result ≡ ended_by self.now.core event.now }
+        ensures stands { self.now.core.state ≡ state_after N.frames self.now.log }
+    {
+        if asked {
+            self.core.ends(event)
+        } else {
+            Ended::Nothing
+        }
+    }
+
     /// Makes a call of this CPU: checks it, reaches the gate, and carries it out. Returns its reply. If it is asked to,
     /// it also returns which translations the call ended, and otherwise Nothing.
     ///
@@ -285,11 +298,7 @@ impl<N: Name> Locked<N> {
     {
         let ready = self.judge(cpu, asked.pid, asked.call)?;
         gate.reach(Point::Locked);
-        let ended = if asked.ends {
-            self.core.ends(&ready.event)
-        } else {
-            Ended::Nothing
-        };
+        let ended = self.ended_of(asked.ends, &ready.event);
         let reply = self.carry_out(rt, ready, cpu)?;
         Ok((reply, ended))
     }

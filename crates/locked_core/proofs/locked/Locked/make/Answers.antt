@@ -12,7 +12,6 @@ use Rattle.process_table.specs.View.{View}
 use Rattle.memory_report.proofs.GuardedHistories.{histories_guarded}
 use Rattle.memory_report.proofs.IsolatedHistories.{histories_isolated}
 use Rattle.memory_report.specs.Histories.{AreGuarded, AreIsolated, StartsWith, calls_of, entry_after, state_after}
-use Rattle.locked_core.proofs.locked.Locked.make.Goals.{then-asked, else-asked}
 use Rattle.locked_core.proofs.locked.Locked.make.Goals as goal
 
 -- the core and the log are those that the call was judged on
@@ -32,18 +31,13 @@ returns-clause-ended g c = λ asks.
     let held : UnderLock = c.judge.new.self in
     let event : Event = c.in_ok-ready.ready.event in
     let opening : View = g.N.Name.book.opening in
-    let told : c.if-asked.ended ≡ ended_by held.core event =
-    elim c.if-asked.branch [
-      | then-asked w ↦ w.ended-is ∙ (w.ends-ended.ensures ∙ ap (λ (h : UnderLock). ended_by h.core event) c.self.view_is)
-      | else-asked w ↦ cc
-    ] in
-    let stood = subst (λ (h : UnderLock). h.core.state ≡ state_after g.N.Name.frames h.log) c.self.view_is c.self.invariant.stands in
+    let told = c.ended_of-ended.ensures.asked asks in
     let seen : c.carry_out.new.cpu.seen ≡ c.carry_out.new.self.log = ap (λ (m : Maker). m.seen) done.made ∙ done.told.1 in
     record {
       before = held.moments;
       last = moment (entry_after g.N.Name.frames held.log event.cpu event.pid event.call) c.carry_out.new.self.core;
       grown = ap (λ (m : Maker). m.moments) done.made ∙ done.moments;
-      stood = ap (λ (v : View). v.state) done.left ∙ stood ∙ ap (state_after g.N.Name.frames) (sym done.told.0);
+      stood = ap (λ (v : View). v.state) done.left ∙ c.ended_of-ended.ensures.stands ∙ ap (state_after g.N.Name.frames) (sym done.told.0);
       stands = done.state ∙ ap (state_after g.N.Name.frames) (sym seen);
       told = told ∙ ap (λ (v : View). ended_by v event) (sym done.left);
       ends = subst (λ (t : Ended × View). Ends t.0 t.1 c.carry_out.new.self.core) (λ i. (sym told i, sym done.left i)) done.ends;
