@@ -1,7 +1,7 @@
 -- The places of a process's other pages, after an access through one.
 use Rattle.address_space.proofs.Prelude
 use Prelude.{◌≡◌, ◌≢◌, ◌+◌, ◌<◌, ◌≤◌, ◌^◌, ℕ, true, false, List, length, ap, sym, ◌∙◌, inl, inr, Option, Some}
-use Prelude.{None, arith, slice_get, option_map, option_and_then, slot_number, IsUserPage, frame_bytes, length-frame}
+use Prelude.{arith, slice_get, option_map, option_and_then, slot_number, IsUserPage, frame_bytes, length-frame}
 use Prelude.{Role, PageEntry, Frames, table_of, entry_at, entry_word, with_entry, entry_word-lt, Found, Place, Slot}
 use Prelude.{at_page, write_at, Directories, directory_of, table_in, entry_in, PageFilled, EntryIs, BytesStored}
 use Prelude.{place_by, place_in, IsSound}
@@ -67,13 +67,6 @@ filled_beside {directories} {bytes} {bytes'} {roles} {roles'} filled q other dif
 
 -- ---- The second page of an access
 
-pub no_second : (directories : List (Option ℕ)) (bytes : List ℕ) (p : ℕ) (x : Option ℕ) → option_map (place_in directories bytes p) x ≡ None → x ≡ None
-no_second directories bytes p x h = grind arith
-
 pub second_there : (directories : List (Option ℕ)) (bytes : List ℕ) (p page : ℕ) (x : Option ℕ) (y : Option Place) (place : Place) → y ≡ option_map (place_in directories bytes p) x → x ≡ Some page → y ≡ Some place
     → place ≡ place_in directories bytes p page
 second_there directories bytes p page x y place at is found = grind arith
-
-pub second_is : (directories : List (Option ℕ)) (bytes : List ℕ) (p : ℕ) (x : Option ℕ) (place : Place) → Some place ≡ option_map (place_in directories bytes p) x
-    → (page : ℕ) × (x ≡ Some page) × (place ≡ place_in directories bytes p page)
-second_is directories bytes p x place h = grind arith
