@@ -1,4 +1,4 @@
-//! Accesses, each by one call: what completes as memory stands, in one page, and any other by its plan.
+//! Accesses, each by one call: what completes as memory stands, in one page or in two, and any other by its plan.
 
 ghost use Rattle.std.specs.Prelude.{◌≡◌, ◌↔◌, true, false, Ok, IfSome, IsSome, IsNone, IsOk, IsErr, Some, None, is_some, if◌then◌else◌};
 ghost use Rattle.page_words.specs.Addresses.{page_number, second_page, IsUserPage};
