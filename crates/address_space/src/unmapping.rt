@@ -222,9 +222,24 @@ impl Spaces {
     }
 
     /// Takes away a process's space: its pages leave their groups, and the frames of its pages that nobody else holds,
-    /// its tables and its directory come free. The process is charged for `used`, and no more words are read than that
-    /// takes.
-    pub fn drop_space(&mut self, pid: Pid, used: u32)
+    /// its tables and its directory come free. It counts first what the process is charged for.
+    pub fn drop_space(&mut self, pid: Pid)
+        requires live { is_some (directory_of self.old.directories pid) ≡ true }
+        ensures spaces { self.new.spaces ≡ without self.old.spaces (is_of pid) }
+        ensures stay { FramesStay (of_process pid) (image_of self.old) (image_of self.new) }
+        ensures loose { LooseStay (image_of self.old) (image_of self.new) }
+        ensures none { directory_of self.new.directories pid ≡ None }
+        ensures others { (other : ℕ) → other ≢ pid → directory_of self.new.directories other
+            ≡ directory_of self.old.directories other }
+        ensures frames { length self.new.roles ≡ length self.old.roles }
+    {
+        let used = self.cost(pid);
+        self.drop_charged_space(pid, used);
+    }
+
+    /// Takes away a process's space as `drop_space` does. The process is charged for `used`, and no more words are read
+    /// than that takes.
+    pub fn drop_charged_space(&mut self, pid: Pid, used: u32)
         requires live { is_some (directory_of self.old.directories pid) ≡ true }
         requires used { used ≡ cost self.old.spaces pid }
         ensures spaces { self.new.spaces ≡ without self.old.spaces (is_of pid) }

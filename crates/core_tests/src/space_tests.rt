@@ -38,8 +38,7 @@ fn begin(rt: &impl Abort, spaces: &mut Spaces, pid: Pid)
 /// Takes away the space of a process that has one.
 fn end(rt: &impl Abort, spaces: &mut Spaces, pid: Pid) {
     assert!(rt; spaces.directory(pid).is_some());
-    let used = spaces.cost(pid);
-    spaces.drop_space(pid, used);
+    spaces.drop_space(pid);
     assert!(rt; spaces.directory(pid).is_none());
 }
 

@@ -145,7 +145,7 @@ impl Processes {
         self.quotas.fork_as(pid, quota, copy);
         self.quotas.within();
         self.spaces.fresh(copy);
-        self.spaces.copy_space(pid, copy, used);
+        self.spaces.copy_charged_space(pid, copy, used);
     }
 
     /// Makes a child of a process, where nothing is against it, as `fork` does: its number; else the first cause
@@ -194,7 +194,7 @@ impl Processes {
         ensures loose { LooseStay (memory_of self.old) (memory_of self.new) }
     {
         let used = charge_of(self, pid);
-        self.spaces.drop_space(pid, used);
+        self.spaces.drop_charged_space(pid, used);
         self.quotas.close(pid);
         self.offers.drop_process(pid);
     }

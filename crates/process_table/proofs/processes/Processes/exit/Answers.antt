@@ -11,13 +11,13 @@ invariant_of-self c =
     let s : State = state_of v q c.self.inside.offers in
     let p = c.args.pid in
     let ok : IsOk (exit_answer s p) = subst (λ (v : View). IsOk (exit_answer v.state p)) (sym c.self.view_is) c.requires in
-    let kept = subst (IsProcesses c.drop_space.new.self) (sym c.close.ensures)
-    (charged-exit v c.drop_space.new.self q p c.self.invariant.kept (search rules) c.drop_space.ensures.spaces c.drop_space.ensures.frames c.drop_space.ensures.none c.drop_space.ensures.others) in
-    whole c.drop_space.new.self c.close.new.self c.drop_process.new.self (after_exit s p) kept c.drop_space.ensures.spaces (search rules) c.drop_process.ensures
+    let kept = subst (IsProcesses c.drop_charged_space.new.self) (sym c.close.ensures)
+    (charged-exit v c.drop_charged_space.new.self q p c.self.invariant.kept (search rules) c.drop_charged_space.ensures.spaces c.drop_charged_space.ensures.frames c.drop_charged_space.ensures.none c.drop_charged_space.ensures.others) in
+    whole c.drop_charged_space.new.self c.close.new.self c.drop_process.new.self (after_exit s p) kept c.drop_charged_space.ensures.spaces (search rules) c.drop_process.ensures
     (keeps-exit s p c.self.invariant.well_formed ok)
 
 pub returns-clause-stay : goal.returns-clause-stay
-returns-clause-stay c = grind (arith, c.drop_space.ensures.stay)
+returns-clause-stay c = grind (arith, c.drop_charged_space.ensures.stay)
 
 pub returns-clause-loose : goal.returns-clause-loose
-returns-clause-loose c = subst (λ (v : View). LooseStay (memory_of v) (image_of c.drop_space.new.self)) c.self.view_is c.drop_space.ensures.loose
+returns-clause-loose c = subst (λ (v : View). LooseStay (memory_of v) (image_of c.drop_charged_space.new.self)) c.self.view_is c.drop_charged_space.ensures.loose

@@ -52,8 +52,8 @@ fresh-requires-clause-room c =
     let there = room c.self.inside.spaces c.self.inside.quotas c.fork_as.new.self c.args.pid c.args.quota c.args.copy c.self.invariant.kept c.within.ensures.root split c.fork_as.ensures c.within-2.ensures.numbers c.within-2.ensures.total in
     omega (arith, there, c.within.ensures.used c.args.pid ok.0)
 
-pub copy_space-requires-clause-from : goal.copy_space-requires-clause-from
-copy_space-requires-clause-from c =
+pub copy_charged_space-requires-clause-from : goal.copy_charged_space-requires-clause-from
+copy_charged_space-requires-clause-from c =
     let q = c.self.inside.quotas in
     let p = c.args.pid in
     let copy = c.args.copy in
@@ -64,8 +64,8 @@ copy_space-requires-clause-from c =
     let apart : p ≢ copy = (λ e. let f = sym live ∙ ap (map.contains_key q.book) e ∙ child-absent q p c.args.quota copy split in cc) in
     ap is_some (c.fresh.ensures.others p apart) ∙ c.self.invariant.kept.live p ∙ live
 
-pub copy_space-requires-clause-empty : goal.copy_space-requires-clause-empty
-copy_space-requires-clause-empty c =
+pub copy_charged_space-requires-clause-empty : goal.copy_charged_space-requires-clause-empty
+copy_charged_space-requires-clause-empty c =
     let v = c.self.inside.spaces in
     let copy = c.args.copy in
     let s : State = state_of c.self.inside.spaces c.self.inside.quotas c.self.inside.offers in
@@ -76,8 +76,8 @@ copy_space-requires-clause-empty c =
     (nothing-mapped (image_of v) v.spaces copy page c.stands.ensures.image
     (child-has_none v c.self.inside.quotas c.args.pid c.args.quota copy c.self.invariant.kept split))
 
-pub copy_space-requires-clause-room : goal.copy_space-requires-clause-room
-copy_space-requires-clause-room c =
+pub copy_charged_space-requires-clause-room : goal.copy_charged_space-requires-clause-room
+copy_charged_space-requires-clause-room c =
     let p = c.args.pid in
     let s : State = state_of c.self.inside.spaces c.self.inside.quotas c.self.inside.offers in
     let is = ap (λ (v : View). fork_answer v.state c.args.pid c.args.quota) c.self.view_is ∙ c.requires in
@@ -96,7 +96,7 @@ returns-clause-state c =
     let is = ap (λ (v : View). fork_answer v.state c.args.pid c.args.quota) c.self.view_is ∙ c.requires in
     let split = (spawn-may c.self.inside.spaces c.self.inside.quotas c.self.inside.offers c.args.pid c.args.quota c.args.copy c.self.invariant.kept (fork-spawns s c.args.pid c.args.quota c.args.copy is)).1 in
     let child = child-is v q c.self.inside.offers p c.args.quota c.args.copy split in
-    let spaces = c.copy_space.ensures.spaces ∙ (λ i. copied (c.fresh.ensures.spaces i) p (sym child i)) in
+    let spaces = c.copy_charged_space.ensures.spaces ∙ (λ i. copied (c.fresh.ensures.spaces i) p (sym child i)) in
     let book = ap (λ (x : Containers). x.book) c.fork_as.ensures ∙ ap (λ n. map.insert q.book n (record { parent = p; quota = c.args.quota })) (sym child) in
     (λ i. record { spaces = spaces i; book = book i; offers = c.self.inside.offers })
     ∙ ap (λ (v : View). after_fork v.state p c.args.quota) c.self.view_is
@@ -104,7 +104,7 @@ returns-clause-state c =
 pub invariant_of-self : goal.invariant_of-self
 invariant_of-self c =
     let v = c.self.inside.spaces in
-    let w = c.copy_space.new.self in
+    let w = c.copy_charged_space.new.self in
     let q = c.self.inside.quotas in
     let p = c.args.pid in
     let copy = c.args.copy in
@@ -113,22 +113,22 @@ invariant_of-self c =
     let ok = fork-ok s c.args.pid c.args.quota c.args.copy is in
     let split = (spawn-may c.self.inside.spaces c.self.inside.quotas c.self.inside.offers c.args.pid c.args.quota c.args.copy c.self.invariant.kept (fork-spawns s c.args.pid c.args.quota c.args.copy is)).1 in
     let child = child-is v q c.self.inside.offers p c.args.quota copy split in
-    let spaces = c.copy_space.ensures.spaces ∙ ap (λ S. copied S p copy) c.fresh.ensures.spaces in
+    let spaces = c.copy_charged_space.ensures.spaces ∙ ap (λ S. copied S p copy) c.fresh.ensures.spaces in
     let book = ap (λ (x : Containers). x.book) c.fork_as.ensures ∙ ap (λ n. map.insert q.book n (record { parent = p; quota = c.args.quota })) (sym child) in
     let kept = subst (IsProcesses w) (sym c.fork_as.ensures)
     (charged-child v q p c.args.quota copy c.self.invariant.kept c.within.ensures.root split
     (after_split q p c.args.quota copy).used (used_of q p) (used-before q p c.args.quota copy)
-    w (c.copy_space.ensures.frames ∙ c.fresh.ensures.frames)
-    (ap (λ ds. is_some (directory_of ds copy)) c.copy_space.ensures.directories ∙ c.fresh.ensures.live)
-    (λ x n. ap (λ ds. directory_of ds x) c.copy_space.ensures.directories ∙ c.fresh.ensures.others x n)
+    w (c.copy_charged_space.ensures.frames ∙ c.fresh.ensures.frames)
+    (ap (λ ds. is_some (directory_of ds copy)) c.copy_charged_space.ensures.directories ∙ c.fresh.ensures.live)
+    (λ x n. ap (λ ds. directory_of ds x) c.copy_charged_space.ensures.directories ∙ c.fresh.ensures.others x n)
     (c.self.invariant.kept.charged p ok.0 ∙ sym (ap (λ S. cost S copy) spaces ∙ cost-copied v.spaces p copy))
     (λ x n. ap (λ S. cost S x) spaces ∙ cost-copied_other v.spaces p copy x n)) in
     whole w c.fork_as.new.self c.self.inside.offers (after_fork s p c.args.quota) kept (spaces ∙ ap (copied v.spaces p) (sym child)) book refl
     (well_formed-fork s p c.args.quota c.self.invariant.well_formed ok.0 ok.1)
 
 pub returns-clause-stay : goal.returns-clause-stay
-returns-clause-stay c = grind (arith, stays_then, c.fresh.ensures.stay, c.copy_space.ensures.stay)
+returns-clause-stay c = grind (arith, stays_then, c.fresh.ensures.stay, c.copy_charged_space.ensures.stay)
 
 pub returns-clause-lazy : goal.returns-clause-lazy
-returns-clause-lazy c = λ page. c.copy_space.ensures.lazy page ∙ c.fresh.ensures.lazy (at_page c.args.pid page)
+returns-clause-lazy c = λ page. c.copy_charged_space.ensures.lazy page ∙ c.fresh.ensures.lazy (at_page c.args.pid page)
     ∙ ap (λ (v : View). is_lazy_at (memory_of v) (at_page c.args.pid page)) c.self.view_is

@@ -1,5 +1,5 @@
 use Rattle.address_space.proofs.standing.FramesStand.{loose_then, stays_then}
-use Rattle.address_space.proofs.Spaces.drop_space.Goals as goal
+use Rattle.address_space.proofs.Spaces.drop_charged_space.Goals as goal
 
 pub returns-clause-stay : goal.returns-clause-stay
 returns-clause-stay c = stays_then c.drop_pages.ensures.stay c.drop_directory.ensures.stay

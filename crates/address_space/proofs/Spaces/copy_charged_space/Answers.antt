@@ -8,7 +8,7 @@ use Rattle.address_space.proofs.steps.Steps.{page_map_of}
 use Rattle.address_space.proofs.steps.Copies.{copied_at_first}
 use Rattle.address_space.proofs.steps.Openings.{empty_cost}
 use Rattle.address_space.proofs.steps.RegionCopies.{all_copied, region_begun, region_ended}
-use Rattle.address_space.proofs.Spaces.copy_space.Goals as goal
+use Rattle.address_space.proofs.Spaces.copy_charged_space.Goals as goal
 
 pub loop-region-init : goal.loop-region-init
 loop-region-init c =
