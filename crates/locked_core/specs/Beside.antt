@@ -17,8 +17,8 @@ pub record IsBeside (m : window.Moment) (keeps : Processors) (es : List Event) (
   pub step : Step m keeps es rs n last
   pub memory : memory_in n ≡ memory_in m
 
--- The calls of a history in sequence, with such steps before, between and after them. Each call begins a window; the one
--- before it has been replied to.
+-- The calls of a history in sequence, with such steps before, between and after them. Each call begins a window; that
+-- of the call before it has closed.
 pub data Together : List Moment → window.Moment → Processors → List Event → List Reply → window.Moment → Processors → Type 0 where
   none : {m : window.Moment} {keeps : Processors} → Together [] m keeps [] [] m keeps
   called : {log : List Moment} {done : Acknowledged} {v : View} {m : window.Moment} {keeps last : Processors} {es : List Event} {rs : List Reply}

@@ -1,4 +1,5 @@
--- Windows that are played on a core: the event begins, and processors make accesses by their walks before it ends.
+-- Windows that are played on a core: an event is carried out, and processors make accesses by their walks before the
+-- window closes.
 use Rattle.std.specs.Prelude.{◌≡◌, Bool, true, false, List, [], ◌∷◌, Option}
 use Rattle.process_table.specs.View.{View}
 use Rattle.kernel_calls.specs.Processors.{Processors}

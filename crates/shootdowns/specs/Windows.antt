@@ -38,7 +38,7 @@ pub record Begins (v : View) (e : Event) (r : Reply) (w : View) : Type 0 where
 
 -- ---- Moments
 
--- which processors have invalidated what the last event ended
+-- which processors have invalidated what the event ended whose window is open
 abbrev pub Acknowledged : Type 0
 Acknowledged = ℕ → Bool
 
@@ -52,11 +52,11 @@ with_one done i j = if j == i then true else done j
 abbrev pub usable : Ended → Acknowledged → Processors → Processors
 usable x done keeps i = if done i then keeps i else left_by x (keeps i)
 
--- what is under way: the memory, with the state of all events that the core carried out
+-- what is under way: the memory, with the state that all events lead to which the core carried out
 pub data Moment : Type 0 where
-  -- all of them are in the order; what the last one ended isn't used
+  -- all of them are in the order; a processor that hasn't invalidated uses nothing of what the window's event ended
   settled : Ended → Acknowledged → View → Moment
-  -- all but the last, which ends these and is answered so, are in the order, whose state this is
+  -- all but this one, which ends these and is answered so, are in the order, whose state this is
   under_way : Ended → Acknowledged → Event → Reply → State → View → Moment
 
 -- the memory then
@@ -64,7 +64,7 @@ abbrev pub memory_in : Moment → View
 memory_in (settled x done w) = w
 memory_in (under_way x done e r s w) = w
 
--- what the last event ended, and a processor that has invalidated it
+-- what the window's event ended, and a processor that has invalidated it
 abbrev pub ended_in : Moment → Ended
 ended_in (settled x done w) = x
 ended_in (under_way x done e r s w) = x
@@ -73,7 +73,7 @@ abbrev pub acknowledged : Moment → ℕ → Moment
 acknowledged (settled x done w) i = settled x (with_one done i) w
 acknowledged (under_way x done e r s w) i = under_way x (with_one done i) e r s w
 
--- a processor stores by what it keeps, and makes memory this; that it is a core's isn't assumed
+-- a processor stores by what it keeps, ended or not, and makes memory this; that it is a core's isn't assumed
 pub record IsStale (kept : List Kept) (w : View) (a : Event) (q : Reply) (bytes : List ℕ) : Type 0 where
   pub store : IsStore a.call
   pub frames : ℕ → ℕ
@@ -92,11 +92,11 @@ LeavesFree v w = (f : ℕ) → slice_get v.roles f ≡ Some Free → frame_bytes
 -- ---- Steps
 
 -- One step, with the events that come next in the order, and their replies or the values read. A window begins when
--- the core carries out an event, which comes in the order later. Until then, and if it only takes away, each processor
--- makes accesses by all that it keeps or by its walk, and marks directories' words. Then the event comes in
--- the order, and processors do what they do outside windows, except that none uses what it ended until it has
--- invalidated that. The window ends when all have, or keep nothing of it: then the event is replied to, and the next may
--- begin. At each moment a processor may begin to keep what a walk reads then, or forget some of what it keeps.
+-- the core carries out an event. The event comes in the order later. Until it does, and only if it takes away,
+-- processors make accesses by all that they keep or by their walks, and mark directories' words. After it, processors
+-- do what they do outside windows, except that none uses what it ended until it has invalidated that. The window ends
+-- when all have, or keep nothing of it: then the event is replied to, and the next window may begin. At any time a
+-- processor may begin to keep what a walk reads then, forget some of what it keeps, or invalidate.
 pub data Step : Moment → Processors → List Event → List Reply → Moment → Processors → Type 0 where
   begun : {v w : View} {done : Acknowledged} {keeps : Processors} {e : Event} {r : Reply} → Begins v e r w
       → Step (settled end.Nothing done v) keeps [] [] (under_way (ended_by v e) nobody e r v.state w) keeps
@@ -161,8 +161,8 @@ ShootdownsMakeEvents = (v : View) (m : Moment) (keeps last : Processors) (events
     → IsCore v → AllAreRead v keeps → Steps (settled end.Nothing nobody v) keeps events replies m last
     → AreInOrder v events replies m last
 
--- Take a store by what a processor keeps, made after an event that only takes away. It is answered as if made before the
--- event, and the event as if carried out after it. Memory is a core's after both.
+-- Take a store by what a processor keeps, ended or not, made after an event that only takes away. It is answered as if
+-- made before the event, and the event as if carried out after it. Memory is a core's after both.
 abbrev pub StaleStoresComeFirst : Type 0
 StaleStoresComeFirst = (v w : View) (keeps : Processors) (i : ℕ) (e a : Event) (r q : Reply) (bytes : List ℕ) → IsCore v
     → AllAreRead v keeps → Begins v e r w → only_takes e.call ≡ true → IsStale (keeps i) w a q bytes
@@ -181,7 +181,7 @@ WalksComeFirst = (v w u : View) (e a : Event) (r q : Reply) → IsCore v → Beg
     → IsWalked w a q u → LeavesFree w u
     → (q ≡ answer v.state a) × (r ≡ answer (next v.state a) e) × (u.state ≡ next (next v.state a) e) × IsCore u
 
--- After any event, walks read all that was kept and isn't ended.
+-- After any event, walks read all that was kept and isn't invalidated for it.
 abbrev pub OthersAreRead : Type 0
 OthersAreRead = (v w : View) (keeps : Processors) (e : Event) (r : Reply) → IsCore v → AllAreRead v keeps → Begins v e r w
     → AllAreRead w (usable (ended_by v e) nobody keeps)

@@ -4,14 +4,14 @@ ghost use Rattle.shootdowns.specs.Windows.{OthersAreRead, OthersEndNothing, Shoo
 ghost use Rattle.shootdowns.specs.Windows.{StaleLoadsComeFirst, StaleStoresComeFirst, WalksComeFirst};
 
 /// States which events the steps of a core and its processors are, where invalidating takes time. The accesses come in
-/// the order in which they are made. Each event comes in it between its begin and the last invalidation, after each
-/// access by what it ended. Only events that only take away may have such accesses. Replies and values are the answers
+/// the order in which they are made. Each event comes in it after its begin and before its window closes, behind each
+/// access by what it ended. Such accesses are made only if the event only takes away. Replies and values are the answers
 /// to the events in that order, and memory is a core's at each moment (`steps`).
 ///
-/// What others may do before all have invalidated depends on the event. It may only take away. Then a load or store by
+/// What processors may do before all have invalidated depends on the event. If it only takes away, a load or store by
 /// what a processor keeps (`loads`, `stale`), and an access by a walk (`walks`), come before it in the order. After an
-/// event of any kind walks read all that was kept and isn't ended (`kept`). All but Unmap, Exit, Protect to read only,
-/// Accept and Store end nothing (`nothing`). It computes nothing.
+/// event of any kind walks read all that was kept and isn't invalidated for it (`kept`). All but Unmap, Exit, Protect to
+/// read only, Accept and Store end nothing (`nothing`). It computes nothing.
 pub fn shootdowns_make_events()
     ensures steps { ShootdownsMakeEvents }
     ensures stale { StaleStoresComeFirst }
