@@ -113,7 +113,9 @@ bool write_memory(struct kernel *it, uint32_t pid, uint32_t address, const uint8
         it->moves += give_up(&it->books[home], pid);
         it->homes[pid] = NO_PROCESSOR;
     }
+    stop_others();
     need(tower_write(it->core, pid, address, bytes, count, &moved, &stop), "a core answers");
+    others_go_on();
     invalidate_written(&it->books[here], pid, address, count);
     return stop.kind == TOWER_DONE;
 }

@@ -62,6 +62,37 @@ static void end_step(void) {
     atomic_store(&is_stepping, false);
 }
 
+/* ---- An access */
+
+static uint32_t random_page(void) {
+    static const uint32_t pages[] = {0x40001, 0x40002, 0x40400, 0x50000};
+    return pages[random(sizeof pages / sizeof *pages)];
+}
+
+/* Returns whether the walks no longer give what an access used. */
+static bool is_stale(const struct access *it, uint32_t frame) {
+    struct walk now = walk_of(memory, FRAMES, it->directory, it->address, it->is_store);
+    return now.kind != WALK_FOUND || now.frame != frame;
+}
+
+/* Makes an access as one step, and notes it. Returns whether it completed. */
+static bool access_once(struct tower_event event) {
+    struct access it = {.cpu = this_processor(), .identifier = mine()->identifier, .directory = mine()->directory,
+                        .address = event.first, .size = event.flag, .value = event.second,
+                        .is_store = event.call == TOWER_STORE};
+    begin_step();
+    struct walk end = cache_access(&it);
+    if (end.kind == WALK_FOUND) {
+        struct note made = access_note(mine()->pid, event, it.value);
+        begin_note(&made);
+        note(&made);
+        within += is_open;
+        stale += is_open && is_stale(&it, end.frame);
+    }
+    end_step();
+    return end.kind == WALK_FOUND;
+}
+
 /* ---- Events */
 
 /* Invalidates on this processor. Nobody runs a process here that has exited. */
@@ -106,8 +137,19 @@ static bool begin_event(void) {
 /* Returns whether an event gives something with what it ends: a page of its own in place of a lazy one. */
 static bool gives(const struct tower_event *event) {
     struct tower_ended would = {0};
-    bool is_giver = event->call == TOWER_STORE || event->call == TOWER_ACCEPT;
-    return is_giver && tower_ends(core, event, &would) && would.kind != TOWER_ENDS_NOTHING;
+    if (event->call != TOWER_STORE && event->call != TOWER_ACCEPT) {
+        return false;
+    }
+    begin_step();
+    bool is_known = tower_ends(core, event, &would);
+    end_step();
+    return is_known && would.kind != TOWER_ENDS_NOTHING;
+}
+
+/* Returns whether all others have to stand still while an event is carried out, and until they have invalidated. */
+static bool stops_others(const struct tower_event *event) {
+    return event->call == TOWER_EXIT
+           || (gives(event) && wrong != (event->call == TOWER_STORE ? WRONG_GIVE : WRONG_LEND));
 }
 
 /* A wrong version: the next event begins in the window. It may give the frame that was freed to another process. Its
@@ -136,6 +178,7 @@ static void shoot_down(void) {
 static struct tower_reply carry_out(struct tower_event event) {
     struct note it = {.event = event}, early;
     struct tower_ended by = {0};
+    begin_note(&it);
     begin_step();
     need(tower_step_ending(core, &event, &it.reply, &by), "a core answers");
     bool has_window = by.kind != TOWER_ENDS_NOTHING;
@@ -149,6 +192,9 @@ static struct tower_reply carry_out(struct tower_event event) {
     end_step();
     if (has_window) {
         bool is_early = wrong == WRONG_FRAME && give_early(&event, &early);
+        if (wrong == WRONG_TOLD) {
+            access_once(tower_load(mine()->pid, random_page() << 12, 1));
+        }
         shoot_down();
         begin_step();
         if (wrong != WRONG_REPLY) {
@@ -166,7 +212,7 @@ static struct tower_reply carry_out(struct tower_event event) {
 /* Makes an event of a process, with the lock. */
 static struct tower_reply event_of(uint32_t pid, struct tower_event event) {
     event.pid = (uint8_t)pid;
-    bool stops = (gives(&event) && wrong != WRONG_GIVE) || event.call == TOWER_EXIT;
+    bool stops = stops_others(&event);
     if (stops) {
         stop_others();
     }
@@ -187,29 +233,6 @@ static struct tower_reply call(struct tower_event event) {
 }
 
 /* ---- Accesses */
-
-/* Returns whether the walks no longer give what an access used. */
-static bool is_stale(const struct access *it, uint32_t frame) {
-    struct walk now = walk_of(memory, FRAMES, it->directory, it->address, it->is_store);
-    return now.kind != WALK_FOUND || now.frame != frame;
-}
-
-/* Makes an access as one step, and notes it. Returns whether it completed. */
-static bool access_once(struct tower_event event) {
-    struct access it = {.cpu = this_processor(), .identifier = mine()->identifier, .directory = mine()->directory,
-                        .address = event.first, .size = event.flag, .value = event.second,
-                        .is_store = event.call == TOWER_STORE};
-    begin_step();
-    struct walk end = cache_access(&it);
-    if (end.kind == WALK_FOUND) {
-        struct note made = access_note(mine()->pid, event, it.value);
-        note(&made);
-        within += is_open;
-        stale += is_open && is_stale(&it, end.frame);
-    }
-    end_step();
-    return end.kind == WALK_FOUND;
-}
 
 /* Handles a fault: the core gets an event for the byte, unless the walk allows the access by now. Returns whether the
  * access is to be made again. */
@@ -253,11 +276,6 @@ static void access_often(uint32_t page) {
 }
 
 /* ---- What a process does */
-
-static uint32_t random_page(void) {
-    static const uint32_t pages[] = {0x40001, 0x40002, 0x40400, 0x50000};
-    return pages[random(sizeof pages / sizeof *pages)];
-}
 
 /* Makes a child, a copy or an empty one. A fork copies in one step. */
 static void make_child(void) {
@@ -322,17 +340,17 @@ static void accept(uint32_t page) {
 
 static void act(void) {
     uint32_t page = random_page(), what = random(64);
-    if (what < 34) {
+    if (what < 28) {
         access_often(page);
-    } else if (what < 42) {
+    } else if (what < 36) {
         call((struct tower_event){.call = TOWER_UNMAP, .first = page});
         access_often(page);
-    } else if (what < 50) {
+    } else if (what < 44) {
         call((struct tower_event){.call = TOWER_PROTECT, .flag = (uint8_t)random(2), .first = page});
         access_often(page);
-    } else if (what < 52) {
+    } else if (what < 46) {
         call((struct tower_event){.call = TOWER_UNMAP, .first = 0x60000 + random(8)});
-    } else if (what < 56) {
+    } else if (what < 53) {
         offer(page);
     } else if (what < 61) {
         accept(page);

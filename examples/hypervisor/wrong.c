@@ -32,7 +32,9 @@ static const struct {
     {"acknowledge", SHOOTDOWNS, "a processor acknowledges before it invalidates"},
     {"reply", SHOOTDOWNS, "the event comes in the order before all have invalidated"},
     {"frame", SHOOTDOWNS, "a freed frame is given while a processor keeps it"},
-    {"give", SHOOTDOWNS, "the others go on while a lazy page gets a frame"},
+    {"give", SHOOTDOWNS, "the others go on while a store fills a lazy page"},
+    {"lend", SHOOTDOWNS, "the others go on while a lazy page is accepted"},
+    {"told", SHOOTDOWNS, "a caller goes on before its window has closed"},
 };
 
 static bool is_same(const char *a, const char *b) {

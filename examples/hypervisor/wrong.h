@@ -26,6 +26,8 @@ enum wrong {
     WRONG_REPLY,
     WRONG_FRAME,
     WRONG_GIVE,
+    WRONG_LEND,
+    WRONG_TOLD,
 };
 extern enum wrong wrong;
 
