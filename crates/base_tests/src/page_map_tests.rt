@@ -22,37 +22,56 @@ fn empty_map(alloc: Global) -> Result<Memory, MemoryFault>
     Ok(memory)
 }
 
+/// The first page of the user range, and what it is mapped to.
+const PAGE: Page = Page(0x40000);
+const MAPPED: PageEntry = PageEntry {
+    frame: Frame(3),
+    write: true,
+    may: true,
+    accessed: false,
+    dirty: false,
+    lazy: false,
+};
+
 #[test]
-fn maps_and_clears_a_page(rt: HostRuntime) -> Result<(), Fail> {
+fn links_a_table(rt: HostRuntime) -> Result<(), Fail> {
     let mut memory = empty_map(rt.alloc())?;
     let directory = Frame(1);
-    let page = Page(0x40000);
     assert!(rt; !has_table(&memory, directory, 256));
     link_table(&mut memory, directory, 256, Frame(2));
     assert_eq!(rt; memory.read_word(0x1400), 0x2007);
     assert!(rt; has_table(&memory, directory, 256));
-    let mapped = PageEntry {
-        frame: Frame(3),
-        write: true,
-        may: true,
-        accessed: false,
-        dirty: false,
-        lazy: false,
-    };
-    set_entry(&mut memory, directory, page, mapped);
+    Ok(())
+}
+
+#[test]
+fn maps_a_page(rt: HostRuntime) -> Result<(), Fail> {
+    let mut memory = empty_map(rt.alloc())?;
+    let directory = Frame(1);
+    link_table(&mut memory, directory, 256, Frame(2));
+    set_entry(&mut memory, directory, PAGE, MAPPED);
     assert_eq!(rt; memory.read_word(0x2000), 0x3a07);
-    match entry(&memory, directory, page) {
+    match entry(&memory, directory, PAGE) {
         Some(PageEntry { frame, write, .. }) => {
             assert_eq!(rt; frame, Frame(3));
             assert!(rt; write);
         }
         None => assert!(rt; false, "the page is mapped"),
     }
+    Ok(())
+}
+
+#[test]
+fn clears_a_page(rt: HostRuntime) -> Result<(), Fail> {
+    let mut memory = empty_map(rt.alloc())?;
+    let directory = Frame(1);
+    link_table(&mut memory, directory, 256, Frame(2));
+    set_entry(&mut memory, directory, PAGE, MAPPED);
     assert_eq!(rt; pages(&memory, directory), 1);
-    assert_eq!(rt; next_page(&memory, directory, Page(0)), Some(page));
+    assert_eq!(rt; next_page(&memory, directory, Page(0)), Some(PAGE));
     assert_eq!(rt; next_page(&memory, directory, Page(0x40001)), None);
     assert!(rt; has_table(&memory, directory, 256));
-    assert_eq!(rt; clear_entry(&mut memory, directory, page), Some(Frame(2)));
+    assert_eq!(rt; clear_entry(&mut memory, directory, PAGE), Some(Frame(2)));
     assert_eq!(rt; pages(&memory, directory), 0);
     Ok(())
 }
