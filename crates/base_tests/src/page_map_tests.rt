@@ -49,6 +49,7 @@ fn maps_a_page(rt: HostRuntime) -> Result<(), Fail> {
     let mut memory = empty_map(rt.alloc())?;
     let directory = Frame(1);
     link_table(&mut memory, directory, 256, Frame(2));
+    assert!(rt; has_table(&memory, directory, 256));
     set_entry(&mut memory, directory, PAGE, MAPPED);
     assert_eq!(rt; memory.read_word(0x2000), 0x3a07);
     match entry(&memory, directory, PAGE) {
@@ -66,6 +67,7 @@ fn clears_a_page(rt: HostRuntime) -> Result<(), Fail> {
     let mut memory = empty_map(rt.alloc())?;
     let directory = Frame(1);
     link_table(&mut memory, directory, 256, Frame(2));
+    assert!(rt; has_table(&memory, directory, 256));
     set_entry(&mut memory, directory, PAGE, MAPPED);
     assert_eq!(rt; pages(&memory, directory), 1);
     assert_eq!(rt; next_page(&memory, directory, Page(0)), Some(PAGE));
