@@ -24,6 +24,7 @@ fn empty_map(alloc: Global) -> Result<Memory, MemoryFault>
 
 /// The first page of the user range, and what it is mapped to.
 const PAGE: Page = Page(0x40000);
+
 const MAPPED: PageEntry = PageEntry {
     frame: Frame(3),
     write: true,
