@@ -107,6 +107,7 @@ impl<N: Name> Locked<N> {
         requires spare { writer.desk.spare.value ≡ page N.frames N.book.history [] }
         ensures log { result.log ≡ [] }
         ensures core { result.core.state ≡ open_with N.frames }
+        ensures watched { result.is_watched ≡ is_watched }
     {
         core.stands();
         Locked {
