@@ -452,7 +452,7 @@ static void try_version(const char *version, bool is_storm) {
         try_storm(TURNS, false, &tower);
         return;
     }
-    for (uint32_t round = 0; round < ROUNDS; round++) {
+    for (uint32_t round = 0; round < (wrong == RIGHT ? 1 : ROUNDS); round++) {
         try_shootdowns(TURNS, &tower);
         tower_free(&tower);
     }
