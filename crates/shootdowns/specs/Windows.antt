@@ -52,7 +52,7 @@ with_one done i j = if j == i then true else done j
 abbrev pub usable : Ended → Acknowledged → Processors → Processors
 usable x done keeps i = if done i then keeps i else left_by x (keeps i)
 
--- what is under way: the memory, with the state that all events lead to which the core carried out
+-- what is under way: the memory, with the state after all events that the core carried out
 pub data Moment : Type 0 where
   -- all of them are in the order; a processor that hasn't invalidated uses nothing of what the window's event ended
   settled : Ended → Acknowledged → View → Moment
