@@ -27,7 +27,7 @@ pub use Rattle.address_space.specs.Changes.{SlotAdded, SlotCopied, SlotJoined, S
 pub use Rattle.address_space.specs.Changes.{TableGiven, Touched, flagged, table_need, takes_stores_through, words_left}
 pub use Rattle.address_space.specs.Counts.{AlwaysMapsAlike, AreCountedSpaces, IsCounted, KeepsCounts, MapsAlike}
 pub use Rattle.address_space.specs.Counts.{MapsOneMore, pages_by, pages_under, region_pages}
-pub use Rattle.address_space.specs.Finds.{BytesStored, CountedUp, EntryCopied, EntryIs, FrameGiven, LiesIn, TableReady}
+pub use Rattle.address_space.specs.Finds.{BytesStored, CountedUp, EntryCopied, EntryIs, FrameGiven, LiesIn, TableGot, TableReady, TakesPage}
 pub use Rattle.address_space.specs.Finds.{entry_found, found_by, found_in, lazy_found}
 pub use Rattle.address_space.specs.Image.{CellStands, Image, IsCount, IsOneGroup, IsSoundImage, LeavesRoom, SlotStands}
 pub use Rattle.address_space.specs.Image.{StandsFor, StandsForOne, directory_at, image_from, image_of, is_lazy_at}

@@ -8,7 +8,7 @@ use Rattle.alloc_table.specs.declared.Role.{Role}
 use Rattle.alloc_table.specs.Roles.{IsReleased}
 use Rattle.page_map.specs.declared.PageEntry.{PageEntry}
 use Rattle.page_map.specs.Pages.{count_range}
-use Rattle.page_map.specs.Entries.{Frames, dir_word, table_of, entry_at, with_entry, is_lazy_entry}
+use Rattle.page_map.specs.Entries.{Frames, dir_word, table_of, with_entry, is_lazy_entry}
 use Rattle.page_words.specs.FiniteMap as map
 use Rattle.page_words.specs.FiniteSet as set
 use Rattle.address_space.specs.Spaces.{cell_or_fresh, Slot, Spaces, cost, need, fresh, joined, without, is_slot, is_of, at_page, copy_of, copied}
@@ -32,6 +32,7 @@ pub record TableGiven (directories : List (Option ℕ)) (p s : ℕ) (bytes : Lis
   -- each table that was there is there
   pub tables : (q r t : ℕ) → table_in (directory_of directories) (frame_bytes bytes) q r ≡ Some t
       → table_in (directory_of directories) (frame_bytes bytes') q r ≡ Some t
+  pub kept : (q r t : ℕ) → table_in (directory_of directories) (frame_bytes bytes) q r ≡ Some t → frame_bytes bytes' t ≡ frame_bytes bytes t
   pub weight : weight_in directories bytes' roles' ≡ weight_in directories bytes roles + table_need (table_in (directory_of directories) (frame_bytes bytes) p s)
   pub length : length roles' ≡ length roles
   pub others : (q r : ℕ) → (q ≡ p → r ≡ s → ⊥) → InUseAt (directory_of directories) (frame_bytes bytes) q r → InUseAt (directory_of directories) (frame_bytes bytes') q r
@@ -122,13 +123,6 @@ pub record SlotRemoved (directories : List (Option ℕ)) (p page : ℕ) (bytes :
   pub spaces : spaces_in directories bytes' ≡ without (spaces_in directories bytes) (is_slot p page)
   pub stay : PlacesStay (of_page p page) (directory_of directories) (frame_bytes bytes) (directory_of directories) (frame_bytes bytes')
   pub length : length roles' ≡ length roles
-
--- a process has this entry at a page
-pub record IsEntry (directories : List (Option ℕ)) (bytes : List ℕ) (page : ℕ) (e : PageEntry) : Type 0 where
-  pub process : ℕ
-  pub directory : ℕ
-  pub live : directory_of directories process ≡ Some directory
-  pub entry : entry_at (frame_bytes bytes) directory page ≡ Some e
 
 -- no page of a process is mapped
 abbrev pub IsEmptySpace : Spaces → ℕ → Type 0

@@ -1,7 +1,7 @@
 -- Where a page is, as directories and memory say, and what is written there.
-use Rattle.std.specs.Prelude.{◌≡◌, ◌⊎◌, ℕ, ◌+◌, ◌*◌, ◌≤◌, Bool, true, false, List, length, replicate, Option, Some, None, slice_get, slice_set}
+use Rattle.std.specs.Prelude.{◌≡◌, ◌⊎◌, ℕ, ◌+◌, ◌*◌, ◌≤◌, Bool, true, false, List, length, replicate, Option, Some, None, is_some, slice_get, slice_set}
 use Rattle.std.specs.Option.{option_and_then, option_map}
-use Rattle.page_words.specs.Addresses.{slot_number, index_number}
+use Rattle.page_words.specs.Addresses.{slot_number, index_number, IsUserPage}
 use Rattle.phys_memory.specs.Bytes.{frame_bytes, word_in, with_frame, with_frame_bytes}
 use Rattle.alloc_table.specs.declared.Role.{Role}
 use Rattle.alloc_table.specs.declared.Role.TheVariants.{Page, Table}
@@ -9,9 +9,9 @@ use Rattle.alloc_table.specs.Roles.{IsTaken}
 use Rattle.page_map.specs.Entries.{Frames, table_of, word_entry, with_entry, with_table}
 use Rattle.page_map.specs.declared.PageEntry.{PageEntry}
 use Rattle.address_space.specs.declared.place.Found.{Found}
-use Rattle.address_space.specs.Spaces.{write_at}
-use Rattle.address_space.specs.View.{View, Directories, directory_of, table_in}
-use Rattle.address_space.specs.Sound.{Inside}
+use Rattle.address_space.specs.Spaces.{need, write_at}
+use Rattle.address_space.specs.View.{View, Directories, directory_of, spaces_in, table_in, total_cost}
+use Rattle.address_space.specs.Sound.{Inside, IsSpaces}
 
 -- ---- Where a page is
 
@@ -84,6 +84,17 @@ pub record TableIsNew (bytes : List ℕ) (roles : List Role) (p d s t : ℕ) (by
 -- a table of the region: the one that was there, or a new one
 abbrev pub TableReady : List ℕ → List Role → ℕ → ℕ → ℕ → ℕ → List ℕ → List Role → Type 0
 TableReady bytes roles p d s t bytes' roles' = TableStays bytes roles d s t bytes' roles' ⊎ TableIsNew bytes roles p d s t bytes' roles'
+
+-- where a process has room for a page
+pub record TakesPage (directories : List (Option ℕ)) (bytes : List ℕ) (roles : List Role) (p page : ℕ) : Type 0 where
+  pub user : IsUserPage page
+  pub live : is_some (directory_of directories p) ≡ true
+  pub spaces : IsSpaces directories bytes roles
+  pub room : 1 + total_cost directories (spaces_in directories bytes) + need (spaces_in directories bytes) p page ≤ length roles
+
+-- its region has this table, by the process's directory
+abbrev pub TableGot : List (Option ℕ) → List ℕ → List Role → ℕ → ℕ → ℕ → List ℕ → List Role → Type 0
+TableGot directories bytes roles p page t bytes' roles' = (d : ℕ) × (directory_of directories p ≡ Some d) × TableReady bytes roles p d (slot_number page) t bytes' roles'
 
 -- a table maps one page more
 abbrev pub CountedUp : List ℕ → ℕ → List ℕ → Type 0

@@ -16,3 +16,4 @@ pub mod Stays
 pub mod View
 pub mod Walks
 pub mod Restored
+pub mod Words

@@ -1,15 +1,10 @@
 //! Loads and stores through pages that were found, one page or two.
 
-ghost use Rattle.std.specs.Prelude.{◌≡◌, ◌+◌, ◌-◌, ◌<◌, ◌≤◌, ◌^◌, [], ◌∷◌, ◌++◌, length, slice_index, true, Some, ◌*◌, false, is_some};
-ghost use Rattle.page_words.specs.Addresses.{byte_count, page_number, offset_number, covered, second_page, touched, EachTouched, IsUserPage};
-ghost use Rattle.phys_memory.specs.Bytes.{frame_bytes, with_frame};
-ghost use Rattle.address_space.specs.Spaces.{write_at, bytes_of, value_of, bytes_at, at_page, cell_or_fresh, number_of, all_accessed, all_stored};
-ghost use Rattle.address_space.specs.Sound.{Inside};
-ghost use Rattle.address_space.specs.Finds.{LiesIn, EntryIs, BytesStored};
-ghost use Rattle.std.specs.Option.{option_map};
-ghost use Rattle.address_space.specs.Image.{image_of, is_lazy_at};
-ghost use Rattle.address_space.specs.Stays.{FramesStay, none_goes};
-ghost use Rattle.address_space.specs.Places.{place_in};
+ghost use Rattle.std.specs.Prelude.{Some, [], false, is_some, length, slice_index, true, ◌*◌, ◌++◌, ◌+◌, ◌-◌, ◌<◌, ◌^◌, ◌∷◌, ◌≡◌, ◌≤◌};
+ghost use Rattle.address_space.specs.Words.{BytesStored, EachTouched, EntryIs, FramesStay, Inside, IsUserPage, LiesIn, all_accessed, all_stored};
+ghost use Rattle.address_space.specs.Words.{at_page, byte_count, bytes_at, bytes_of, cell_or_fresh, covered, frame_bytes, image_of, is_lazy_at};
+ghost use Rattle.address_space.specs.Words.{none_goes, number_of, option_map, page_number, place_in, second_page, touched, value_of, with_frame};
+ghost use Rattle.address_space.specs.Words.{write_at};
 ghost use Rattle.page_words.specs.FiniteMap as map;
 
 use crate::Spaces;
@@ -120,20 +115,6 @@ pub fn set_flags(memory: &mut Memory, found: &Found, write: bool, accessed: bool
     }
 }
 
-/// The number that a page has at a place; accessed is set in its entry.
-#[inline(always)]
-pub fn load(memory: &mut Memory, found: &Found, at: u32, size: Size) -> u32
-    requires lies { LiesIn memory.old found.now }
-    requires inside { at + byte_count size ≤ 4096 }
-    ensures value { result ≡ value_of (bytes_at (frame_bytes memory.old found.now.entry.frame) at (byte_count size)) }
-    ensures entry { EntryIs memory.old found.now (record found.now.entry { accessed = true }) memory.new }
-    ensures length { length memory.new ≡ length memory.old }
-{
-    let value = number_at(memory, found.entry.frame, at, size);
-    set_flags(memory, found, found.entry.write, true, found.entry.dirty);
-    value
-}
-
 /// Writes the lowest byte of a number.
 pub fn put_byte(memory: &mut Memory, frame: Frame, at: u32, value: u32)
     requires frame { Inside memory.old frame }
@@ -143,17 +124,6 @@ pub fn put_byte(memory: &mut Memory, frame: Frame, at: u32, value: u32)
     ensures length { length memory.new ≡ length memory.old }
 {
     memory.write_byte(place_of(frame, at), (value % 256) as u8);
-}
-
-/// Writes the lowest four bytes of a number.
-fn put_word(memory: &mut Memory, frame: Frame, at: u32, value: u32)
-    requires frame { Inside memory.old frame }
-    requires inside { at + 4 ≤ 4096 }
-    ensures frames { frame_bytes memory.new ≡ with_frame (frame_bytes memory.old) frame
-        (write_at (frame_bytes memory.old frame) at (bytes_of 4 value)) }
-    ensures length { length memory.new ≡ length memory.old }
-{
-    memory.write_word(place_of(frame, at), value);
 }
 
 /// The frame, the place in it and the bytes of a store that lie in one page.
@@ -170,7 +140,7 @@ fn put_bytes(memory: &mut Memory, frame: Frame, at: u32, size: Size, value: u32)
             put_byte(memory, frame, at, value);
             put_byte(memory, frame, at + 1, value / 256);
         }
-        Size::Four => put_word(memory, frame, at, value),
+        Size::Four => memory.write_word(place_of(frame, at), value),
     }
 }
 
@@ -184,29 +154,14 @@ pub fn store(memory: &mut Memory, found: &Found, at: u32, size: Size, value: u32
     set_flags(memory, found, found.entry.write, true, true);
 }
 
-/// Sets whether a page may be written.
-pub fn set_right(memory: &mut Memory, found: &Found, write: bool)
-    requires lies { LiesIn memory.old found.now }
-    ensures entry { EntryIs memory.old found.now (record found.now.entry { write = write }) memory.new }
-    ensures length { length memory.new ≡ length memory.old }
+/// The second page of an access that has one.
+#[inline(always)]
+fn page_behind(address: Vaddr, size: Size) -> Page
+    requires { is_some (second_page address size) ≡ true }
+    ensures { second_page address size ≡ Some result }
 {
-    set_flags(
-        memory,
-        found,
-        write,
-        found.entry.accessed,
-        found.entry.dirty,
-    );
-}
-
-/// Clears accessed and dirty of a page.
-pub fn clear_marks(memory: &mut Memory, found: &Found)
-    requires lies { LiesIn memory.old found.now }
-    ensures entry { EntryIs memory.old found.now (record found.now.entry { accessed = false; dirty = false })
-        memory.new }
-    ensures length { length memory.new ≡ length memory.old }
-{
-    set_flags(memory, found, found.entry.write, false, false);
+    let _ = size;
+    Page(page_of(address).0 + 1)
 }
 
 /// The four bytes of a number, the lowest first.
@@ -296,14 +251,14 @@ impl Spaces {
             (second_page address size) }
         ensures { result ≡ number_of self.now.spaces pid (covered address size) }
     {
-        match second_page(address, size) {
+        match second {
             None => {
                 let frame = self.frame_at(pid, page_of(address), first);
                 number_at(&self.memory, frame, offset_of(address), size)
             }
-            Some(behind) => {
-                let second = second.unwrap();
-                self.number_over(pid, address, size, behind, first, &second)
+            Some(second) => {
+                let behind = page_behind(address, size);
+                self.number_over(pid, address, size, behind, first, second)
             }
         }
     }
@@ -347,16 +302,17 @@ impl Spaces {
         ensures directories { self.new.directories ≡ self.old.directories }
         ensures roles { self.new.roles ≡ self.old.roles }
     {
-        match second_page(address, size) {
+        match second {
             None => self.load_at(pid, address, size, first),
-            Some(behind) => {
-                let second = second.unwrap();
-                self.load_over(pid, address, size, behind, first, &second)
+            Some(second) => {
+                let behind = page_behind(address, size);
+                self.load_over(pid, address, size, behind, first, second)
             }
         }
     }
 
     /// The number whose bytes lie in two mapped pages; accessed is set in the slot of each.
+    #[inline(always)]
     fn load_over(
         &mut self,
         pid: Pid,
@@ -402,6 +358,7 @@ impl Spaces {
     }
 
     /// Stores, as `write` does. The places are those of the pages that the bytes lie in.
+    #[inline(always)]
     pub fn write_at(
         &mut self,
         pid: Pid,
@@ -423,11 +380,11 @@ impl Spaces {
         ensures directories { self.new.directories ≡ self.old.directories }
         ensures roles { self.new.roles ≡ self.old.roles }
     {
-        match second_page(address, size) {
+        match second {
             None => self.store_at(pid, address, size, value, first),
-            Some(behind) => {
-                let second = second.unwrap();
-                self.store_over(pid, address, size, value, behind, first, &second);
+            Some(second) => {
+                let behind = page_behind(address, size);
+                self.store_over(pid, address, size, value, behind, first, second);
             }
         }
     }

@@ -1,17 +1,11 @@
 //! What a process is charged for, and what its charge falls by when a page goes.
 
-ghost use Rattle.std.specs.Prelude.{◌≡◌, ℕ, ◌+◌, ◌<◌, ◌≤◌, true, List, Option, Some, is_some};
+ghost use Rattle.std.specs.Prelude.{List, Option, Some, if◌then◌else◌, is_some, true, ℕ, ◌+◌, ◌==◌, ◌≡◌, ◌≤◌};
+ghost use Rattle.address_space.specs.Words.{IsPageMap, IsSpaces, IsUserPage, at_page, cost, directory_of, is_slot, pages_of, place_in, regions_of};
+ghost use Rattle.address_space.specs.Words.{spaces_in, without};
 ghost use Rattle.alloc_table.specs.declared.Role.{Role as RoleValue};
-ghost use Rattle.page_words.specs.Addresses.{IsUserPage};
 ghost use Rattle.page_words.specs.FiniteMap as map;
 ghost use Rattle.page_words.specs.FiniteSet as set;
-ghost use Rattle.phys_memory.specs.Bytes.{frame_bytes};
-ghost use Rattle.page_map.specs.Entries.{table_of, IsPageMap};
-ghost use Rattle.page_map.specs.Pages.{counted};
-ghost use Rattle.address_space.specs.Spaces.{cost, pages_of, regions_of, without, is_slot, at_page};
-ghost use Rattle.address_space.specs.View.{directory_of, spaces_in};
-ghost use Rattle.address_space.specs.Places.{place_in};
-ghost use Rattle.address_space.specs.Sound.{IsSpaces};
 
 use crate::mapping::count_at;
 use crate::place::Place;
@@ -19,20 +13,6 @@ use crate::{Spaces, home};
 use page_map::{FIRST_SLOT, SLOT_END};
 use page_words::{Frame, Page, Pid, WIDE_FRAMES};
 use phys_memory::Memory;
-
-/// 1 where a slot has a table, and else 0.
-fn table_count(memory: &Memory, directory: Frame, slot: u32) -> u32
-    requires slot { slot < 1024 }
-    requires map { IsPageMap memory.now directory }
-    ensures count { result ≡ counted (is_some (table_of (frame_bytes memory.now) directory slot)) }
-    ensures bound { result ≤ 1 }
-{
-    if page_map::has_table(memory, directory, slot) {
-        1
-    } else {
-        0
-    }
-}
 
 /// A process's directory, tables and pages together.
 fn sum(tables: u32, pages: u32) -> u32
@@ -51,9 +31,17 @@ fn tables(memory: &Memory, directory: Frame) -> u32
 {
     let mut tables = 0;
     for slot in FIRST_SLOT..SLOT_END {
-        tables += table_count(memory, directory, slot);
+        tables += page_map::has_table(memory, directory, slot) as u32;
     }
     tables
+}
+
+/// What a process's cost falls by when a page goes whose table maps so many: 2 where it is the last, whose table goes
+/// too, else 1.
+pub(crate) fn relief(mapped: u32) -> u32
+    ensures { result ≡ (if mapped == 1 then 2 else 1) }
+{
+    if mapped == 1 { 2 } else { 1 }
 }
 
 impl Spaces {
@@ -80,7 +68,6 @@ impl Spaces {
     {
         let counts = &self.counts;
         let found = place.found().unwrap();
-        let mapped = count_at(counts, found.table);
-        if mapped == 1 { 2 } else { 1 }
+        relief(count_at(counts, found.table))
     }
 }

@@ -1,21 +1,13 @@
 //! Pages that come: of zeros, on the frame of another, and lazy ones that get their frame.
 
-ghost use Rattle.std.specs.Prelude.{◌≡◌, ◌+◌, ◌≤◌, None, Some, length, is_some, true, false, ◌*◌, Option, slice_get, ◌<◌, ◌-◌, ℕ, slice_set};
-ghost use Rattle.page_words.specs.Addresses.{IsUserPage, slot_number};
-ghost use Rattle.address_space.specs.Spaces.{need, fresh, joined, at_page};
-ghost use Rattle.address_space.specs.View.{directory_of, total_cost};
-ghost use Rattle.address_space.specs.Image.{image_of, is_lazy_at};
-ghost use Rattle.address_space.specs.Stays.{FramesStay, none_goes};
-ghost use Rattle.address_space.specs.Places.{place_in};
-ghost use Rattle.phys_memory.specs.Bytes.{frame_bytes};
-ghost use Rattle.alloc_table.specs.Roles.{free_frames};
-ghost use Rattle.page_map.specs.Entries.{IsPageMap, table_of};
-ghost use Rattle.address_space.specs.Changes.{table_need};
-ghost use Rattle.address_space.specs.Finds.{TableReady, LiesIn, FrameGiven, CountedUp};
+ghost use Rattle.std.specs.Prelude.{None, Option, Some, false, is_some, length, slice_get, slice_set, true, ℕ, ◌*◌, ◌+◌, ◌-◌, ◌<◌, ◌≡◌, ◌≢◌, ◌≤◌};
+ghost use Rattle.address_space.specs.Words.{CountedUp, FrameGiven, FramesStay, IsUserPage, LiesIn, TableGot, TakesPage, at_page, directory_of, found_of};
+ghost use Rattle.address_space.specs.Words.{frame_bytes, free_frames, fresh, image_of, is_lazy_at, joined, need, none_goes, place_in, slot_number};
+ghost use Rattle.address_space.specs.Words.{table_in, total_cost};
 ghost use Rattle.page_words.specs.FiniteMap as map;
 
 use crate::place::{Found, Place};
-use crate::{Spaces, home, take};
+use crate::{Directories, Spaces, home, take};
 use alloc_table::{FrameTable, Role};
 use page_map::PageEntry;
 use page_words::{Frame, Page, Pid, Size, Vaddr, WIDE_FRAMES, page_of, slot_of};
@@ -38,18 +30,16 @@ impl Spaces {
         ensures directories { self.new.directories ≡ self.old.directories }
         ensures frames { length self.new.roles ≡ length self.old.roles }
         ensures place { result ≡ place_in self.new.directories self.new.bytes pid page }
+        ensures beside { (p other : ℕ) → at_page p other ≢ at_page pid page
+            → is_some (found_of (place_in self.old.directories self.old.bytes p other)) ≡ true
+            → place_in self.new.directories self.new.bytes p other
+            ≡ place_in self.old.directories self.old.bytes p other }
     {
-        let directory = home(&self.directories, pid);
-        let table = give_table(
-            place.table(),
-            &mut self.memory,
-            &mut self.frames,
-            directory,
-            pid,
-            page,
-        );
+        let all = &self.directories;
+        let linked = place.table();
+        let table = give_table(linked, &mut self.memory, &mut self.frames, all, pid, page);
         count_page(&mut self.counts, table);
-        let entry = fresh_entry(write);
+        let entry = untouched(Frame(0), write, true, true);
         let found = Found { page, table, entry };
         page_map::put_entry(&mut self.memory, table, page, found.entry);
         Place::Mapped(found)
@@ -103,18 +93,13 @@ impl Spaces {
         let _ = &self.memory;
         let found = given.found().unwrap();
         let frame = found.entry.frame;
-        let directory = home(&self.directories, pid);
-        let table = give_table(
-            own.table(),
-            &mut self.memory,
-            &mut self.frames,
-            directory,
-            pid,
-            page,
-        );
+        let all = &self.directories;
+        let linked = own.table();
+        let table = give_table(linked, &mut self.memory, &mut self.frames, all, pid, page);
         count_page(&mut self.counts, table);
         self.frames.hold(frame);
-        page_map::put_entry(&mut self.memory, table, page, joined_entry(frame, right));
+        let entry = untouched(frame, right, right, false);
+        page_map::put_entry(&mut self.memory, table, page, entry);
     }
 
     /// Lets a slot join the group of another.
@@ -139,75 +124,63 @@ impl Spaces {
 }
 
 /// The table of a page's region, where it has one; else a blank one is linked.
+#[inline(always)]
 pub fn give_table(
     linked: Option<Frame>,
     memory: &mut Memory,
     frames: &mut FrameTable,
-    directory: Frame,
+    directories: &Directories,
     pid: Pid,
     page: Page,
 ) -> Frame
-    requires user { IsUserPage page }
-    requires linked { linked ≡ table_of (frame_bytes memory.old) directory (slot_number page) }
-    requires map { IsPageMap memory.old directory }
-    requires role { slice_get frames.old directory ≡ Some (Role.Directory pid) }
-    requires size { length memory.old ≡ 4096 * length frames.old }
-    requires room { table_need (table_of (frame_bytes memory.old) directory (slot_number page))
-        ≤ free_frames frames.old }
-    ensures { TableReady memory.old frames.old pid directory (slot_number page) result memory.new frames.new }
+    requires takes { TakesPage directories.now memory.old frames.old pid page }
+    requires linked { linked ≡ table_in (directory_of directories.now) (frame_bytes memory.old) pid (slot_number page) }
+    ensures { TableGot directories.now memory.old frames.old pid page result memory.new frames.new }
 {
     if let Some(table) = linked {
         return table;
     }
+    link_new(memory, frames, directories, pid, page)
+}
+
+/// Links a blank table for a page's region, which has none: only then its process's directory is looked up.
+#[inline(never)]
+fn link_new(
+    memory: &mut Memory,
+    frames: &mut FrameTable,
+    directories: &Directories,
+    pid: Pid,
+    page: Page,
+) -> Frame
+    requires takes { TakesPage directories.now memory.old frames.old pid page }
+    requires none { table_in (directory_of directories.now) (frame_bytes memory.old) pid (slot_number page) ≡ None }
+    ensures { TableGot directories.now memory.old frames.old pid page result memory.new frames.new }
+{
+    let directory = home(directories, pid);
     let slot = slot_of(page);
     let table = take(frames, Role::Table { pid, slot });
     page_map::link_table(memory, directory, slot, table);
     table
 }
 
-/// The entry of a page of zeros, which is lazy.
-pub fn fresh_entry(write: bool) -> PageEntry
-    ensures { result ≡ record { frame = 0; write = write; may = true; accessed = false; dirty = false; lazy = true } }
-{
-    PageEntry {
-        frame: Frame(0),
-        write,
-        may: true,
-        accessed: false,
-        dirty: false,
-        lazy: true,
-    }
-}
-
-/// The entry of a page that joins the group on a frame.
-pub fn joined_entry(frame: Frame, right: bool) -> PageEntry
+/// The entry of a page that was not accessed yet.
+fn untouched(frame: Frame, write: bool, may: bool, lazy: bool) -> PageEntry
     ensures { result ≡ record {
       frame = frame;
-      write = right;
-      may = right;
+      write = write;
+      may = may;
       accessed = false;
       dirty = false;
-      lazy = false;
+      lazy = lazy;
     } }
 {
     PageEntry {
         frame,
-        write: right,
-        may: right,
+        write,
+        may,
         accessed: false,
         dirty: false,
-        lazy: false,
-    }
-}
-
-/// An entry whose page has this frame of its own.
-fn filled(entry: PageEntry, frame: Frame) -> PageEntry
-    ensures { result ≡ record entry { frame = frame; lazy = false } }
-{
-    PageEntry {
-        frame,
-        lazy: false,
-        ..entry
+        lazy,
     }
 }
 
@@ -221,8 +194,9 @@ pub fn give_frame(memory: &mut Memory, frames: &mut FrameTable, found: &Found) -
 {
     let frame = take(frames, Role::Page { count: 1 });
     memory.zero_frame(frame);
-    let entry = filled(found.entry, frame);
-    let given = Found { entry, ..*found };
+    let mut given = *found;
+    given.entry.frame = frame;
+    given.entry.lazy = false;
     page_map::put_entry(memory, found.table, found.page, given.entry);
     given.entry
 }
@@ -236,7 +210,7 @@ pub fn count_at(counts: &Vec<u32>, table: Frame) -> u32
 }
 
 /// Sets the count of a table.
-fn set_count(counts: &mut Vec<u32>, table: Frame, count: u32)
+pub fn set_count(counts: &mut Vec<u32>, table: Frame, count: u32)
     requires { table < length counts.old.items }
     ensures { counts.new.items ≡ slice_set counts.old.items table count }
 {

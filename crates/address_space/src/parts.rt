@@ -1,16 +1,10 @@
 //! Parts of a page: bytes that are read or written as one slice, as a load or a store of each would do it.
 
-ghost use Rattle.std.specs.Prelude.{◌≡◌, ◌≢◌, ℕ, ◌+◌, ◌<◌, ◌≤◌, length, map, is_some, true, false};
-ghost use Rattle.std.specs.List.{range_with_len};
-ghost use Rattle.page_words.specs.Addresses.{page_number, offset_number, IsUserPage};
+ghost use Rattle.std.specs.Prelude.{false, is_some, length, map, true, ℕ, ◌+◌, ◌<◌, ◌≡◌, ◌≢◌, ◌≤◌};
+ghost use Rattle.address_space.specs.Words.{BytesStored, FramesStay, Inside, IsUserPage, LiesIn, Slot, accessed, byte_at, bytes_at, frame_bytes};
+ghost use Rattle.address_space.specs.Words.{image_of, is_lazy_at, none_goes, offset_number, page_number, place_in, range_with_len, slot_at, stored};
+ghost use Rattle.address_space.specs.Words.{takes_stores, with_frame, write_at};
 ghost use Rattle.page_words.specs.FiniteMap as finite_map;
-ghost use Rattle.phys_memory.specs.Bytes.{frame_bytes, with_frame};
-ghost use Rattle.address_space.specs.Spaces.{Slot, slot_at, accessed, stored, bytes_at, byte_at, write_at};
-ghost use Rattle.address_space.specs.Image.{image_of, is_lazy_at, takes_stores};
-ghost use Rattle.address_space.specs.Places.{place_in};
-ghost use Rattle.address_space.specs.Sound.{Inside};
-ghost use Rattle.address_space.specs.Stays.{FramesStay, none_goes};
-ghost use Rattle.address_space.specs.Finds.{LiesIn, EntryIs, BytesStored};
 
 use crate::Spaces;
 use crate::accesses::{put_byte, set_flags};
@@ -28,19 +22,6 @@ fn copy_part(memory: &Memory, frame: Frame, at: u32, out: &mut [u8])
 {
     let place = place_of(frame, at);
     out.copy_from_slice(&memory.bytes()[place..place + out.len()]);
-}
-
-/// Copies bytes of a page out, and sets accessed in its entry.
-fn read_part(memory: &mut Memory, found: &Found, at: u32, out: &mut [u8])
-    requires lies { LiesIn memory.old found.now }
-    requires place { at < 4096 }
-    requires inside { at + length out.old ≤ 4096 }
-    ensures bytes { out.new ≡ bytes_at (frame_bytes memory.old found.now.entry.frame) at (length out.old) }
-    ensures entry { EntryIs memory.old found.now (record found.now.entry { accessed = true }) memory.new }
-    ensures length { length memory.new ≡ length memory.old }
-{
-    copy_part(memory, found.entry.frame, at, out);
-    set_flags(memory, found, found.entry.write, true, found.entry.dirty);
 }
 
 /// Writes bytes into a frame, as one move.
@@ -113,7 +94,9 @@ impl Spaces {
         let Some(found) = place.found() else {
             return false;
         };
-        read_part(&mut self.memory, &found, offset_of(address), out);
+        let entry = found.entry;
+        copy_part(&self.memory, entry.frame, offset_of(address), out);
+        set_flags(&mut self.memory, &found, entry.write, true, entry.dirty);
         true
     }
 

@@ -12,7 +12,6 @@ ghost use Rattle.address_space.specs.Spaces.{Slot, need, access_need, stored, by
 ghost use Rattle.address_space.specs.Image.{image_of, is_lazy_at, takes_stores};
 ghost use Rattle.address_space.specs.Stays.{FramesStay, none_goes, of_lazy};
 ghost use Rattle.address_space.specs.View.{directory_of};
-ghost use Rattle.address_space.specs.Finds.{table_at};
 ghost use Rattle.page_words.specs.FiniteMap as map;
 
 use crate::{Cell, Spaces, accesses, mapping, space_of};
@@ -182,29 +181,26 @@ fn cell_of(frames: &FrameTable, entry: &PageEntry) -> Cell
         may: entry.may,
         accessed: entry.accessed,
         dirty: entry.dirty,
-        holders: group_size(frames, entry.lazy, entry.frame),
+        holders: if entry.lazy {
+            1
+        } else {
+            holders(frames, entry.frame)
+        },
     }
 }
 
 impl Spaces {
-    /// The table of a page's region; None where the process has none there.
-    #[inline(always)]
-    fn table(&self, pid: Pid, page: Page) -> Option<Frame>
-        requires { IsUserPage page }
-        ensures table { result ≡ table_at self.now pid page }
-        ensures inside { IfSome result (λ table. 4096 * table + 4096 ≤ length self.now.bytes) }
-    {
-        let directory = space_of(&self.directories, pid)?;
-        page_map::table(&self.memory, directory, slot_of(page))
-    }
-
     /// Returns the place of a page of a process, with one lookup. `stands` states what places say.
     #[inline(always)]
     pub fn place(&self, pid: Pid, page: Page) -> Place
         requires { IsUserPage page }
         ensures { result ≡ place_in self.now.directories self.now.bytes pid page }
     {
-        place_behind(&self.memory, self.table(pid, page), page)
+        let Some(directory) = space_of(&self.directories, pid) else {
+            return Place::Bare;
+        };
+        let table = page_map::table(&self.memory, directory, slot_of(page));
+        place_behind(&self.memory, table, page)
     }
 
     /// The number at an address of a mapped page, in which its bytes lie; accessed is set in its slot. The place is the
@@ -226,7 +222,10 @@ impl Spaces {
     {
         let memory = &mut self.memory;
         let found = place.found().unwrap();
-        accesses::load(memory, &found, offset_of(address), size)
+        let entry = found.entry;
+        let value = accesses::number_at(memory, entry.frame, offset_of(address), size);
+        accesses::set_flags(memory, &found, entry.write, true, entry.dirty);
+        value
     }
 
     /// Stores bytes that lie in one page, which is mapped and isn't lazy, and sets accessed and dirty in its slot. The
@@ -251,14 +250,6 @@ impl Spaces {
         let memory = &mut self.memory;
         let found = place.found().unwrap();
         accesses::store(memory, &found, offset_of(address), size, value);
-    }
-
-    /// Where a process's page is; None where it is not mapped.
-    pub(crate) fn find(&self, pid: Pid, page: Page) -> Option<Found>
-        requires { IsUserPage page }
-        ensures { result ≡ found_of (place_in self.now.directories self.now.bytes pid page) }
-    {
-        self.place(pid, page).found()
     }
 
     /// Whether a slot has a lazy page, which has no frame of its own yet. A page outside the user range is none.
@@ -371,7 +362,8 @@ impl Spaces {
     {
         let memory = &mut self.memory;
         let found = place.found().unwrap();
-        accesses::set_right(memory, &found, write);
+        let entry = found.entry;
+        accesses::set_flags(memory, &found, write, entry.accessed, entry.dirty);
     }
 
     /// Clears accessed and dirty of a mapped page, whose place this is.
@@ -387,7 +379,7 @@ impl Spaces {
     {
         let memory = &mut self.memory;
         let found = place.found().unwrap();
-        accesses::clear_marks(memory, &found);
+        accesses::set_flags(memory, &found, found.entry.write, false, false);
     }
 
     /// Sets whether a process may write to a mapped page; to set it, the process must be allowed to.
@@ -414,15 +406,6 @@ fn holders(frames: &FrameTable, frame: Frame) -> u32
         Role::Page { count } => count,
         _ => unreachable!(),
     }
-}
-
-/// How many slots a group has: a lazy page is alone, and any other has the slots that name its frame.
-pub fn group_size(frames: &FrameTable, lazy: bool, frame: Frame) -> u32
-    requires { lazy ≡ false → IsPageBelow frames.now frame 4294967295 }
-    ensures lazy { lazy ≡ true → result ≡ 1 }
-    ensures real { lazy ≡ false → slice_get frames.now frame ≡ Some (Role.Page result) }
-{
-    if lazy { 1 } else { holders(frames, frame) }
 }
 
 impl Spaces {

@@ -1,18 +1,12 @@
 //! What a processor does by itself: accesses by its walks, and by translations that it kept.
 
-ghost use Rattle.std.specs.Prelude.{◌≡◌, ◌+◌, ◌/◌, ◌%◌, ◌^◌, ◌<◌, ℕ, [], ◌∷◌, Some, is_some, true, slice_set, ◌*◌, ◌≤◌, IsOk, length, slice_index};
-ghost use Rattle.std.specs.Option.{option_map, unwrap_or};
-ghost use Rattle.page_words.specs.Addresses.{offset_number, byte_count, covered, second_page, start_number, touched, EachTouched, IsUserPage};
-ghost use Rattle.table_walk.specs.Marks.{marked, StandsApart};
-ghost use Rattle.address_space.specs.ByWalk.{finds, finds_at, byte_place, number_found, after_walked_load, after_walked_store, with_walked, walked_word};
-ghost use Rattle.address_space.specs.Image.{image_of, takes_stores};
-ghost use Rattle.address_space.specs.Spaces.{at_page, slot_at, all_accessed, stored, all_stored, bytes_of, number_of, Slot};
-ghost use Rattle.address_space.specs.Stays.{FramesStay, none_goes};
-ghost use Rattle.address_space.specs.View.{directory_of};
-ghost use Rattle.std.specs.Result.{ForOk};
-ghost use Rattle.table_walk.specs.Walk.{walk_of};
+ghost use Rattle.std.specs.Prelude.{IsOk, Some, [], is_some, length, slice_index, slice_set, true, ℕ, ◌%◌, ◌*◌, ◌+◌, ◌/◌, ◌<◌, ◌^◌, ◌∷◌, ◌≡◌, ◌≤◌};
+ghost use Rattle.address_space.specs.Words.{EachTouched, ForOk, FramesStay, IsUserPage, LeadTo, Slot, StandsApart, after_walked_load};
+ghost use Rattle.address_space.specs.Words.{after_walked_store, all_accessed, all_stored, at_page, byte_count, byte_place, bytes_of, covered};
+ghost use Rattle.address_space.specs.Words.{directory_of, finds, finds_at, image_of, is_marked, marked, none_goes, number_found, number_of};
+ghost use Rattle.address_space.specs.Words.{offset_number, option_map, second_page, slot_at, start_number, stored, takes_stores, touched, unwrap_or};
+ghost use Rattle.address_space.specs.Words.{walk_of, walked_word, with_walked, written_at};
 ghost use Rattle.table_walk.specs.declared.Access.{Access};
-ghost use Rattle.address_space.specs.Kept.{is_marked, written_at, LeadTo};
 ghost use Rattle.page_words.specs.FiniteMap as map;
 
 use crate::accesses::of_two;
@@ -168,14 +162,6 @@ impl Spaces {
     }
 }
 
-/// The place of an address's byte in the frame that its walk finds.
-fn place_in(frame: Frame, address: Vaddr) -> usize
-    requires { frame < 2 ^ 20 }
-    ensures { result ≡ 4096 * frame + offset_number address }
-{
-    place_of(frame, offset_of(address))
-}
-
 /// The place to which the walk of an access leads.
 pub(crate) fn found_place(
     memory: &Memory,
@@ -190,7 +176,7 @@ pub(crate) fn found_place(
     let frames = memory.frames();
     let frame = walk(memory, directory, address, access).unwrap();
     prove!(frame.0 < frames);
-    place_in(frame, address)
+    place_of(frame, offset_of(address))
 }
 
 /// The byte to which the walk of a load leads.

@@ -1,9 +1,7 @@
 //! Address spaces from what an image has of memory: directories, bytes and roles.
 
-ghost use Rattle.std.specs.Prelude.{◌≡◌, ℕ, ◌+◌, ◌*◌, ◌<◌, ◌≤◌, Some, IfSome, IfOk, IfErr, length, map};
-ghost use Rattle.std.specs.List.{range_with_len};
-ghost use Rattle.address_space.specs.Image.{StandsFor, IsSoundImage, image_from};
-ghost use Rattle.address_space.specs.Restored.{counted_at, words_by, view_from, HasRoom};
+ghost use Rattle.std.specs.Prelude.{IfErr, IfOk, IfSome, Some, length, map, ◌*◌, ◌+◌, ◌<◌, ◌≡◌, ◌≤◌};
+ghost use Rattle.address_space.specs.Words.{HasRoom, IsSoundImage, StandsFor, counted_at, image_from, range_with_len, view_from, words_by};
 
 use crate::{Directories, Spaces};
 use alloc_table::{FrameTable, Role};

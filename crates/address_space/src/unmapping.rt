@@ -1,23 +1,16 @@
 //! Pages and whole spaces that go, and the blank directory that a process begins with.
 
-ghost use Rattle.std.specs.Prelude.{◌≡◌, ◌≢◌, ◌⊎◌, ℕ, ◌+◌, ◌*◌, ◌<◌, ◌≤◌, Some, None, IfSome, IfNone, length, is_some, true, false, slice_set};
-ghost use Rattle.page_words.specs.Addresses.{IsUserPage};
-ghost use Rattle.alloc_table.specs.Roles.{IsInUse};
-ghost use Rattle.address_space.specs.Spaces.{Slot, without, is_slot, at_page, is_of, cost};
-ghost use Rattle.phys_memory.specs.Bytes.{frame_bytes};
-ghost use Rattle.page_map.specs.Entries.{table_of, IsPageMap};
-ghost use Rattle.address_space.specs.Finds.{found_in};
-ghost use Rattle.address_space.specs.View.{View, directory_of, total_cost};
-ghost use Rattle.address_space.specs.Changes.{TableFreed, EntryLeft, IsEmptySpace, EntryGone, DroppedBelow};
-ghost use Rattle.address_space.specs.Stays.{FramesStay, LooseStay, none_goes, of_page, of_process};
-ghost use Rattle.address_space.specs.Image.{image_of, is_lazy_at};
-ghost use Rattle.address_space.specs.Places.{place_in};
+ghost use Rattle.std.specs.Prelude.{IfNone, IfSome, None, Some, false, is_some, length, true, ℕ, ◌*◌, ◌+◌, ◌<◌, ◌≡◌, ◌≢◌, ◌≤◌, ◌⊎◌};
+ghost use Rattle.address_space.specs.Words.{DroppedBelow, EntryGone, EntryLeft, FramesStay, IsEmptySpace, IsInUse, IsPageMap, IsUserPage, LooseStay};
+ghost use Rattle.address_space.specs.Words.{Slot, TableFreed, View, at_page, cost, directory_of, found_in, frame_bytes, image_of, is_lazy_at, is_of};
+ghost use Rattle.address_space.specs.Words.{is_slot, none_goes, of_page, of_process, place_in, table_of, total_cost, without};
 ghost use Rattle.page_words.specs.FiniteMap as map;
 
+use crate::charges::relief;
 use crate::copies::next_left;
 use crate::mapping::{count_at, uncount_page};
 use crate::place::{Found, Place};
-use crate::{Directories, Spaces, home, take};
+use crate::{Spaces, home, take};
 use alloc_table::{FrameTable, Role};
 use page_map::{FIRST_SLOT, PageEntry, Region};
 use page_words::{Frame, Page, Pid};
@@ -44,14 +37,16 @@ pub fn leave(frames: &mut FrameTable, entry: PageEntry)
 }
 
 impl Spaces {
-    /// Takes a slot out of its group, by its process's directory and what was found at the page.
+    /// Takes a slot out of its group, by its process's directory and what was found at the page. The result is what the
+    /// process's cost falls by.
     #[inline(always)]
-    fn unmap_found(&mut self, pid: Pid, page: Page, directory: Frame, found: &Found)
+    fn unmap_found(&mut self, pid: Pid, page: Page, directory: Frame, found: &Found) -> u32
         requires home { directory_of self.old.directories pid ≡ Some directory }
         requires user { IsUserPage page }
         requires found { found_in (directory_of self.old.directories) (frame_bytes self.old.bytes) pid page
             ≡ Some found.now }
         ensures spaces { self.new.spaces ≡ without self.old.spaces (is_slot pid page) }
+        ensures relief { cost self.new.spaces pid + result ≡ cost self.old.spaces pid }
         ensures stay { FramesStay (of_page pid page) (image_of self.old) (image_of self.new) }
         ensures loose { LooseStay (image_of self.old) (image_of self.new) }
         ensures words { EntryGone (frame_bytes self.old.bytes) directory found.now.table page
@@ -71,6 +66,7 @@ impl Spaces {
         );
         leave(&mut self.frames, found.entry);
         free_table(&mut self.frames, freed);
+        relief(mapped)
     }
 
     /// Takes a slot out of its group, whose place this is.
@@ -143,13 +139,6 @@ pub fn region_left(memory: &Memory, directory: Frame, first: u32, left: u32) -> 
     page_map::next_region(memory, directory, first)
 }
 
-/// Takes a process's directory off the list.
-fn forget(directories: &mut Directories, pid: Pid)
-    ensures { directories.new ≡ slice_set directories.old pid None }
-{
-    directories[pid.number() as usize] = None;
-}
-
 impl Spaces {
     /// Takes each page of a region out of its group, by the table that the process has there. It reads each word of the
     /// table up to the last that is present once. The process is charged for `used` before, and for the result then.
@@ -171,8 +160,7 @@ impl Spaces {
             let page = Page(1024 * slot + listed.index);
             let entry = listed.entry;
             let found = Found { page, table, entry };
-            used -= self.relief_at(pid, page, &Place::Mapped(found));
-            self.unmap_found(pid, page, directory, &found);
+            used -= self.unmap_found(pid, page, directory, &found);
             index = listed.index + 1;
             left -= 1;
         }
@@ -218,7 +206,7 @@ impl Spaces {
         ensures frames { length self.new.roles ≡ length self.old.roles }
     {
         self.frames.release(directory);
-        forget(&mut self.directories, pid);
+        self.directories[pid.number() as usize] = None;
     }
 
     /// Takes away a process's space: its pages leave their groups, and the frames of its pages that nobody else holds,

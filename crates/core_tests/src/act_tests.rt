@@ -1,7 +1,8 @@
 //! What a kernel does for its processes: it ends a family, and takes a page back from all others.
 
 use crate::common::same;
-use kernel_calls::{Call, Cause, Core, Event, Holder, Page, Pid, Reply, Size, Vaddr};
+use kernel_acts::{Holder, end_family, next_beside, take_back};
+use kernel_calls::{Call, Cause, Core, Event, Page, Pid, Reply, Size, Vaddr};
 use std::process::Abort;
 use std::test::Fail;
 
@@ -34,7 +35,11 @@ fn live(rt: &impl Abort, core: &Core) -> [bool; 6] {
 /// A process has these two children, and no other.
 fn check_children(rt: &impl Abort, core: &Core, number: u8, children: [u8; 2]) {
     let mut found = [process(rt, 0); 64];
-    same(rt, &core.children(process(rt, number), &mut found), &2);
+    same(
+        rt,
+        &kernel_acts::children(core, process(rt, number), &mut found),
+        &2,
+    );
     let [first, second, ..] = found;
     same(
         rt,
@@ -47,7 +52,7 @@ fn check_children(rt: &impl Abort, core: &Core, number: u8, children: [u8; 2]) {
 fn refuses_to_end(rt: &impl Abort, core: &mut Core, number: u8, cause: Cause) {
     let pid = process(rt, number);
     let mut exited = [pid; 64];
-    same(rt, &core.end_family(pid, &mut exited), &Err(cause));
+    same(rt, &end_family(core, pid, &mut exited), &Err(cause));
 }
 
 /// Process 2 is a child of process 1, and process 3 of process 2. Process 4 is not of the family.
@@ -65,7 +70,8 @@ fn ends_a_family_from_its_leaves_up(rt: HostRuntime) -> Result<(), Fail> {
     );
     check_children(&rt, &core, 0, [1, 4]);
     let mut exited = [process(&rt, 0); 64];
-    same(&rt, &core.end_family(process(&rt, 1), &mut exited), &Ok(3));
+    let ended = end_family(&mut core, process(&rt, 1), &mut exited);
+    same(&rt, &ended, &Ok(3));
     let [first, second, third, ..] = exited;
     same(
         &rt,
@@ -131,7 +137,7 @@ fn shared<R: AllocGlobal + Abort>(rt: &R) -> Core {
 fn beside(rt: &impl Abort, core: &Core, slot: (u8, u32), holder: u8, from: u32, page: Option<u32>) {
     let (pid, own) = (process(rt, slot.0), Page(slot.1));
     assert!(rt; page_words::in_user_range(own));
-    let found = core.next_beside(pid, own, process(rt, holder), Page(from));
+    let found = next_beside(core, pid, own, process(rt, holder), Page(from));
     same(rt, &found, &page.map(|page| Page(page)));
 }
 
@@ -243,7 +249,7 @@ fn takes_a_page_back_from_all_others(rt: HostRuntime) {
     let root = process(&rt, 0);
     let none = holder(&rt, 0, 0);
     let mut lost = [none; 4];
-    same(&rt, &core.take_back(root, PAGE, &mut lost), &Ok(3));
+    same(&rt, &take_back(&mut core, root, PAGE, &mut lost), &Ok(3));
     let first = holder(&rt, 1, 0x50000);
     let second = holder(&rt, 1, 0x50001);
     let third = holder(&rt, 2, 0x40000);
@@ -256,7 +262,7 @@ fn takes_one(rt: &impl Abort, core: &mut Core, count: usize, slot: Holder) {
     let mut lost = [holder(rt, 0, 0)];
     same(
         rt,
-        &core.take_back(process(rt, 0), PAGE, &mut lost),
+        &take_back(core, process(rt, 0), PAGE, &mut lost),
         &Ok(count),
     );
     same(rt, &lost, &[slot]);
@@ -277,7 +283,7 @@ fn refuses_to_take(rt: &impl Abort, core: &mut Core, number: u8, page: u32, caus
     let mut lost = [];
     same(
         rt,
-        &core.take_back(process(rt, number), Page(page), &mut lost),
+        &take_back(core, process(rt, number), Page(page), &mut lost),
         &Err(cause),
     );
 }

@@ -21,7 +21,7 @@ fn check(rt: &impl Abort, core: &mut Core, number: u8, call: Call, reply: Reply)
 /// An event may write a frame or not.
 fn may_write(rt: &impl Abort, core: &Core, event: &Event, frame: u32) -> bool {
     assert!(rt; frame < core.frames());
-    core.may_write(event, Frame(frame))
+    kernel_acts::may_write(core, event, Frame(frame))
 }
 
 /// Of the frames 0 to 7, a call of a process may write these.

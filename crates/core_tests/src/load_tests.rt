@@ -1,6 +1,7 @@
 //! A kernel loads bytes into the pages of a process: all of them, or none.
 
 use crate::common::same;
+use kernel_acts::load_bytes;
 use kernel_calls::{Call, Cause, Core, Event, Page, Pid, Reply, Size, Vaddr};
 use std::process::Abort;
 use std::test::Fail;
@@ -42,13 +43,17 @@ fn load(
     told: Result<(), Cause>,
 ) {
     let pid = process(rt, number);
-    same(rt, &core.load_bytes(pid, at, &BYTES, write), &told);
+    same(rt, &load_bytes(core, pid, at, &BYTES, write), &told);
 }
 
 /// From an address on, so many bytes of a process are mapped, and these are the first six; where none is, they are 9.
 fn peek(rt: &impl Abort, core: &Core, number: u8, at: Vaddr, count: usize, bytes: [u8; 6]) {
     let mut out = [9; 6];
-    same(rt, &core.peek(process(rt, number), at, &mut out), &count);
+    same(
+        rt,
+        &kernel_acts::peek(core, process(rt, number), at, &mut out),
+        &count,
+    );
     same(rt, &out, &bytes);
 }
 
@@ -93,7 +98,11 @@ fn loads_a_page_between_two_others(rt: HostRuntime) {
     let mut core = with_child(&rt, 5);
     let bytes = [7; 4100];
     let pid = process(&rt, 1);
-    same(&rt, &core.load_bytes(pid, ADDRESS, &bytes, true), &Ok(()));
+    same(
+        &rt,
+        &load_bytes(&mut core, pid, ADDRESS, &bytes, true),
+        &Ok(()),
+    );
     peek(&rt, &core, 1, Vaddr(0x4000_0ffb), 6, [0, 0, 7, 7, 7, 7]);
     peek(&rt, &core, 1, Vaddr(0x4000_1ffd), 6, [7, 7, 7, 7, 0, 0]);
     peek(&rt, &core, 1, Vaddr(0x4000_2ffd), 3, [0, 0, 0, 9, 9, 9]);
@@ -183,12 +192,12 @@ fn last_byte_of_a_page_at_two_addresses_stays(rt: HostRuntime) {
     let bytes = [7; 4100];
     same(
         &rt,
-        &core.load_bytes(pid, ADDRESS, &bytes, true),
+        &load_bytes(&mut core, pid, ADDRESS, &bytes, true),
         &Err(Cause::Quota),
     );
     let page = [5; 4097];
     let at = Vaddr(0x4000_0fff);
-    same(&rt, &core.load_bytes(pid, at, &page, true), &Ok(()));
+    same(&rt, &load_bytes(&mut core, pid, at, &page, true), &Ok(()));
     peek(&rt, &core, 0, Vaddr(0x4000_0000), 6, [5; 6]);
 }
 
@@ -197,9 +206,9 @@ fn loads_no_byte_at_all(rt: HostRuntime) {
     let mut core = with_child(&rt, 1);
     let pid = process(&rt, 1);
     let far = Vaddr(0xffff_ffff);
-    same(&rt, &core.load_bytes(pid, far, &[], true), &Ok(()));
+    same(&rt, &load_bytes(&mut core, pid, far, &[], true), &Ok(()));
     let gone = process(&rt, 2);
     let none = Err(Cause::NoProcess);
-    same(&rt, &core.load_bytes(gone, far, &[], true), &none);
+    same(&rt, &load_bytes(&mut core, gone, far, &[], true), &none);
     check_untouched(&rt, &core, 1, 1);
 }

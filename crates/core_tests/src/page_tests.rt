@@ -74,7 +74,11 @@ fn clean(rt: &impl Abort, core: &mut Core, dirty: bool) {
 
 /// The root's next dirty page from there on.
 fn next_dirty(rt: &impl Abort, core: &Core, from: Page, page: Option<Page>) {
-    same(rt, &core.next_dirty(process(rt, 0), from), &page);
+    same(
+        rt,
+        &kernel_acts::next_dirty(core, process(rt, 0), from),
+        &page,
+    );
 }
 
 #[test]
@@ -104,7 +108,11 @@ fn clears_marks_and_returns_whether_a_page_was_dirty(rt: HostRuntime) -> Result<
 /// So many bytes of a process are copied from an address on; the rest stay 9.
 fn peek(rt: &impl Abort, core: &Core, number: u8, at: Vaddr, count: usize, bytes: [u8; 6]) {
     let mut out = [9; 6];
-    same(rt, &core.peek(process(rt, number), at, &mut out), &count);
+    same(
+        rt,
+        &kernel_acts::peek(core, process(rt, number), at, &mut out),
+        &count,
+    );
     same(rt, &out, &bytes);
 }
 
@@ -137,7 +145,7 @@ fn install(
     told: Option<Reply>,
 ) {
     assert!(rt; offset_of(at) <= 4092);
-    let put = core.install(process(rt, number), at, &[1, 2, 3, 4], write);
+    let put = kernel_acts::install(core, process(rt, number), at, &[1, 2, 3, 4], write);
     same(rt, &put.err(), &told);
 }
 

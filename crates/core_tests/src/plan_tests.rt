@@ -1,6 +1,6 @@
 //! Accesses, planned and settled.
 use crate::common::same;
-use fault_handler::{PageStep, Plan, Stop, plan, settle, try_access};
+use fault_handler::{PageStep, Plan, Stop, plan, settle};
 use page_words::{Page, Pid, Size, Vaddr};
 use process_table::{Cause, Processes};
 use std::process::Abort;
@@ -223,37 +223,22 @@ fn accesses_two_pages(rt: HostRuntime) -> Result<(), Fail> {
     Ok(())
 }
 
-/// Checks the result of the root's four-byte access as memory is.
-fn check_tried(
-    rt: &impl Abort,
-    processes: &mut Processes,
-    address: Vaddr,
-    access: Access,
-    expected: Option<u32>,
-) {
-    let pid = root(rt);
-    let found = try_access(processes, pid, address, Size::Four, access, 7);
-    same(rt, &found, &expected);
-}
-
 #[test]
-fn tries_what_completes_as_memory_stands(rt: HostRuntime) -> Result<(), Fail> {
+fn fills_a_page_that_is_written(rt: HostRuntime) -> Result<(), Fail> {
     let mut processes = Processes::new(rt.alloc(), 16)?;
-    check_tried(&rt, &mut processes, ADDRESS, Access::Read, None);
+    let pid = root(&rt);
     map_page(&rt, &mut processes, PAGE, true);
-    check_tried(&rt, &mut processes, ADDRESS, Access::Write, None);
-    check_tried(&rt, &mut processes, ADDRESS, Access::Read, Some(0));
-    check_settled(&rt, &mut processes, Access::Write, 0x00c0_ffee, 0);
-    check_tried(
-        &rt,
-        &mut processes,
-        ADDRESS,
-        Access::Read,
-        Some(0x00c0_ffee),
-    );
-    check_tried(&rt, &mut processes, ADDRESS, Access::Write, Some(0));
-    check_tried(&rt, &mut processes, ADDRESS, Access::Read, Some(7));
-    check_tried(&rt, &mut processes, Vaddr(0x4000_0ffe), Access::Read, None);
-    check_tried(&rt, &mut processes, BELOW, Access::Write, None);
+    check_access(&rt, &mut processes, ADDRESS, Access::Read, 7, Ok(0));
+    same(&rt, &processes.is_lazy(pid, PAGE), &true);
+    check_access(&rt, &mut processes, ADDRESS, Access::Write, 7, Ok(0));
+    same(&rt, &processes.is_lazy(pid, PAGE), &false);
+    check_access(&rt, &mut processes, ADDRESS, Access::Write, 9, Ok(0));
+    check_access(&rt, &mut processes, ADDRESS, Access::Read, 7, Ok(9));
+    let below = PageFault {
+        addr: BELOW,
+        code: 6,
+    };
+    let outside = Err(Stop::Fault(below));
+    check_access(&rt, &mut processes, BELOW, Access::Write, 7, outside);
     Ok(())
 }

@@ -3,7 +3,8 @@ ghost use Rattle.c_handle.specs.Handle.{IsTower};
 
 use crate::common::same;
 use c_handle::{Tower, put, take};
-use kernel_calls::{Core, Pid, Reply, Transfer};
+use kernel_acts::{Transfer, read_bytes, write_bytes};
+use kernel_calls::{Core, Pid, Reply};
 use page_words::{Page, Vaddr, in_user_range};
 use std::process::Abort;
 use std::test::Fail;
@@ -14,13 +15,13 @@ fn root(rt: &impl Abort) -> Pid {
 
 /// So many bytes of the root go in from an address on, and then this stops them.
 fn writes(rt: &impl Abort, core: &mut Core, at: Vaddr, bytes: &[u8], told: &Transfer) {
-    same(rt, &core.write_bytes(root(rt), at, bytes), told);
+    same(rt, &write_bytes(core, root(rt), at, bytes), told);
 }
 
 /// Four bytes of the root from an address on are these; those behind the last that went stay 9.
 fn reads(rt: &impl Abort, core: &mut Core, at: Vaddr, bytes: [u8; 4], told: &Transfer) {
     let mut out = [9; 4];
-    let went = core.read_bytes(root(rt), at, &mut out);
+    let went = read_bytes(core, root(rt), at, &mut out);
     same(rt, &went, told);
     same(rt, &out, &bytes);
 }

@@ -42,7 +42,7 @@ module _ (v : View) (p address : ℕ) (size : Size) (access : Access) where
   start : (second : ℕ) → page_number (start_number second) ≡ second
   start second = omega arith
 
-  barred_is : barred access first (look_behind v p access address size) ≡ forbidden s p address size access
+  barred_is : barred access first (look_behind v p access (second_page address size)) ≡ forbidden s p address size access
   barred_is = by access (second_page address size) refl
     where
       test : ℕ → Bool
@@ -59,7 +59,7 @@ module _ (v : View) (p address : ℕ) (size : Size) (access : Access) where
       → ◌≡◌ {A = ℕ} (if nat_lt 0 (if m then 0 else (if r then 1 else 2)) && (nat_lt 0 (if n then 0 else (if t then 1 else 2)) && same) then 1 else (if n then 0 else (if t then 1 else 2))) (if n then 0 else (if not m && same then 1 else (if t then 1 else 2)))
   beside m n r t same = grind arith
 
-  need_is : need_by first (look_behind v p access address size) ≡ extra_cost s p (touched address size)
+  need_is : need_by first (look_behind v p access (second_page address size)) ≡ extra_cost s p (touched address size)
   need_is = by (second_page address size) refl ∙ sym (extra_touched s p address size)
     where
       by : (x : Option ℕ) → second_page address size ≡ x → need_by first (behind x) ≡ access_need S p address size
@@ -80,7 +80,7 @@ module _ (v : View) (p address : ℕ) (size : Size) (access : Access) where
   joined byte full ready c frames goes = grind arith
 
   pub looked : (c : Container) → container_of s p ≡ Some c → outside address size ≡ None
-      → planned_by_looks access first (look_behind v p access address size) c ≡ planned_at v p address size access
+      → planned_by_looks access first (look_behind v p access (second_page address size)) c ≡ planned_at v p address size access
   looked c has within = grind (arith, barred_is, nat_lt, room_is, need_is, joined, used-container)
 
   -- what is planned goes on with the charge that its pages need

@@ -6,11 +6,12 @@ use Prelude.{no_value, Slot, Spaces, at_page, cell_or_fresh, need, page_need, ac
 use Prelude.{is_lazy_at, with_touched-same, touched-there, Access, Read, Write, View, memory_of, access_value}
 use Prelude.{after_access, page_is_user, Plan, outside, is_read_only, forbidden, step_at, maps_page, plan_at, goes_on}
 use Prelude.{takes_no_frame}
-use Rattle.std.proofs.Common.{◌≢◌, ◌≤◌, List, is_some}
+use Rattle.std.proofs.Common.{◌≢◌, ◌≤◌, List, inl, inr, is_some}
 use Rattle.address_space.specs.Spaces.{Cell, with_pages}
-use Rattle.fault_handler.specs.Plans.{planned_by}
+use Rattle.fault_handler.specs.Plans.{planned_by, takes_at}
 use Rattle.std.specs.Prelude.{nat_lt, IfSome, find}
-use Rattle.std.proofs.lemmas.Bool.{le-ltb, not-false}
+use Rattle.std.proofs.lemmas.Bool.{cases_Bool, false≢true, le-ltb, lt-ltb, not-false}
+use Rattle.process_table.specs.WellFormed.{IsWellFormed}
 use Rattle.page_words.proofs.MapLemmas.{same_or_not, get-insert}
 use Rattle.page_words.proofs.SetLemmas.{same_apart}
 use Rattle.address_space.proofs.costs.AccessCosts.{key-insert}
@@ -48,6 +49,36 @@ pub record Goes (steps : ℕ → PageStep) (s : State) (p address : ℕ) (size :
 pub ready : (steps : ℕ → PageStep) (s : State) (p address : ℕ) (size : Size) (access : Access) → goes_on (planned_by steps s p address size access) ≡ true → Goes steps s p address size access
 ready steps s p address size access g = grind arith
 
+-- a process that isn't live has no room, and needs one frame at least
+no_room : (s : State) (p : ℕ) → is_live s p ≡ false → room s p ≡ 0
+no_room s p dead = grind arith
+
+one_need : (S : Spaces) (p page : ℕ) → is_some (map.get S (at_page p page)) ≡ false → 1 ≤ page_need S p page
+one_need S p page none = grind arith
+
+some_need : (S : Spaces) (p address : ℕ) (size : Size) → is_some (map.get S (at_page p (page_number address))) ≡ false → 1 ≤ access_need S p address size
+some_need S p address size none = by (second_page address size) refl where
+  by : (x : Option ℕ) → second_page address size ≡ x → 1 ≤ access_need S p address size
+  by None e = omega (arith, one_need S p (page_number address) none, need-in_one S p address size e)
+  by (Some second) e = omega (arith, one_need S p (page_number address) none, need-in_two S p address size second e)
+
+pub goes_live : (v : View) (p address : ℕ) (size : Size) (access : Access) → IsWellFormed v.state → goes_on (plan_at v p address size access) ≡ true → is_live v.state p ≡ true
+goes_live v p address size access w g = elim (cases_Bool (is_live v.state p)) [
+  | inl live ↦ live
+  | inr dead ↦
+      let none : is_mapped v.state (at_page p (page_number address)) ≡ false = owned (at_page p (page_number address)) dead in
+      let need = some_need v.state.spaces p address size none in
+      let room = no_room v.state p dead in
+      let over : overdrawn v.state p (touched address size) ≡ true = lt-ltb _ _ (omega (arith, need, room, extra_touched v.state p address size)) in
+      absurd (false≢true (sym (ready (step_at v p access) v.state p address size access g).room ∙ over))
+]
+  where
+    owned : (slot : Slot) → is_live v.state slot.pid ≡ false → is_mapped v.state slot ≡ false
+    owned slot dead = elim (cases_Bool (is_mapped v.state slot)) [
+      | inl there ↦ grind (arith, w.owners, dead, there)
+      | inr none ↦ none
+    ]
+
 -- where the state's plan goes on, the plan as memory stands does, and the other way round
 pub same_stops : (steps others : ℕ → PageStep) (s : State) (p address : ℕ) (size : Size) (access : Access) → goes_on (planned_by steps s p address size access) ≡ goes_on (planned_by others s p address size access)
 same_stops steps others s p address size access = grind arith
@@ -75,15 +106,21 @@ module _ (s : State) (p address : ℕ) (size : Size) where
   mapped_after access value = grind (arith, with_touched-same, touched-there)
 
   -- where no byte is forbidden, each page may be written
-  pub mapped_right : (access : Access) → forbidden s p address size access ≡ None → access ≡ Write → EachTouched address size (λ page. (cell_or_fresh mapped_state.spaces (at_page p page)).write ≡ true)
-  mapped_right Read none is = cc
-  mapped_right Write none is =
-      each_page address size (λ page. is_read_only s (at_page p page) ≡ false) (λ page. (cell_or_fresh mapped_state.spaces (at_page p page)).write ≡ true)
-      (λ page h. ap (λ (c : Cell). c.write) (same_cells s.spaces p pages (at_page p page)) ∙ by (at_page p page) (map.get s.spaces (at_page p page)) refl h)
+  pub each_right : (access : Access) → forbidden s p address size access ≡ None → access ≡ Write → EachTouched address size (λ page. (cell_or_fresh s.spaces (at_page p page)).write ≡ true)
+  each_right Read none is = cc
+  each_right Write none is =
+      each_page address size (λ page. is_read_only s (at_page p page) ≡ false) (λ page. (cell_or_fresh s.spaces (at_page p page)).write ≡ true)
+      (λ page h. by (at_page p page) (map.get s.spaces (at_page p page)) refl h)
       (none_found (λ page. is_read_only s (at_page p page)) address size none)
     where
       by : (slot : Slot) (x : Option Cell) → map.get s.spaces slot ≡ x → (is_some (map.get s.spaces slot) && not (cell_or_fresh s.spaces slot).write) ≡ false → (cell_or_fresh s.spaces slot).write ≡ true
       by slot k is h = grind (arith, not-false)
+
+  -- also once they are mapped
+  pub mapped_right : (access : Access) → forbidden s p address size access ≡ None → access ≡ Write → EachTouched address size (λ page. (cell_or_fresh mapped_state.spaces (at_page p page)).write ≡ true)
+  mapped_right access none is =
+      each_page address size (λ page. (cell_or_fresh s.spaces (at_page p page)).write ≡ true) (λ page. (cell_or_fresh mapped_state.spaces (at_page p page)).write ≡ true)
+      (λ page h. ap (λ (c : Cell). c.write) (same_cells s.spaces p pages (at_page p page)) ∙ h) (each_right access none is)
 
 -- ---- An access in one page
 
@@ -92,9 +129,14 @@ pub inside_by_page : (address : ℕ) (size : Size) → IsUserPage (page_number a
 inside_by_page address size user within = grind (arith, first_by_page, page_is_user)
 
 -- its page is all that is mapped
-pub mapped_alone : (s : State) (p address : ℕ) (size : Size) (page : ℕ) → page ≡ page_number address → second_page address size ≡ None
-    → record s { spaces = with_page s.spaces p page } ≡ mapped_state s p address size
-mapped_alone s p address size page is within = grind arith
+pub mapped_alone : (s : State) (p address : ℕ) (size : Size) {t : State} {page : ℕ} → page ≡ page_number address → second_page address size ≡ None
+    → t ≡ record s { spaces = with_page s.spaces p page } → t ≡ mapped_state s p address size
+mapped_alone s p address size page within is = grind arith
+
+-- its two pages are all that is mapped
+pub mapped_both : (s : State) (p address : ℕ) (size : Size) {t u : State} {page second : ℕ} → page ≡ page_number address → second_page address size ≡ Some second
+    → t ≡ record s { spaces = with_page s.spaces p page } → u ≡ record t { spaces = with_page t.spaces p second } → u ≡ mapped_state s p address size
+mapped_both s p address size is there one two = grind arith
 
 -- ---- Room for the pages
 
@@ -156,15 +198,25 @@ complete_steps : (f : PageStep) (g : Option PageStep) → takes_no_frame (plan.R
 complete_steps f g h = grind arith
 
 -- a page whose step is Complete
-pub complete_page : (v : View) (p : ℕ) (access : Access) (page : ℕ) → step_at v p access page ≡ step.Complete
+complete_page : (v : View) (p : ℕ) (access : Access) (page : ℕ) → step_at v p access page ≡ step.Complete
     → (is_mapped v.state (at_page p page) ≡ true) × ((is_write access && is_lazy_at (memory_of v) (at_page p page)) ≡ false)
 complete_page v p access page h = grind arith
 
-pub complete_pages : (v : View) (x : Plan) (p address : ℕ) (size : Size) (access : Access) → x ≡ plan_at v p address size access → takes_no_frame x ≡ true
+complete_pages : (v : View) (x : Plan) (p address : ℕ) (size : Size) (access : Access) → x ≡ plan_at v p address size access → takes_no_frame x ≡ true
     → EachTouched address size (λ page. step_at v p access page ≡ step.Complete)
 complete_pages v x p address size access is h = grind (arith, ready, complete_steps)
 
--- no page of a write that completes as memory stands is lazy
-pub complete_real : (v : View) (x : Plan) (p address : ℕ) (size : Size) (access : Access) → x ≡ plan_at v p address size access → takes_no_frame x ≡ true → access ≡ Write
-    → EachTouched address size (λ page. is_lazy_at (memory_of v) (at_page p page) ≡ false)
-complete_real v x p address size access is h write = grind (arith, each_page, complete_page, complete_pages)
+-- each page of an access that completes as memory stands takes it
+takes_page : (v : View) (p : ℕ) (access : Access) (page : ℕ) → step_at v p access page ≡ step.Complete → (access ≡ Write → (cell_or_fresh v.state.spaces (at_page p page)).write ≡ true) → takes_at v p access page ≡ true
+takes_page v p access page h right = grind (arith, complete_page)
+
+pub complete_takes : (v : View) (p address : ℕ) (size : Size) (access : Access) → takes_no_frame (plan_at v p address size access) ≡ true → EachTouched address size (λ page. takes_at v p access page ≡ true)
+complete_takes v p address size Read h = grind (arith, each_page, takes_page, complete_pages)
+complete_takes v p address size Write h =
+    let goes = ready (step_at v p Write) v.state p address size Write (ends (plan_at v p address size Write) h) in
+    let steps = complete_pages v (plan_at v p address size Write) p address size Write refl h in
+    let right = each_right v.state p address size Write goes.allowed refl in
+    grind (arith, takes_page)
+  where
+    ends : (x : Plan) → takes_no_frame x ≡ true → goes_on x ≡ true
+    ends x h = grind arith

@@ -2,9 +2,9 @@
 use Rattle.fault_handler.proofs.Prelude
 use Prelude.{◌≡◌, ℕ, nat_lt, arith, Bool, true, false, None, if◌then◌else◌, find, option_map, page_number, covered}
 use Prelude.{second_page, touched, EachTouched, IsUserPage, Size, first_by_page, slot_at, at_page, cell_or_fresh}
-use Prelude.{is_lazy_at, takes_stores, with_touched-same, Access, Write, extra_touched, State, is_mapped, overdrawn}
+use Prelude.{is_lazy_at, takes_stores, with_touched-same, Access, Read, Write, extra_touched, State, is_mapped, overdrawn}
 use Prelude.{View, memory_of, Quota, page_is_user, outside, forbidden, fault_or, step_at, plan_at, takes_no_frame}
-use Rattle.fault_handler.specs.Plans.{access_result, at_once, settled}
+use Rattle.fault_handler.specs.Plans.{access_result, at_once, settled, takes_at}
 use Rattle.fault_handler.specs.declared.plans.Stop.TheVariants as stop
 use Rattle.std.proofs.Common.{Err, Ok, ap, ◌∙◌}
 use Rattle.std.proofs.lemmas.Bool.{not-true, le-ltb, and_parts}
@@ -13,7 +13,7 @@ use Rattle.process_table.specs.State.{is_live}
 use Rattle.process_table.specs.declared.causes.Cause.TheVariants.{NoProcess}
 use Rattle.fault_handler.specs.declared.plans.Plan.{Plan}
 use Rattle.address_space.proofs.costs.AccessNeeds.{cost-with_touched}
-use Rattle.fault_handler.proofs.Settled.{each_page}
+use Rattle.fault_handler.proofs.Settled.{all_user, each_page}
 use Rattle.fault_handler.specs.declared.plans.PageStep.TheVariants as step
 use Rattle.fault_handler.specs.declared.plans.Plan.TheVariants as plan
 
@@ -62,7 +62,7 @@ module _ (v : View) (p address : ℕ) (size : Size) where
   completes_at_once access within user mapped takes = grind (arith, planned)
 
   -- the result of an access that completes as memory stands
-  pub completed : (access : Access) → is_live s p ≡ true → takes_no_frame (plan_at v p address size access) ≡ true
+  completed : (access : Access) → is_live s p ≡ true → takes_no_frame (plan_at v p address size access) ≡ true
       → access_result v p address size access ≡ Ok (access_value s p address size access)
   completed access live ends =
       ap (λ b. if b then settled (plan_at v p address size access) (access_value s p address size access) else Err (stop.Refused NoProcess)) live
@@ -70,3 +70,9 @@ module _ (v : View) (p address : ℕ) (size : Size) where
     where
       is_ok : (x : Plan) → takes_no_frame x ≡ true → settled x (access_value s p address size access) ≡ Ok (access_value s p address size access)
       is_ok x h = grind arith
+
+  pub taken : (access : Access) → outside address size ≡ None → EachTouched address size (λ page. takes_at v p access page ≡ true) → is_live s p ≡ true
+      → access_result v p address size access ≡ Ok (access_value s p address size access)
+  taken Read within takes live = completed Read live (walk_completes Read (all_user address size within) takes (λ w. cc))
+  taken Write within takes live = completed Write live (walk_completes Write (all_user address size within)
+      (each_page address size Takes (λ page. is_mapped s (at_page p page) ≡ true) (λ page h. (and_parts (is_mapped s (at_page p page)) _ h).0) takes) (λ w. takes))

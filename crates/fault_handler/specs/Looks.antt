@@ -1,7 +1,7 @@
 -- What one lookup of each page of an access gives, and the plan that follows from it.
-use Rattle.std.proofs.Common.{ℕ, ◌+◌, ◌-◌, ◌==◌, nat_lt, Bool, true, ◌&&◌, if◌then◌else◌, Option, Some, None}
+use Rattle.std.proofs.Common.{ℕ, ◌+◌, ◌-◌, ◌==◌, nat_lt, Bool, true, ◌&&◌, if◌then◌else◌, Option, Some, None, Result, Ok, Err}
 use Rattle.std.specs.Option.{option_map}
-use Rattle.page_words.specs.Addresses.{page_number, slot_number, start_number, second_page, touched}
+use Rattle.page_words.specs.Addresses.{page_number, slot_number, start_number, touched}
 use Rattle.page_words.specs.declared.addresses.Size.{Size}
 use Rattle.address_space.specs.Spaces.{cost, page_need, slot_at}
 use Rattle.quota_tree.specs.declared.Container.{Container}
@@ -11,24 +11,23 @@ use Rattle.process_table.specs.State.{extra_cost}
 use Rattle.process_table.specs.View.{View}
 use Rattle.process_table.specs.declared.causes.Cause.TheVariants.{Quota}
 use Rattle.fault_handler.specs.declared.plans.Look.{Look}
-use Rattle.fault_handler.specs.declared.plans.PageStep.{PageStep}
-use Rattle.fault_handler.specs.declared.plans.PageStep.TheVariants as step
 use Rattle.fault_handler.specs.declared.plans.Plan.{Plan}
 use Rattle.fault_handler.specs.declared.plans.Plan.TheVariants as plan
 use Rattle.fault_handler.specs.declared.plans.Planned.{Planned}
 use Rattle.fault_handler.specs.Plans.{is_read_only, step_at, plan_at, goes_on}
-
--- the step of a mapped page: one that is written gets its frame first, where it is lazy
-abbrev pub step_there : Access → Bool → PageStep
-step_there access is_lazy = if is_write access && is_lazy then step.Fill else step.Complete
 
 -- what is seen of the page that a byte lies in
 abbrev pub look_of : View → ℕ → Access → ℕ → Look
 look_of v p access byte = record { byte = byte; step = step_at v p access (page_number byte); read_only = is_read_only v.state (slot_at p byte); need = page_need v.state.spaces p (page_number byte) }
 
 -- what is seen of the second page of an access, where there is one
-abbrev pub look_behind : View → ℕ → Access → ℕ → Size → Option Look
-look_behind v p access address size = option_map (λ page. look_of v p access (start_number page)) (second_page address size)
+abbrev pub look_behind : View → ℕ → Access → Option ℕ → Option Look
+look_behind v p access second = option_map (λ page. look_of v p access (start_number page)) second
+
+-- the second page of an access, or its first byte outside the user range, where there is one
+abbrev pub reach_by : Option ℕ → Option ℕ → Result (Option ℕ) ℕ
+reach_by None second = Ok second
+reach_by (Some byte) second = Err byte
 
 -- the first byte that the access may not have
 abbrev pub barred : Access → Look → Option Look → Option ℕ

@@ -7,7 +7,7 @@ use Rattle.page_words.specs.declared.addresses.Size.{Size}
 use Rattle.address_space.specs.Spaces.{Slot, cell_or_fresh, at_page, slot_at}
 use Rattle.table_walk.specs.declared.Access.{Access}
 use Rattle.table_walk.specs.Walk.{is_write, page_fault}
-use Rattle.address_space.specs.Image.{is_lazy_at}
+use Rattle.address_space.specs.Image.{is_lazy_at, takes_stores}
 use Rattle.process_table.specs.Calls.{access_value}
 use Rattle.process_table.specs.State.{State, is_live, is_mapped, overdrawn}
 use Rattle.process_table.specs.View.{View}
@@ -58,6 +58,10 @@ step_at v p access page =
     if not (is_mapped v.state (at_page p page)) then step.MapZero else
     if is_write access && is_lazy_at (memory_of v) (at_page p page) then step.Fill else
     step.Complete
+
+-- a page takes an access as memory stands
+abbrev pub takes_at : View → ℕ → Access → ℕ → Bool
+takes_at v p access page = if is_write access then takes_stores v.state.spaces (memory_of v) (at_page p page) else is_mapped v.state (at_page p page)
 
 -- the page is mapped first
 abbrev pub maps_page : PageStep → Bool

@@ -1,38 +1,25 @@
 //! Accesses, each by one call: what completes as memory stands, in one page or in two, and any other by its plan.
 
-ghost use Rattle.std.specs.Prelude.{◌≡◌, ◌↔◌, true, false, Ok, IfSome, IsSome, IsNone, IsOk, IsErr, Some, None, is_some, if◌then◌else◌};
+ghost use Rattle.std.specs.Prelude.{◌≡◌, ◌↔◌, true, false, Some, None, IfSome, IsSome, IsNone, IsOk, IsErr};
 ghost use Rattle.page_words.specs.Addresses.{page_number, second_page, IsUserPage};
-ghost use Rattle.address_space.specs.Places.{found_of, place_in, takes_place};
+ghost use Rattle.address_space.specs.Image.{is_lazy_at};
+ghost use Rattle.address_space.specs.Places.{place_in};
+ghost use Rattle.address_space.specs.Spaces.{at_page, cell_or_fresh, slot_at};
 ghost use Rattle.address_space.specs.Stays.{FramesStay, none_goes};
 ghost use Rattle.process_table.specs.Calls.{access_value, after_access, after_load, after_store, loaded};
 ghost use Rattle.process_table.specs.Image.{memory_of};
-ghost use Rattle.process_table.specs.State.{container_of, is_live};
+ghost use Rattle.process_table.specs.Places.{access_places};
+ghost use Rattle.process_table.specs.State.{is_live, is_mapped};
 ghost use Rattle.fault_handler.specs.Fills.{lazy_written};
-ghost use Rattle.fault_handler.specs.Plans.{access_result, at_once, outside, plan_at};
-ghost use Rattle.fault_handler.specs.declared.plans.Plan.TheVariants as plan;
-ghost use Rattle.fault_handler.specs.declared.plans.Stop.TheVariants as stop;
-ghost use Rattle.process_table.specs.declared.causes.Cause.TheVariants.{NoProcess};
-ghost use Rattle.table_walk.specs.Walk.{page_fault};
+ghost use Rattle.fault_handler.specs.Plans.{access_result, at_once, goes_on, outside, plan_at, takes_at, takes_no_frame};
 
-use crate::looks::look_at;
-use crate::planning::{by_looks, outside, plan_by};
-use crate::plans::{PageStep, Plan, Stop};
-use crate::{map_by_step, settle_at};
+use crate::planning::{plan_within, reach};
+use crate::plans::{Plan, Stop};
+use crate::{both, map_new, settle_over};
 use address_space::Place;
-use page_words::{Pid, Size, Vaddr, in_user_range, page_of, second_page};
-use process_table::{Cause, Places, Processes};
-use quota_tree::Container;
+use page_words::{Page, Pid, Size, Vaddr, page_of};
+use process_table::{Cause, Places, Processes, left_of};
 use table_walk::{Access, PageFault};
-
-/// Whether the bytes of an access lie in one page of the user range.
-#[inline(always)]
-fn is_in_page(address: Vaddr, size: Size) -> bool
-    ensures within { result ≡ true → second_page address size ≡ None }
-    ensures user { result ≡ true → IsUserPage (page_number address) }
-    ensures both { IsUserPage (page_number address) → second_page address size ≡ None → result ≡ true }
-{
-    in_user_range(page_of(address)) && second_page(address, size).is_none()
-}
 
 /// A load in one page of the user range, where it completes as memory stands: the page is mapped. The value read; None
 /// where it doesn't, and nothing changes.
@@ -45,6 +32,7 @@ fn try_load(processes: &mut Processes, pid: Pid, address: Vaddr, size: Size) -> 
     ensures value { IfSome result (λ value. value ≡ loaded processes.old.state pid address size) }
     ensures state { IsSome result → processes.new.state ≡ after_load processes.old.state pid address size }
     ensures stay { FramesStay none_goes (memory_of processes.old) (memory_of processes.new) }
+    ensures roles { processes.new.roles ≡ processes.old.roles }
     ensures none { IsNone result → processes.new ≡ processes.old }
 {
     let page = page_of(address);
@@ -74,6 +62,7 @@ fn try_store(
     ensures value { IfSome result (λ value. value ≡ 0) }
     ensures state { IsSome result → processes.new.state ≡ after_store processes.old.state pid address size value }
     ensures stay { FramesStay none_goes (memory_of processes.old) (memory_of processes.new) }
+    ensures roles { processes.new.roles ≡ processes.old.roles }
     ensures none { IsNone result → processes.new ≡ processes.old }
 {
     let page = page_of(address);
@@ -87,7 +76,8 @@ fn try_store(
 }
 
 /// Tries an access in one page of the user range that completes as memory is, as nearly every access does. It looks the
-/// page up once. Returns the value read, or 0 after a write. For any other access it returns None, and nothing changes.
+/// page up once. Returns the value read, or 0 after a write. For any other access it returns None, and nothing changes:
+/// `access` then begins anew, since a place that is passed on has to be in memory, which each access would pay.
 #[inline(always)]
 pub fn try_access(
     processes: &mut Processes,
@@ -103,78 +93,84 @@ pub fn try_access(
     ensures state { IsSome result → processes.new.state
         ≡ after_access processes.old.state pid address size access value }
     ensures stay { FramesStay none_goes (memory_of processes.old) (memory_of processes.new) }
+    ensures roles { processes.new.roles ≡ processes.old.roles }
     ensures none { IsNone result → processes.new ≡ processes.old }
 {
-    if !is_in_page(address, size) {
+    let Ok(None) = reach(address, size) else {
         return None;
-    }
+    };
     match access {
         Access::Read => try_load(processes, pid, address, size),
         Access::Write => try_store(processes, pid, address, size, value),
     }
 }
 
-/// Returns the plan of an access within one page of the user range, from the page's place. `container` is the
-/// process's.
-fn plan_in_page(
-    processes: &Processes,
+/// Stores bytes that lie in one page, which is mapped and may be written. It gets a frame of its own first, where it is
+/// lazy. The place is the page's.
+#[inline(always)]
+fn store_filled(
+    processes: &mut Processes,
     pid: Pid,
     address: Vaddr,
     size: Size,
-    access: Access,
-    container: &Container,
+    value: u32,
     place: &Place,
-) -> Plan
-    requires live { is_live processes.now.state pid ≡ true }
-    requires container { container_of processes.now.state pid ≡ Some container.now }
+)
     requires within { second_page address size ≡ None }
     requires user { IsUserPage (page_number address) }
-    requires place { place.now ≡ place_in processes.now.directories processes.now.bytes pid (page_number address) }
-    ensures { result ≡ plan_at processes.now pid address size access }
+    requires mapped { is_mapped processes.old.state (slot_at pid address) ≡ true }
+    requires right { (cell_or_fresh processes.old.state.spaces (slot_at pid address)).write ≡ true }
+    requires place { place.now ≡ place_in processes.old.directories processes.old.bytes pid (page_number address) }
+    ensures state { processes.new.state ≡ after_store processes.old.state pid address size value }
+    ensures stay { FramesStay (lazy_written Access.Write pid address size) (memory_of processes.old)
+        (memory_of processes.new) }
 {
-    processes.stands();
-    processes.spaces().stands();
-    let look = look_at(processes, pid, access, address, place);
-    by_looks(access, &look, &None, container).plan
+    let filled = processes.fill_at(pid, page_of(address), place);
+    processes.store_at(pid, address, size, value, &filled);
 }
 
-/// Carries out an access in one page, which completes by this step of the page, whose place this is: the value read, or
-/// 0 after a write.
-fn settle_in_page(
+/// An access in one page of the user range that isn't mapped, by the process's container. The page is mapped first, and
+/// the place is the page's. Refused(NoProcess) for a process that isn't live, or Refused(Quota).
+#[inline(always)]
+fn access_new(
     processes: &mut Processes,
-    how: PageStep,
     pid: Pid,
     address: Vaddr,
     size: Size,
     access: Access,
     value: u32,
     place: &Place,
-) -> u32
-    requires plan { plan.Ready how None ≡ plan_at processes.old pid address size access }
+) -> Result<u32, Stop>
     requires within { second_page address size ≡ None }
     requires user { IsUserPage (page_number address) }
     requires place { place.now ≡ place_in processes.old.directories processes.old.bytes pid (page_number address) }
-    ensures value { result ≡ access_value processes.old.state pid address size access }
-    ensures state { processes.new.state ≡ after_access processes.old.state pid address size access value }
+    requires unmapped { is_mapped processes.old.state (slot_at pid address) ≡ false }
+    ensures result { result ≡ access_result processes.old pid address size access }
+    ensures state { IsOk result → processes.new.state ≡ after_access processes.old.state pid address size access value }
     ensures stay { FramesStay (lazy_written access pid address size) (memory_of processes.old)
         (memory_of processes.new) }
+    ensures kept { IsErr result → processes.new ≡ processes.old }
 {
-    let page = page_of(address);
-    let mapped = map_by_step(processes, pid, page, how, place);
+    processes.tells(pid, page_of(address), place);
+    let Some(container) = processes.container(pid) else {
+        return Err(Stop::Refused(Cause::NoProcess));
+    };
+    if left_of(&container) < place.need() {
+        return Err(Stop::Refused(Cause::Quota));
+    }
+    let mapped = map_new(processes, pid, page_of(address), place);
     match access {
-        Access::Read => processes.load_at(pid, address, size, &mapped),
+        Access::Read => Ok(processes.load_at(pid, address, size, &mapped)),
         Access::Write => {
-            let real = processes.fill_at(pid, page, &mapped);
-            processes.store_at(pid, address, size, value, &real);
-            0
+            store_filled(processes, pid, address, size, value, &mapped);
+            Ok(0)
         }
     }
 }
 
-/// Looks up the page of an access within one page, plans the access, and carries it out if its plan is Ready. Otherwise
-/// returns why it stops, and changes nothing.
+/// An access in one page of the user range, as `access` makes it. The page is looked up once.
 #[inline(never)]
-fn plan_and_settle(
+fn access_in_page(
     processes: &mut Processes,
     pid: Pid,
     address: Vaddr,
@@ -188,69 +184,50 @@ fn plan_and_settle(
     ensures state { IsOk result → processes.new.state ≡ after_access processes.old.state pid address size access value }
     ensures stay { FramesStay (lazy_written access pid address size) (memory_of processes.old)
         (memory_of processes.new) }
+    ensures frames { takes_no_frame (plan_at processes.old pid address size access) ≡ true
+        → processes.new.roles ≡ processes.old.roles }
     ensures kept { IsErr result → processes.new ≡ processes.old }
 {
-    let Some(container) = processes.container(pid) else {
-        return Err(Stop::Refused(Cause::NoProcess));
+    let page = page_of(address);
+    let place = processes.spaces().place(pid, page);
+    processes.tells(pid, page, &place);
+    let Some(found) = place.found() else {
+        return access_new(processes, pid, address, size, access, value, &place);
     };
-    let place = processes.spaces().place(pid, page_of(address));
-    match plan_in_page(processes, pid, address, size, access, &container, &place) {
-        Plan::Ready { first, .. } => Ok(settle_in_page(
-            processes, first, pid, address, size, access, value, &place,
-        )),
-        Plan::Fault(fault) => Err(Stop::Fault(fault)),
-        Plan::Refused(cause) => Err(Stop::Refused(cause)),
+    if access == Access::Read {
+        return Ok(processes.load_at(pid, address, size, &place));
     }
+    if !found.entry.write {
+        let fault = PageFault::new(address, Access::Write, true);
+        return Err(Stop::Fault(fault));
+    }
+    if found.entry.lazy {
+        store_filled(processes, pid, address, size, value, &place);
+        return Ok(0);
+    }
+    processes.store_at(pid, address, size, value, &place);
+    Ok(0)
 }
 
-/// Whether a page with this place takes an access as memory stands: it is mapped, and for a write has the right to
-/// write and a frame of its own.
+/// Whether a page takes an access as memory stands: it is mapped, and for a write has the right to write and a frame of
+/// its own. The place is the page's.
 #[inline(always)]
-fn takes(place: &Place, access: Access) -> bool
-    ensures read { access ≡ Access.Read → result ≡ is_some (found_of place.now) }
-    ensures write { access ≡ Access.Write → result ≡ takes_place place.now }
+fn takes(processes: &Processes, pid: Pid, page: Page, access: Access, place: &Place) -> bool
+    requires user { IsUserPage page }
+    requires place { place.now ≡ place_in processes.now.directories processes.now.bytes pid page }
+    ensures takes { result ≡ takes_at processes.now pid access page }
+    ensures real { result ≡ true → access ≡ Access.Write
+        → is_lazy_at (memory_of processes.now) (at_page pid page) ≡ false }
+    ensures live { result ≡ true → is_live processes.now.state pid ≡ true }
 {
+    processes.tells(pid, page, place);
     match access {
         Access::Read => place.is_mapped(),
         Access::Write => place.takes_stores(),
     }
 }
 
-/// Tries an access over two pages of the user range that completes as memory stands: the value read, or 0 after a
-/// write. None where it doesn't, and nothing changes.
-#[inline(always)]
-fn try_over(
-    processes: &mut Processes,
-    pid: Pid,
-    address: Vaddr,
-    size: Size,
-    access: Access,
-    value: u32,
-) -> Option<u32>
-    requires within { outside address size ≡ None }
-    ensures result { IfSome result (λ value. access_result processes.old pid address size access ≡ Ok value) }
-    ensures state { IsSome result → processes.new.state
-        ≡ after_access processes.old.state pid address size access value }
-    ensures stay { FramesStay none_goes (memory_of processes.old) (memory_of processes.new) }
-    ensures none { IsNone result → processes.new ≡ processes.old }
-{
-    let page = page_of(address);
-    let second = second_page(address, size)?;
-    let first = processes.spaces().place(pid, page);
-    processes.tells(pid, page, &first);
-    let behind = processes.spaces().place(pid, second);
-    processes.tells(pid, second, &behind);
-    if !takes(&first, access) || !takes(&behind, access) {
-        return None;
-    }
-    let places = Places {
-        first: Some(first),
-        second: Some(behind),
-    };
-    Some(processes.access_at(pid, address, size, access, value, &places))
-}
-
-/// An access over two pages by its plan, as `access` makes it.
+/// An access over two pages by its plan, as `access` makes it. The places are those of the pages.
 #[inline(never)]
 fn plan_over(
     processes: &mut Processes,
@@ -259,7 +236,12 @@ fn plan_over(
     size: Size,
     access: Access,
     value: u32,
+    behind: Page,
+    places: &Places,
 ) -> Result<u32, Stop>
+    requires within { outside address size ≡ None }
+    requires behind { second_page address size ≡ Some behind }
+    requires places { places.now ≡ access_places processes.old pid address size }
     ensures result { result ≡ access_result processes.old pid address size access }
     ensures state { IsOk result → processes.new.state ≡ after_access processes.old.state pid address size access value }
     ensures stay { FramesStay (lazy_written access pid address size) (memory_of processes.old)
@@ -269,25 +251,22 @@ fn plan_over(
     let Some(container) = processes.container(pid) else {
         return Err(Stop::Refused(Cause::NoProcess));
     };
-    let places = processes.access_places(pid, address, size);
-    let planned = plan_by(processes, pid, address, size, access, &container, &places);
+    let second = Some(behind);
+    let planned = plan_within(processes, pid, address, second, access, &container, places);
     match planned.plan {
-        Plan::Ready { .. } => Ok(settle_at(
-            processes,
-            &planned.plan,
-            pid,
-            address,
-            size,
-            access,
-            value,
-            &places,
-        )),
+        Plan::Ready { first, second } => {
+            let second = second.unwrap();
+            Ok(settle_over(
+                processes, first, second, pid, address, size, access, value, behind, places,
+            ))
+        }
         Plan::Fault(fault) => Err(Stop::Fault(fault)),
         Plan::Refused(cause) => Err(Stop::Refused(cause)),
     }
 }
 
-/// An access over two pages of the user range, as `access` makes it.
+/// An access over two pages of the user range, as `access` makes it. Each page is looked up once; the places serve the
+/// attempt, which needs no plan if both pages take the access as memory stands, and otherwise the plan.
 #[inline(never)]
 fn access_over(
     processes: &mut Processes,
@@ -296,31 +275,31 @@ fn access_over(
     size: Size,
     access: Access,
     value: u32,
+    second: Page,
 ) -> Result<u32, Stop>
     requires within { outside address size ≡ None }
+    requires second { second_page address size ≡ Some second }
     ensures result { result ≡ access_result processes.old pid address size access }
     ensures state { IsOk result → processes.new.state ≡ after_access processes.old.state pid address size access value }
     ensures stay { FramesStay (lazy_written access pid address size) (memory_of processes.old)
         (memory_of processes.new) }
+    ensures frames { takes_no_frame (plan_at processes.old pid address size access) ≡ true
+        → processes.new.roles ≡ processes.old.roles }
     ensures kept { IsErr result → processes.new ≡ processes.old }
 {
-    match try_over(processes, pid, address, size, access, value) {
-        Some(value) => Ok(value),
-        None => plan_over(processes, pid, address, size, access, value),
+    let page = page_of(address);
+    let first = processes.spaces().place(pid, page);
+    let behind = processes.spaces().place(pid, second);
+    if takes(processes, pid, page, access, &first)
+        && takes(processes, pid, second, access, &behind)
+    {
+        let places = both(&first, &behind);
+        return Ok(processes.access_at(pid, address, size, access, value, &places));
     }
-}
-
-/// Why an access stops whose first byte outside the user range this is.
-#[inline(always)]
-fn stop_outside(processes: &Processes, pid: Pid, byte: Vaddr, access: Access) -> Stop
-    ensures { result ≡ (if is_live processes.now.state pid then stop.Fault (page_fault byte access false)
-        else stop.Refused NoProcess) }
-{
-    if processes.live(pid) {
-        Stop::Fault(PageFault::new(byte, access, false))
-    } else {
-        Stop::Refused(Cause::NoProcess)
-    }
+    let planned = both(&first, &behind);
+    plan_over(
+        processes, pid, address, size, access, value, second, &planned,
+    )
 }
 
 /// An access, by its plan: the value read, or 0 after a write.
@@ -340,14 +319,38 @@ pub fn access(
     ensures state { IsOk result → processes.new.state ≡ after_access processes.old.state pid address size access value }
     ensures stay { FramesStay (lazy_written access pid address size) (memory_of processes.old)
         (memory_of processes.new) }
+    ensures frames { takes_no_frame (plan_at processes.old pid address size access) ≡ true
+        → processes.new.roles ≡ processes.old.roles }
     ensures kept { IsErr result → processes.new ≡ processes.old }
 {
-    if let Some(byte) = outside(address, size) {
-        return Err(stop_outside(processes, pid, byte, access));
+    match reach(address, size) {
+        Ok(None) => access_in_page(processes, pid, address, size, access, value),
+        Ok(Some(second)) => access_over(processes, pid, address, size, access, value, second),
+        Err(_) if !processes.live(pid) => Err(Stop::Refused(Cause::NoProcess)),
+        Err(byte) => Err(Stop::Fault(PageFault::new(byte, access, false))),
     }
-    if is_in_page(address, size) {
-        plan_and_settle(processes, pid, address, size, access, value)
-    } else {
-        access_over(processes, pid, address, size, access, value)
-    }
+}
+
+/// Carries out an access that completes, by the plan of this state: the value read, or 0 after a write.
+/// An access that completes as memory stands takes no frame.
+pub fn settle(
+    processes: &mut Processes,
+    plan: Plan,
+    pid: Pid,
+    address: Vaddr,
+    size: Size,
+    access: Access,
+    value: u32,
+) -> u32
+    requires plan { plan ≡ plan_at processes.old pid address size access }
+    requires ready { goes_on plan ≡ true }
+    ensures value { result ≡ access_value processes.old.state pid address size access }
+    ensures state { processes.new.state ≡ after_access processes.old.state pid address size access value }
+    ensures stay { FramesStay (lazy_written access pid address size) (memory_of processes.old)
+        (memory_of processes.new) }
+    ensures frames { takes_no_frame plan ≡ true → processes.new.roles ≡ processes.old.roles }
+{
+    processes.stands();
+    let _ = plan;
+    crate::access(processes, pid, address, size, access, value).unwrap()
 }

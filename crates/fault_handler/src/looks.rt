@@ -2,28 +2,17 @@
 
 ghost use Rattle.std.specs.Prelude.{◌≡◌, ◌≤◌, IfSome, true};
 ghost use Rattle.std.specs.Option.{option_and_then};
-ghost use Rattle.page_words.specs.Addresses.{page_number, second_page, EachTouched, IsUserPage};
+ghost use Rattle.page_words.specs.Addresses.{page_number, IsUserPage};
 ghost use Rattle.address_space.specs.Places.{place_in};
 ghost use Rattle.process_table.specs.Places.{place_at};
 ghost use Rattle.process_table.specs.State.{is_live};
-ghost use Rattle.fault_handler.specs.Looks.{step_there, look_of, look_behind, barred, open_one_region, need_by};
+ghost use Rattle.fault_handler.specs.Looks.{look_of, look_behind, barred, open_one_region, need_by};
 
 use crate::plans::{Look, PageStep};
 use address_space::Place;
-use page_words::{Page, Pid, Size, Vaddr, page_of, second_page, slot_of, start_of};
+use page_words::{Page, Pid, Vaddr, page_of, slot_of, start_of};
 use process_table::Processes;
 use table_walk::Access;
-
-/// Returns the step for a mapped page: Fill for a write to a lazy page, otherwise Complete.
-fn step_there(access: Access, is_lazy: bool) -> PageStep
-    ensures { result ≡ step_there access is_lazy }
-{
-    if access == Access::Write && is_lazy {
-        PageStep::Fill
-    } else {
-        PageStep::Complete
-    }
-}
 
 /// Returns what the place of the page with a byte of an access says about the access.
 #[inline(always)]
@@ -44,32 +33,34 @@ pub fn look_at(processes: &Processes, pid: Pid, access: Access, byte: Vaddr, pla
         },
         Some(found) => Look {
             byte,
-            step: step_there(access, found.entry.lazy),
+            step: if access == Access::Write && found.entry.lazy {
+                PageStep::Fill
+            } else {
+                PageStep::Complete
+            },
             read_only: !found.entry.write,
             need: 0,
         },
     }
 }
 
-/// Returns what the place of an access's second page says, if there is one.
+/// Returns what the place of an access's second page says, if it has one.
 #[inline(always)]
 pub fn look_behind(
     processes: &Processes,
     pid: Pid,
     access: Access,
-    address: Vaddr,
-    size: Size,
+    second: Option<Page>,
     place: &Option<Place>,
 ) -> Option<Look>
     requires live { is_live processes.now.state pid ≡ true }
-    requires user { EachTouched address size IsUserPage }
-    requires place { place.now ≡ option_and_then (place_at processes.now pid) (second_page address size) }
-    ensures look { result ≡ look_behind processes.now pid access address size }
+    requires user { IfSome second IsUserPage }
+    requires place { place.now ≡ option_and_then (place_at processes.now pid) second }
+    ensures look { result ≡ look_behind processes.now pid access second }
     ensures few { IfSome result (λ look. look.need ≤ 2) }
 {
-    let page = second_page(address, size)?;
-    let place = place.unwrap();
-    Some(look_at(processes, pid, access, start_of(page), &place))
+    let byte = start_of(second?);
+    Some(look_at(processes, pid, access, byte, &place.unwrap()))
 }
 
 /// The first byte that an access may not have.

@@ -1,31 +1,38 @@
 //! Plans accesses, and computes the charge after each plan.
 
-ghost use Rattle.std.specs.Prelude.{◌≡◌, ◌<◌, ◌≤◌, ℕ, true, false, IfSome, Some, None};
+ghost use Rattle.std.specs.Prelude.{◌≡◌, ◌<◌, ◌≤◌, ℕ, true, false, IfSome, Some};
+ghost use Rattle.std.specs.Option.{option_and_then};
+ghost use Rattle.page_words.specs.Addresses.{page_number, second_page, IsUserPage};
+ghost use Rattle.page_words.specs.declared.addresses.Size.{Size};
+ghost use Rattle.address_space.specs.Places.{place_in};
 ghost use Rattle.address_space.specs.Spaces.{cost};
 ghost use Rattle.process_table.specs.Calls.{after_load, after_store};
-ghost use Rattle.process_table.specs.Places.{access_places};
+ghost use Rattle.process_table.specs.Places.{access_places, place_at};
 ghost use Rattle.process_table.specs.State.{container_of, is_live};
 ghost use Rattle.fault_handler.specs.Plans.{outside, plan_at, goes_on};
-ghost use Rattle.fault_handler.specs.Looks.{ready_by, roomy_by, planned_by_looks, planned_at};
+ghost use Rattle.fault_handler.specs.Looks.{planned_at, planned_by_looks, reach_by, ready_by, roomy_by};
 
 use crate::looks::{barred, look_at, look_behind, need_by};
 use crate::plans::{Look, Plan, Planned};
-use page_words::{Pid, Size, Vaddr, WIDE_FRAMES, in_user_range, page_of, second_page, start_of};
+use page_words::{
+    Page, Pid, Size, Vaddr, WIDE_FRAMES, in_user_range, page_of, second_page, start_of,
+};
 use process_table::{Cause, Places, Processes, left_of};
 use quota_tree::Container;
 use table_walk::{Access, PageFault};
 
-/// The first byte of an access that lies outside the user range.
+/// The second page of an access to the user range, if it has one; or its first byte that lies outside.
 #[inline(always)]
-pub(crate) fn outside(address: Vaddr, size: Size) -> Option<Vaddr>
-    ensures { result ≡ outside address size }
+pub(crate) fn reach(address: Vaddr, size: Size) -> Result<Option<Page>, Vaddr>
+    ensures { result ≡ reach_by (outside address size) (second_page address size) }
 {
     if !in_user_range(page_of(address)) {
-        return Some(address);
+        return Err(address);
     }
     match second_page(address, size) {
-        Some(second) if !in_user_range(second) => Some(start_of(second)),
-        _ => None,
+        None => Ok(None),
+        Some(second) if in_user_range(second) => Ok(Some(second)),
+        Some(second) => Err(start_of(second)),
     }
 }
 
@@ -90,54 +97,33 @@ pub(crate) fn by_looks(
     }
 }
 
-/// Plans a live process's access to pages of the user range, from their places.
+/// Plans a live process's access to pages of the user range, from their places. `second` is the second page.
 #[inline(always)]
-fn plan_within(
+pub(crate) fn plan_within(
     processes: &Processes,
     pid: Pid,
     address: Vaddr,
-    size: Size,
+    second: Option<Page>,
     access: Access,
     container: &Container,
     places: &Places,
 ) -> Planned
     requires live { is_live processes.now.state pid ≡ true }
     requires container { container_of processes.now.state pid ≡ Some container.now }
-    requires within { outside address size ≡ None }
-    requires places { places.now ≡ access_places processes.now pid address size }
-    ensures { result ≡ planned_at processes.now pid address size access }
+    requires user { IsUserPage (page_number address) }
+    requires behind { IfSome second IsUserPage }
+    requires first { places.now.first ≡ Some (place_in processes.now.directories processes.now.bytes pid
+        (page_number address)) }
+    requires second { places.now.second ≡ option_and_then (place_at processes.now pid) second }
+    ensures { (size : Size) → second_page address size ≡ second → outside address size ≡ None
+        → result ≡ planned_at processes.now pid address size access }
 {
     processes.stands();
     processes.spaces().stands();
     let place = places.first.unwrap();
     let first = look_at(processes, pid, access, address, &place);
-    let second = look_behind(processes, pid, access, address, size, &places.second);
+    let second = look_behind(processes, pid, access, second, &places.second);
     by_looks(access, &first, &second, container)
-}
-
-/// Plans a live process's access; a byte outside the user range is a fault. `container` is the process's.
-#[inline(always)]
-fn planned_of(
-    processes: &Processes,
-    pid: Pid,
-    address: Vaddr,
-    size: Size,
-    access: Access,
-    container: &Container,
-    places: &Places,
-) -> Planned
-    requires live { is_live processes.now.state pid ≡ true }
-    requires container { container_of processes.now.state pid ≡ Some container.now }
-    requires places { places.now ≡ access_places processes.now pid address size }
-    ensures { result ≡ planned_at processes.now pid address size access }
-{
-    match outside(address, size) {
-        Some(byte) => planned(
-            Plan::Fault(PageFault::new(byte, access, false)),
-            container.used,
-        ),
-        None => plan_within(processes, pid, address, size, access, container, places),
-    }
 }
 
 /// Returns the plan of a live process's access, as `plan` does, and the process's charge after it. After a fault or a
@@ -163,7 +149,13 @@ pub fn plan_by(
         → result.charge ≡ cost (after_store processes.now.state pid address size value).spaces pid }
     ensures stays { goes_on result.plan ≡ false → result.charge ≡ cost processes.now.state.spaces pid }
 {
-    planned_of(processes, pid, address, size, access, container, places)
+    match reach(address, size) {
+        Ok(second) => plan_within(processes, pid, address, second, access, container, places),
+        Err(byte) => planned(
+            Plan::Fault(PageFault::new(byte, access, false)),
+            container.used,
+        ),
+    }
 }
 
 /// Returns the plan of a live process's access.

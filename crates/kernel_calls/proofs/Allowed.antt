@@ -1,23 +1,18 @@
 -- What an event ends, by the test of its call.
-use Rattle.kernel_calls.proofs.Prelude.{◌≡◌, ℕ, Bool, true, Option, None, arith, IsUserPage, Size, Write, is_live, View}
-use Rattle.kernel_calls.proofs.Prelude.{IsWellFormed, Cause, may_protect, may_accept, giver_user, user_page, plan_at}
+use Rattle.kernel_calls.proofs.Prelude.{◌≡◌, ℕ, true, Option, None, arith, IsUserPage, Size, Write, is_live, View}
+use Rattle.kernel_calls.proofs.Prelude.{IsWellFormed, Cause, may_accept, giver_user, plan_at}
 use Rattle.kernel_calls.proofs.Prelude.{answer_of, refused_or, of_call, of_plan, if_allowed, ended_by, Call, Event}
 use Rattle.kernel_calls.proofs.Prelude.{Ended}
-use Rattle.process_table.specs.TestAnswers.{first_cause, number_unless, protect_answer, accept_answer}
+use Rattle.process_table.specs.TestAnswers.{first_cause, number_unless, accept_answer}
 use Rattle.kernel_calls.proofs.Decided.{goes-call}
 use Rattle.kernel_calls.specs.declared.calls.Call.TheVariants as call
 use Rattle.kernel_calls.specs.declared.calls.Reply.TheVariants as reply
 use Rattle.kernel_calls.specs.declared.translations.Ended.TheVariants as end
 
 -- a call whose reply is Done or a refusal ends what `of_call` says, if its test finds nothing against it
-pub allowed : (v : View) (e : Event) (c : Call) (x : Option Cause) (number : ℕ) (y : Ended) → e.call ≡ c → answer_of v.state e.pid c ≡ refused_or x reply.Done
+allowed : (v : View) (e : Event) (c : Call) (x : Option Cause) (number : ℕ) (y : Ended) → e.call ≡ c → answer_of v.state e.pid c ≡ refused_or x reply.Done
     → (x ≡ None → y ≡ of_call v e.pid c) → if_allowed (number_unless (first_cause v.state e.pid x) number) y ≡ ended_by v e
 allowed v e c x number y is told same = grind arith
-
--- a Protect
-pub protect_ended : (v : View) (e : Event) (page : ℕ) (write : Bool) (y : Ended) → e.call ≡ call.Protect page write
-    → (IsUserPage page → y ≡ of_call v e.pid (call.Protect page write)) → if_allowed (protect_answer v.state e.pid page write) y ≡ ended_by v e
-protect_ended v e page write y is same = grind (arith, allowed, user_page, may_protect)
 
 -- an Accept: what is accepted is of the user range
 pub accept_ended : (v : View) (e : Event) (giver giver_page page : ℕ) (y : Ended) → IsWellFormed v.state → e.call ≡ call.Accept giver giver_page page

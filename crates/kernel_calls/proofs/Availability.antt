@@ -8,14 +8,12 @@ use Prelude.{next_number, given-remove, number-remove, OfferKey, offer_order, of
 use Prelude.{is_write, extra_page, extra_touched, State, is_live, is_mapped, room, extra_cost, overdrawn, map_refusal}
 use Prelude.{unmap_refusal, protect_refusal, offer_refusal, withdraw_refusal, accept_refusal, spawn_refusal}
 use Prelude.{fork_refusal, exit_refusal, IsWellFormed, Cause, next_free, not_less, plan_of, step_of, forbidden}
-use Prelude.{is_read_only, fault_or, goes_on, Plan, ready, flags_at, lost, Loses, OthersNeverRefuse, RunsNeverRefuse}
-use Prelude.{answer, answer_of, after, next, end_of, completes, refused_or, planned_or, Call, Event, Reply}
+use Prelude.{is_read_only, fault_or, goes_on, Plan, ready, flags_at, lost, RunsNeverRefuse, answer, answer_of, after}
+use Prelude.{next, end_of, completes, refused_or, planned_or, Call, Event, Reply}
 use Rattle.std.specs.Prelude.{find}
 use Rattle.page_words.proofs.MapLemmas.{retain-insert_other}
 use Rattle.process_table.proofs.Sizes.{len-retain}
-use Rattle.kernel_calls.proofs.Births.{child_dead, place_of}
 use Rattle.kernel_calls.proofs.Decided.{next-stays, next-goes}
-use Rattle.kernel_calls.proofs.GivenUp.{offers_stay}
 use Rattle.kernel_calls.proofs.Runs.{not-refused, went-on, kept-next}
 use Rattle.kernel_calls.proofs.Untouched.{LeavesAll, leaves_all, caller_live}
 use Rattle.kernel_calls.proofs.UntouchedSlots.{none_in}
@@ -27,8 +25,8 @@ use Rattle.kernel_calls.specs.declared.calls.Reply.TheVariants as reply
 
 -- ---- What the events of others leave of what a process may do
 
-record Leaves (s t : State) (p : ℕ) : Type 0 where
-  member : map.get t.book p ≡ map.get s.book p
+pub record Leaves (s t : State) (p : ℕ) : Type 0 where
+  pub member : map.get t.book p ≡ map.get s.book p
   flags : (page : ℕ) → flags_at t (at_page p page) ≡ flags_at s (at_page p page)
   given : given t.book p ≤ given s.book p
   children : number_of_children t.book p ≤ number_of_children s.book p
@@ -82,7 +80,7 @@ module _ (s : State) (o : Event) (p : ℕ) (w : IsWellFormed s) (live : is_live 
           let b = number-remove s.book o.pid m.0 m.1 p in
           (omega (arith, a), omega (arith, b)))
 
-  leaves_one : Leaves s (next s o) p
+  pub leaves_one : Leaves s (next s o) p
   leaves_one = grind (arith, all, no_more, next-stays, next-goes, few_after)
 
 leaves_run : (s : State) (others : List Event) (p : ℕ) → IsWellFormed s → is_live s p ≡ true
@@ -115,7 +113,7 @@ some_of : (x : Option ℕ) → is_none x ≡ false → (k : ℕ) × (x ≡ Some 
 some_of x h = grind arith
 
 -- why a call is lost
-abbrev Lost : State → State → ℕ → Call → Type 0
+abbrev pub Lost : State → State → ℕ → Call → Type 0
 Lost s t p (call.Offer _ target _) = (is_live s target ≡ true) × (is_live t target ≡ false)
 Lost s t p (call.Withdraw page target) = (map.contains_key s.offers (offer_key p page target) ≡ true)
     × (map.contains_key t.offers (offer_key p page target) ≡ false)
@@ -125,7 +123,7 @@ Lost s t p (call.Spawn _) = (k : ℕ) × (is_live s k ≡ false) × (is_live t k
 Lost s t p (call.Fork _) = (k : ℕ) × (is_live s k ≡ false) × (is_live t k ≡ true)
 Lost s t p _ = ⊥
 
-abbrev Outcome : State → State → ℕ → Call → Type 0
+abbrev pub Outcome : State → State → ℕ → Call → Type 0
 Outcome s t p c = (completes (answer_of t p c) ≡ true)
     ⊎ ((lost c ≡ Some (answer_of t p c)) × Lost s t p c)
 
@@ -187,7 +185,7 @@ module _ (s t : State) (p : ℕ) (l : Leaves s t p) where
   accept_stays giver giver_page page h = grind (arith, four, mapped, fits, extra_page, pages, not-false)
 
   -- a number that was free, and is not
-  taken : (k : ℕ) → next_number s.book ≡ Some k → next_number t.book ≡ None
+  pub taken : (k : ℕ) → next_number s.book ≡ Some k → next_number t.book ≡ None
       → (k : ℕ) × (is_live s k ≡ false) × (is_live t k ≡ true)
   taken k some none =
       let f = next_free s.book k some in
@@ -230,7 +228,7 @@ module _ (s t : State) (p : ℕ) (l : Leaves s t p) where
   exit_stays : exit_refusal s p ≡ None → exit_refusal t p ≡ None
   exit_stays h = grind (arith, choice, not_less, nat_tests)
 
-  outcome : (c : Call) → completes (answer_of s p c) ≡ true → Outcome s t p c
+  pub outcome : (c : Call) → completes (answer_of s p c) ≡ true → Outcome s t p c
   outcome (call.Load addr size) h =
       inl (access_stays addr size Read _ refl (went-on (plan_of s p addr size Read) _ h))
   outcome (call.Store addr size value) h =
@@ -251,61 +249,11 @@ module _ (s t : State) (p : ℕ) (l : Leaves s t p) where
         exit_stays,
       )
 
--- ---- Whose event loses a call
-
-module _ (s : State) (o : Event) (p : ℕ) (d : p ≢ o.pid) where
-  comes : (k : ℕ) → is_live s k ≡ false → is_live (next s o) k ≡ true → answer s o ≡ reply.Child k
-  comes k was now = grind (arith, place_of)
-
-  goes : (k : ℕ) → is_live s k ≡ true → is_live (next s o) k ≡ false → (o.pid ≡ k) × (o.call ≡ call.Exit)
-  goes k was now = grind (arith, place_of, child_dead)
-
-  loses : (c : Call) → Lost s (next s o) p c → Loses s o p c
-  loses (call.Withdraw page target) x =
-      let at = some_value (map.get s.offers (offer_key p page target)) x.0 in
-      elim (offers_stay s o (offer_key p page target) at.0 at.1) [
-        | inl stays ↦ absurd (let a = ap is_some stays in let b = x.1 in cc)
-        | inr ends ↦ elim ends [
-          | inl settles ↦ elim settles [
-            | inl withdrawn ↦ absurd (d (sym withdrawn.0))
-            | inr taken ↦ (taken.0, inr taken.1)
-          ]
-          | inr leaves ↦ elim leaves [
-            | inl left ↦ absurd (d left.own)
-            | inr exits ↦ (sym exits.0, inl exits.1)
-          ]
-        ]
-      ]
-  loses (call.Accept giver giver_page page) x =
-      let at = some_value (map.get s.offers (offer_key giver giver_page p)) x.0 in
-      elim (offers_stay s o (offer_key giver giver_page p) at.0 at.1) [
-        | inl stays ↦ absurd (let a = ap is_some stays in let b = x.1 in cc)
-        | inr ends ↦ elim ends [
-          | inl settles ↦ elim settles [
-            | inl withdrawn ↦ (withdrawn.0, inr (inr withdrawn.1))
-            | inr taken ↦ absurd (d (sym taken.0))
-          ]
-          | inr leaves ↦ elim leaves [
-            | inl left ↦ grind arith
-            | inr exits ↦ absurd (d exits.0)
-          ]
-        ]
-      ]
-  loses _ x = grind (arith, goes, comes)
+-- ---- After a run of events of others
 
 -- the reply is that of a live process
-answered : (t : State) (e : Event) → is_live t e.pid ≡ true → answer t e ≡ answer_of t e.pid e.call
+pub answered : (t : State) (e : Event) → is_live t e.pid ≡ true → answer t e ≡ answer_of t e.pid e.call
 answered t e live = ap (λ b. if b then answer_of t e.pid e.call else reply.Refused cause.NoProcess) live
-
-pub others_never_refuse : OthersNeverRefuse
-others_never_refuse s o e w d done =
-    let c = caller_live s e done in
-    let l = leaves_one s o e.pid w c.0 d in
-    let is = answered (next s o) e (ap is_some l.member ∙ c.0) in
-    elim (outcome s (next s o) e.pid l e.call c.1) [
-      | inl completes_too ↦ inl (ap completes is ∙ completes_too)
-      | inr x ↦ inr (loses s o e.pid d e.call x.1, x.0 ∙ ap Some (sym is))
-    ]
 
 pub runs_never_refuse : RunsNeverRefuse
 runs_never_refuse s others e w apart done =

@@ -16,8 +16,6 @@ use Rattle.kernel_calls.proofs.Translated.{way_mapped, walk_takes, walk_finds, h
 use Rattle.page_words.specs.FiniteMap as map
 use Rattle.page_words.specs.FiniteSet as set
 use Rattle.fault_handler.specs.declared.plans.PageStep.TheVariants as step
-use Rattle.fault_handler.specs.declared.plans.Plan.TheVariants as plan
-use Rattle.process_table.specs.declared.causes.Cause.TheVariants as cause
 use Rattle.kernel_calls.specs.declared.calls.Call.TheVariants as call
 use Rattle.kernel_calls.specs.declared.translations.Ended.TheVariants as end
 use Rattle.kernel_calls.proofs.Runs.{not-refused}

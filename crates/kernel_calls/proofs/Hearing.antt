@@ -2,8 +2,8 @@
 use Rattle.kernel_calls.proofs.Prelude
 use Prelude.{◌≡◌, ℕ, ◌&&◌, Bool, true, false, List, [], ◌∷◌, refl, sym, ap, subst, ◌∙◌, arith, if◌then◌else◌, State}
 use Prelude.{is_live, IsWellFormed, LooksSame, found, members_after, members_at_end, IsQuiet, Along, Heard, heard}
-use Prelude.{AskAlike, MembersHearTheSame, HaveTheSame, KeepsWithin, IsFamily, FamiliesHearTheirOwn, FamiliesEndTheSame}
-use Prelude.{exchanges, answer, next, end_of, Event, and_parts}
+use Prelude.{AskAlike, MembersHearTheSame, HaveTheSame, KeepsWithin, IsFamily, FamiliesHearTheirOwn, exchanges, answer}
+use Prelude.{next, end_of, Event, and_parts}
 use Rattle.kernel_calls.proofs.Outsiders.{outsiders_unseen}
 use Rattle.kernel_calls.proofs.Standings.{live_in}
 use Rattle.kernel_calls.proofs.Runs.{kept-next}
@@ -254,6 +254,3 @@ families_hear s t C events others w v family family_t l within within_t alike =
 pub families_hear_their_own : FamiliesHearTheirOwn
 families_hear_their_own s events w t C others v family family_t l within within_t alike =
     (families_hear s t C events others w v family family_t l within within_t alike).0
-
-pub families_end_the_same : FamiliesEndTheSame
-families_end_the_same s t h events others w v family family_t l within within_t alike = grind (arith, families_hear)

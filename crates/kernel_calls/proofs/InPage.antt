@@ -8,7 +8,6 @@ use Rattle.process_table.specs.Calls.{after_access}
 use Rattle.kernel_calls.specs.Replied.{IsReplied}
 use Rattle.kernel_calls.proofs.Planned.{same_reply}
 use Rattle.kernel_calls.proofs.Tried.{is_replied}
-use Rattle.process_table.specs.declared.causes.Cause.TheVariants as cause
 use Rattle.fault_handler.specs.declared.plans.Stop.TheVariants as stop
 use Rattle.kernel_calls.specs.declared.calls.Reply.TheVariants as reply
 

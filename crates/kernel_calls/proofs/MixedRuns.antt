@@ -9,7 +9,6 @@ use Rattle.kernel_calls.specs.Processors.{stored, refilled, forgotten, Steps, Ar
 use Rattle.kernel_calls.proofs.KeptAccesses.{live, kept_find, kept_reply, kept_loads, kept_stores}
 use Rattle.kernel_calls.proofs.Leaving.{left_read}
 use Rattle.kernel_calls.proofs.WalkedReplies.{answered, lives}
-use Rattle.kernel_calls.specs.declared.calls.Call.TheVariants as call
 use Rattle.kernel_calls.specs.declared.translations.Ended.TheVariants as end
 
 -- ---- What is kept

@@ -11,9 +11,7 @@ use Rattle.process_table.proofs.SpaceLaws.{well_formed-map, well_formed-load, we
 use Rattle.kernel_calls.specs.Laws.{RunsStayWellFormed}
 use Rattle.kernel_calls.proofs.Decided.{by_next}
 use Rattle.page_words.specs.FiniteMap as map
-use Rattle.process_table.specs.declared.causes.Cause.TheVariants as cause
 use Rattle.kernel_calls.specs.declared.calls.Call.TheVariants as call
-use Rattle.kernel_calls.specs.declared.calls.Reply.TheVariants as reply
 
 -- ---- Runs, one behind another
 

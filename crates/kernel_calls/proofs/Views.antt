@@ -6,8 +6,7 @@ use Prelude.{get-retain_keys, is_some-map, Slot, cost, cost_of, pages_of, cell_o
 use Prelude.{same_pages, given, quota_of, number_of_children, next_number, OfferKey, offer_key, pending, Access, Read}
 use Prelude.{Write, extra_page, extra_touched, State, is_live, is_mapped, extra_cost, overdrawn, room, child_of}
 use Prelude.{protect_refusal, loaded, plan_of, Flags, flags_of, flags_at, Shown, shown_of, shown_at, shares, is_offered}
-use Prelude.{HaveTheSame, found, MembersToldTheSame, answer, answer_of, refused_or, planned_or, Call, Event, Reply}
-use Prelude.{eqb-true, eq-eqb}
+use Prelude.{HaveTheSame, found, answer, answer_of, refused_or, planned_or, Call, Event, Reply, eqb-true, eq-eqb}
 use Rattle.kernel_calls.proofs.Standings.{live_in, quota_in, given_in, children_in}
 use Rattle.page_words.specs.FiniteMap as map
 use Rattle.process_table.specs.declared.causes.Cause.TheVariants as cause
@@ -140,6 +139,3 @@ pub process_told : (s t : State) (e : Event) → HasTheSame s t e.pid → found 
     → ((giver page own : ℕ) → e.call ≡ call.Accept giver page own
     → is_offered s e.pid (at_page giver page) ≡ is_offered t e.pid (at_page giver page)) → answer s e ≡ answer t e
 process_told s t e l finds accepts = grind (arith, told_by_own, mapped_same, no_room_same)
-
-pub members_told_the_same : MembersToldTheSame
-members_told_the_same s t e Q l mine finds accepts = process_told s t e (member_has s t Q e.pid mine l) finds accepts

@@ -12,8 +12,8 @@ use Prelude.{own_is, memory_of, State, is_live, View, Plan, Flags, flags_of, fla
 use Prelude.{is_ended, is_all_of, of_plan, of_call, ended_by, Ends, ends_in_region, MapsInRegion, Call, Event, Ended}
 use Rattle.page_words.proofs.Flags.{table_words_by_fields}
 use Rattle.std.specs.FinMap.Entries.{find}
-use Rattle.kernel_calls.specs.Written.{HasNone, TakesLazy, IsSameButAccessed, LeavesToOthers, StandsAsBefore}
-use Rattle.kernel_calls.specs.Written.{WritesItsOwn, EventsLeaveToOthers, EventsWriteTheirOwn}
+use Rattle.kernel_calls.specs.Written.{HasNone, TakesLazy, IsSameButAccessed, StandsAsBefore, WritesItsOwn}
+use Rattle.kernel_calls.specs.Written.{EventsWriteTheirOwn}
 use Rattle.kernel_calls.proofs.Births.{child_dead}
 use Rattle.kernel_calls.proofs.Effects.{slots_come}
 use Rattle.kernel_calls.proofs.RightfulChanges.{changes_are_rightful}
@@ -23,7 +23,6 @@ use Rattle.kernel_calls.proofs.Untouched.{integrity}
 use Rattle.kernel_calls.proofs.WalkedReplies.{lives}
 use Rattle.page_words.specs.FiniteMap as map
 use Rattle.page_words.specs.FiniteSet as set
-use Rattle.kernel_calls.specs.declared.calls.Call.TheVariants as call
 
 -- ---- What an event ends of others
 
@@ -56,7 +55,7 @@ ended_call : (v : View) (e : Event) (c : Call) (q region : ℕ) → e.call ≡ c
     → ends_in_region (of_call v e.pid c) q region ≡ true → TakesLazy v e q region
 ended_call v e c q region is differ h = grind (arith, regions_of_plan, no_region, and_parts, eqb-true)
 
-ended_takes : (v : View) (e : Event) (q region : ℕ) → q ≢ e.pid → ends_in_region (ended_by v e) q region ≡ true
+pub ended_takes : (v : View) (e : Event) (q region : ℕ) → q ≢ e.pid → ends_in_region (ended_by v e) q region ≡ true
     → TakesLazy v e q region
 ended_takes v e q region differ h = grind (arith, ended_call)
 
@@ -243,7 +242,6 @@ module _ (v w : View) (e : Event) (before : IsCore v) (later : IsCore w) (state 
           ∙ ap (λ k. Some k) (same_word slot differ spared m) ∙ sym m.there
 
   -- ---- Tables and directories
-
   -- no table comes to a region of another
   no_table_comes : (q region t : ℕ) → q ≢ e.pid → is_live v.state q ≡ true → table_at (memory_of v) q region ≡ None
       → table_at (memory_of w) q region ≡ Some t → ⊥
@@ -345,7 +343,6 @@ module _ (v w : View) (e : Event) (before : IsCore v) (later : IsCore w) (state 
       by false out = grind (arith, a, b, new)
 
   -- ---- Pages
-
   -- no store goes into a page that its process doesn't have
   not_into : (slot : Slot) (f place : ℕ) → slot.pid ≢ e.pid → page_frame (memory_of v) slot ≡ Some f
       → HasNone (memory_of v) e.pid f → IsStoreInto v.state (next v.state e) e slot place → ⊥
@@ -414,20 +411,10 @@ module _ (v w : View) (e : Event) (before : IsCore v) (later : IsCore w) (state 
           (λ k d l. get_or_default o.cell.bytes k d 0 l ∙ byte k
           ∙ get_or_default m.cell.bytes k 0 d (omega (arith, l, long, also)))
 
-  zero_stays : frame_bytes w.bytes 0 ≡ frame_bytes v.bytes 0
+  pub zero_stays : frame_bytes w.bytes 0 ≡ frame_bytes v.bytes 0
   zero_stays = later.image.memory.sound.zero_frame ∙ sym before.image.memory.sound.zero_frame
 
-  pub leaves : LeavesToOthers v w e
-  leaves = record {
-    zero = zero_stays;
-    pages = pages_stay;
-    tables = tables_stay;
-    directories = directories_stay;
-    ended = ended_takes v e;
-  }
-
   -- ---- By frames
-
   -- a region that leads to a frame which the event may not write isn't ended
   region_stays : (q region : ℕ) → q ≢ e.pid → (TakesLazy v e q region → ⊥) → ends_in_region (ended_by v e) q region ≡ false
   region_stays q region differ none = by (ends_in_region (ended_by v e) q region) refl
@@ -465,9 +452,6 @@ module _ (v w : View) (e : Event) (before : IsCore v) (later : IsCore w) (state 
           let count = counted.1.count in
           let slot = some_member counted.1.members (omega (arith, up, count)) in
           pages_stay slot.0 f ((counted.1.are slot.0).0 slot.1) (λ page own. may (inr (inl (inr (inr (page, own))))))
-
-pub events_leave_to_others : EventsLeaveToOthers
-events_leave_to_others = leaves
 
 pub events_write_their_own : EventsWriteTheirOwn
 events_write_their_own = writes

@@ -9,9 +9,14 @@ use Rattle.process_table.specs.View.{View}
 use Rattle.process_table.specs.WellFormed.{IsWellFormed}
 use Rattle.kernel_calls.specs.Authority.{LooksSame}
 use Rattle.kernel_calls.specs.Machine.{answer}
-use Rattle.kernel_calls.specs.TakenBack.{info_of_page}
 use Rattle.kernel_calls.specs.Translations.{TranslationsStay, SlotsStay, DirectoriesStay, TablesStay, TablesMap, Ends, Kept, Keeping, AreRead, is_ended, left_by}
+use Rattle.kernel_calls.specs.declared.calls.Call.TheVariants as call
+use Rattle.kernel_calls.specs.declared.calls.Event.{Event}
 use Rattle.kernel_calls.specs.declared.translations.Ended.{Ended}
+
+-- the Info of a page
+abbrev pub info_of_page : ℕ → ℕ → Event
+info_of_page p page = record { cpu = 0; pid = p; call = call.Info page }
 
 -- whether dirty of a slot is set; a slot that is not mapped has none
 abbrev pub is_dirty_at : State → Slot → Bool

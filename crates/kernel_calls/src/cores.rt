@@ -29,13 +29,13 @@ ghost use Rattle.kernel_calls.specs.Machine.{answer, next, answers, end_of, comp
 ghost use Rattle.kernel_calls.specs.Decisions.{decision_of, charge_in, charge_after, plan_of_event};
 ghost use Rattle.kernel_calls.specs.declared.translations.Ended.TheVariants as end;
 ghost use Rattle.kernel_calls.specs.Gone.{gone_by, gives_back};
-ghost use Rattle.kernel_calls.specs.Translations.{EndsInOrder, ended_by, EndAlong, Ends};
+ghost use Rattle.kernel_calls.specs.Translations.{EndsInOrder, ended_by, Ends};
 ghost use Rattle.kernel_calls.specs.Walked.{finds_event, reply_found, bytes_accessed};
 ghost use Rattle.kernel_calls.specs.Kept.{ServesEvent, StoresMarked, bytes_kept};
 ghost use Rattle.kernel_calls.specs.Written.{WritesItsOwn};
 ghost use Rattle.kernel_calls.specs.declared.calls.Reply.TheVariants as reply;
 
-use crate::calls::{Decision, Event, Outcome, Reply};
+use crate::calls::{Call, Decision, Event, Outcome, Reply};
 use crate::decisions::{decided, judge};
 use crate::pages::{self, PageState};
 use crate::replies::reply_once;
@@ -43,12 +43,13 @@ use crate::translations::{self, Ended};
 use crate::{BootFault, WideFault, walked};
 use alloc_table::Role;
 use page_sharing::Offer;
-use page_words::{Frame, Page, Pid, Vaddr, WIDE_FRAMES, in_user_range, page_of};
+use page_words::{Frame, Page, Pid, Vaddr, WIDE_FRAMES, in_user_range, page_of, second_page};
 use phys_memory::Memory;
 use process_table::Processes;
 use quota_tree::{Account, Container};
 use std::alloc::Global;
 use std::marker::Model;
+use table_walk::Access;
 
 /// The core: processes, their spaces, quotas and offers, over one memory.
 #[derive(Drop)]
@@ -283,27 +284,9 @@ impl Core {
         (reply, ended)
     }
 
-    /// Carries out events in order, as `run` does, and reports of each which translations it ended.
-    pub fn run_ending(&mut self, events: &[Event], replies: &mut [Reply], ended: &mut [Ended])
-        requires replies { length events.now ≡ length replies.old }
-        requires ended { length events.now ≡ length ended.old }
-        ensures replies { replies.new ≡ answers self.old.state events.now }
-        ensures state { self.new.state ≡ end_of self.old.state events.now }
-        ensures stands { StandsFor (image_of self.new) self.new.state }
-        ensures ended { EndAlong events.now ended.new self.old self.new }
-        ensures kept { none_completes replies.new ≡ true → self.new ≡ self.old }
-    {
-        for (i, event) in events.iter().enumerate() {
-            let told = self.step_ending(event);
-            replies[i] = told.0;
-            ended[i] = told.1;
-        }
-        self.stands();
-    }
-
     /// Loads the bytes from an address on, which lie in one page, where it is of the user range and mapped. Whether it
     /// is so; where it isn't, nothing changes.
-    pub(crate) fn load_mapped(&mut self, pid: Pid, address: Vaddr, out: &mut [u8]) -> bool
+    pub fn load_mapped(&mut self, pid: Pid, address: Vaddr, out: &mut [u8]) -> bool
         requires within { offset_number address + length out.old ≤ 4096 }
         ensures user { result ≡ true → IsUserPage (page_number address) }
         ensures mapped { IsUserPage (page_number address) → result ≡ is_mapped self.old.state (slot_at pid address) }
@@ -319,7 +302,7 @@ impl Core {
 
     /// Stores bytes from an address on, which lie in one page, where it is of the user range and takes a store as
     /// memory stands. Whether it is so; where it isn't, nothing changes.
-    pub(crate) fn store_taken(&mut self, pid: Pid, address: Vaddr, part: &[u8]) -> bool
+    pub fn store_taken(&mut self, pid: Pid, address: Vaddr, part: &[u8]) -> bool
         requires within { offset_number address + length part.now ≤ 4096 }
         ensures user { result ≡ true → IsUserPage (page_number address) }
         ensures done { IsUserPage (page_number address)
@@ -339,7 +322,12 @@ impl Core {
     pub fn finds(&self, event: &Event) -> bool
         ensures { result ≡ finds_event self.now event.now }
     {
-        walked::finds(&self.processes, event)
+        let pid = event.pid;
+        match event.call {
+            Call::Load { addr, size } => self.processes.finds(pid, addr, size, Access::Read),
+            Call::Store { addr, size, .. } => self.processes.finds(pid, addr, size, Access::Write),
+            _ => false,
+        }
     }
 
     /// Carries out an event as a processor does by itself, if its walks find a frame for each page. It sets accessed
@@ -377,7 +365,15 @@ impl Core {
             → result ≡ true }
     {
         self.stands();
-        walked::finds_marked(&self.processes, event)
+        let Call::Store { addr, size, .. } = event.call else {
+            return false;
+        };
+        self.finds(event)
+            && pages::is_marked(&self.processes, event.pid, page_of(addr))
+            && match second_page(addr, size) {
+                None => true,
+                Some(page) => pages::is_marked(&self.processes, event.pid, page),
+            }
     }
 
     /// Carries out a store as a processor does by translations that it kept, one for each page that it touches: its
@@ -421,6 +417,17 @@ impl Core {
         self.stands();
         self.processes.set_walked(pid, page, walked);
         self.stands();
+    }
+
+    /// Whether dirty is set at a page of the user range of a process.
+    pub fn is_dirty(&self, pid: Pid, page: Page) -> bool
+        requires user { IsUserPage page }
+        ensures { result ≡ is_dirty_at self.now.state (at_page pid page) }
+    {
+        match self.page(pid, page) {
+            Some(state) => state.cell.dirty,
+            None => false,
+        }
     }
 
     /// Clears accessed and dirty of a mapped page, and returns whether it was dirty. It ends the page's translation:
@@ -513,17 +520,26 @@ impl Core {
         requires user { IsUserPage page }
         ensures { result ≡ page_in self.now pid page }
     {
-        pages::state_of(&self.processes, pid, page)
+        let spaces = self.processes.spaces();
+        let place = spaces.place(pid, page);
+        self.processes.tells(pid, page, &place);
+        let cell = spaces.cell_at(pid, page, &place)?;
+        Some(PageState {
+            cell,
+            lazy: place.is_lazy(),
+        })
     }
 
     /// What a page of the user range that is not mapped costs a process: 1 where it has a page in the region of 1,024
     /// pages, else 2.
-    pub(crate) fn need_at(&self, pid: Pid, page: Page) -> u32
+    pub fn need_at(&self, pid: Pid, page: Page) -> u32
         requires user { IsUserPage page }
         ensures value { result ≡ need self.now.state.spaces pid page }
         ensures most { result ≤ 2 }
     {
-        pages::need_at(&self.processes, pid, page)
+        let place = self.processes.spaces().place(pid, page);
+        self.processes.tells(pid, page, &place);
+        place.need()
     }
 
     /// Returns a process's first pending offer from a page and a target on, in the order of pages, and of targets for

@@ -1,12 +1,12 @@
-//! The place of a page of a process, and what it shows without a call.
+//! What a page of a process shows without a call.
 
-ghost use Rattle.std.specs.Prelude.{◌≡◌, ◌≤◌};
-ghost use Rattle.page_words.specs.Addresses.{IsUserPage};
-ghost use Rattle.address_space.specs.Spaces.{need};
-ghost use Rattle.kernel_calls.specs.Pages.{page_in};
+ghost use Rattle.std.specs.Prelude.{◌≡◌};
+ghost use Rattle.address_space.specs.Kept.{is_marked};
+ghost use Rattle.address_space.specs.Spaces.{at_page};
+ghost use Rattle.process_table.specs.WellFormed.{IsWellFormed};
 
 use address_space::Cell;
-use page_words::{Page, Pid};
+use page_words::{Page, Pid, in_user_range};
 use process_table::Processes;
 
 /// What stands at a mapped page.
@@ -18,30 +18,18 @@ pub struct PageState {
     pub lazy: bool,
 }
 
-/// What stands at a page of the user range; None where it is not mapped.
-pub fn state_of(processes: &Processes, pid: Pid, page: Page) -> Option<PageState>
-    requires user { IsUserPage page }
-    ensures { result ≡ page_in processes.now pid page }
+/// Whether accessed and dirty of a process's page are set.
+pub fn is_marked(processes: &Processes, pid: Pid, page: Page) -> bool
+    requires well_formed { IsWellFormed processes.now.state }
+    ensures { result ≡ is_marked processes.now.state.spaces (at_page pid page) }
 {
-    let spaces = processes.spaces();
-    let place = spaces.place(pid, page);
-    processes.tells(pid, page, &place);
-    match spaces.cell_at(pid, page, &place) {
-        Some(cell) => Some(PageState {
-            cell,
-            lazy: place.is_lazy(),
-        }),
-        None => None,
+    if !in_user_range(page) {
+        return false;
     }
-}
-
-/// What a page of the user range that is not mapped costs a process.
-pub fn need_at(processes: &Processes, pid: Pid, page: Page) -> u32
-    requires user { IsUserPage page }
-    ensures value { result ≡ need processes.now.state.spaces pid page }
-    ensures most { result ≤ 2 }
-{
     let place = processes.spaces().place(pid, page);
     processes.tells(pid, page, &place);
-    place.need()
+    match place.found() {
+        Some(found) => found.entry.accessed && found.entry.dirty,
+        None => false,
+    }
 }

@@ -89,17 +89,17 @@ fn by_store(processes: &Processes, event: &Event, address: Vaddr, size: Size, va
     by_plan(pid, address, size, &plan)
 }
 
-/// What a Protect of a page of the user range ends, where it completes: the translation of a page that let writes
-/// through, where it lets none from then on.
-fn by_protect(processes: &Processes, pid: Pid, page: Page, write: bool) -> Ended
-    ensures { IsUserPage page → result ≡ (if not write && takes_stores processes.now.state.spaces
-        (memory_of processes.now) (at_page pid page) then end.Page pid page else end.Nothing) }
+/// What a Protect to read-only of a page of the user range ends, where it completes: the translation of a page that let
+/// writes through.
+fn by_protect(processes: &Processes, pid: Pid, page: Page) -> Ended
+    ensures { IsUserPage page → result ≡ (if takes_stores processes.now.state.spaces (memory_of processes.now)
+        (at_page pid page) then end.Page pid page else end.Nothing) }
 {
     let Some(place) = processes.place(pid, page) else {
         return Ended::Nothing;
     };
     processes.tells(pid, page, &place);
-    if !write && place.takes_stores() {
+    if place.takes_stores() {
         Ended::Page { pid, page }
     } else {
         Ended::Nothing
@@ -148,10 +148,15 @@ pub fn ended_by(processes: &Processes, event: &Event) -> Ended
         Call::Unmap { page } => {
             if_allowed(processes.can_unmap(pid, page), Ended::Page { pid, page })
         }
-        Call::Protect { page, write } => if_allowed(
-            processes.can_protect(pid, page, write),
-            by_protect(processes, pid, page, write),
-        ),
+        Call::Protect { page, write } => {
+            if write {
+                return Ended::Nothing;
+            }
+            if_allowed(
+                processes.can_protect(pid, page, write),
+                by_protect(processes, pid, page),
+            )
+        }
         Call::Accept {
             giver,
             giver_page,

@@ -2,12 +2,9 @@
 
 ghost use Rattle.std.specs.Prelude.{◌≡◌, ℕ, Some, true};
 ghost use Rattle.address_space.specs.View.{directory_of};
-ghost use Rattle.address_space.specs.Kept.{is_marked};
-ghost use Rattle.address_space.specs.Spaces.{at_page};
 ghost use Rattle.address_space.specs.Stays.{FramesStay, none_goes};
 ghost use Rattle.process_table.specs.Image.{memory_of};
 ghost use Rattle.process_table.specs.State.{container_of};
-ghost use Rattle.process_table.specs.WellFormed.{IsWellFormed};
 ghost use Rattle.fault_handler.specs.Plans.{takes_no_frame};
 ghost use Rattle.kernel_calls.specs.Machine.{answer, next};
 ghost use Rattle.kernel_calls.specs.Decisions.{plan_of_event};
@@ -17,21 +14,8 @@ ghost use Rattle.kernel_calls.specs.declared.calls.Reply.TheVariants as reply;
 
 use crate::calls::{Call, Event, Reply};
 use fault_handler::{complete_by_walk, complete_kept};
-use page_words::{Page, Pid, in_user_range, page_of, second_page};
 use process_table::Processes;
 use table_walk::Access;
-
-/// Whether a processor carries out an event by itself.
-pub fn finds(processes: &Processes, event: &Event) -> bool
-    ensures { result ≡ finds_event processes.now event.now }
-{
-    let pid = event.pid;
-    match event.call {
-        Call::Load { addr, size } => processes.finds(pid, addr, size, Access::Read),
-        Call::Store { addr, size, .. } => processes.finds(pid, addr, size, Access::Write),
-        _ => false,
-    }
-}
 
 /// Makes the access of an event by the walk.
 pub fn access_by_walk(processes: &mut Processes, event: &Event) -> Reply
@@ -58,44 +42,6 @@ pub fn access_by_walk(processes: &mut Processes, event: &Event) -> Reply
             Reply::Done
         }
         _ => unreachable!(),
-    }
-}
-
-/// Whether accessed and dirty of a process's page are set.
-fn is_marked(processes: &Processes, pid: Pid, page: Page) -> bool
-    requires well_formed { IsWellFormed processes.now.state }
-    ensures { result ≡ is_marked processes.now.state.spaces (at_page pid page) }
-{
-    if !in_user_range(page) {
-        return false;
-    }
-    let place = processes.spaces().place(pid, page);
-    processes.tells(pid, page, &place);
-    match place.found() {
-        Some(found) => found.entry.accessed && found.entry.dirty,
-        None => false,
-    }
-}
-
-/// Whether a processor carries out a store by itself, and has no word to mark for it.
-pub fn finds_marked(processes: &Processes, event: &Event) -> bool
-    requires well_formed { IsWellFormed processes.now.state }
-    ensures find { result ≡ true → finds_event processes.now event.now ≡ true }
-    ensures marked { result ≡ true → StoresMarked processes.now.state event.now.pid event.now.call }
-    ensures all { finds_event processes.now event.now ≡ true
-        → StoresMarked processes.now.state event.now.pid event.now.call → result ≡ true }
-{
-    let pid = event.pid;
-    match event.call {
-        Call::Store { addr, size, .. } => {
-            finds(processes, event)
-                && is_marked(processes, pid, page_of(addr))
-                && match second_page(addr, size) {
-                    None => true,
-                    Some(page) => is_marked(processes, pid, page),
-                }
-        }
-        _ => false,
     }
 }
 

@@ -1,5 +1,5 @@
 -- What the finite map of a directory answers, when two are equal, and how many pages one has.
-use Rattle.page_map.proofs.Prelude.{◌≡◌, ◌≢◌, ℕ, zero, suc, ◌+◌, ◌-◌, ◌*◌, ◌<◌, ◌≤◌, Bool, true, false, refl, ap, sym}
+use Rattle.page_map.proofs.Prelude.{◌≡◌, ◌≢◌, ℕ, zero, suc, ◌+◌, ◌-◌, ◌*◌, ◌/◌, ◌<◌, ◌≤◌, Bool, true, false, refl, ap, sym}
 use Rattle.page_map.proofs.Prelude.{◌∙◌, arith, inl, inr, Option, Some, None, is_some, option_and_then, IsUserPage}
 use Rattle.page_map.proofs.Prelude.{slot_number, index_number, PageEntry, is_present, word_in, Frames}
 use Rattle.page_map.proofs.Prelude.{word_entry, table_of, entry_at}
@@ -11,6 +11,7 @@ use Rattle.page_words.specs.FiniteMap.{Map, nat_order, same}
 use Rattle.page_words.proofs.MapLemmas.{get-insert, len-insert, get-collect, same_map}
 use Rattle.page_words.proofs.SetLemmas.{same_cases, get-remove}
 use Rattle.page_map.specs.Pages.{user_pages, entries_of, is_mapped, counted, count_range}
+use mir.Val.{bool_byte}
 use Rattle.page_words.specs.FiniteMap as map
 
 -- a number is one of a range exactly between its ends
@@ -150,6 +151,13 @@ len-entries_of m d = len-user_pages (entry_at m d)
 pub entry_of_map : (m : Frames) (d page : ℕ) (e : Option PageEntry) → IsUserPage page → e ≡ entry_at m d page → e ≡ map.get (entries_of m d) page
 entry_of_map m d page e user is = is ∙ sym (get-entries_user m d page user)
 
+-- a word holds an entry exactly where it is present
+pub present_word : (w : ℕ) (e : PageEntry) → word_entry w ≡ Some e → is_present w ≡ true
+present_word w e is = grind arith
+
+pub absent_word : (w : ℕ) → word_entry w ≡ None → is_present w ≡ false
+absent_word w none = grind arith
+
 -- ---- The pages of one slot
 
 -- a page whose slot has a table is mapped where its word is present
@@ -168,6 +176,11 @@ pub count-no_table : (m : Frames) (d slot : ℕ) → table_of m d slot ≡ None 
 count-no_table m d slot none = count_range-none (λ page. is_some (entry_at m d page)) (1024 * slot) 1024 (λ i l. unmapped_without_table m d slot (1024 * slot + i) (omega arith) none)
 
 -- ---- A count that goes on
+
+-- a test as a number
+pub bool_counted : (b : Bool) → (bool_byte b ≡ counted b) × (bool_byte b ≤ 1)
+bool_counted true = (refl, omega arith)
+bool_counted false = (refl, omega arith)
 
 pub count_word : (p : ℕ → Bool) (i n k : ℕ) → n ≡ count_range p 0 i → k ≡ counted (p i) → n + k ≡ count_range p 0 (i + 1)
 count_word p i n k so_far one = grind (arith, count_range-more)
@@ -188,6 +201,27 @@ found_page m d page low high is = ap is_some (get-entries_user m d page (low, hi
 pub none_from : (m : Frames) (d from end page : ℕ) → ((p : ℕ) → max from 0x40000 ≤ p → p < end → is_some (entry_at m d p) ≡ false)
     → from ≤ page → (page < end) ⊎ (0xf0000 ≤ end) → is_mapped m d page ≡ false
 none_from m d from end page none low before = grind (arith, user_cases, get-entries_user, get-entries_other)
+
+-- slots without a table map no page
+pub none_in_slots : (m : Frames) (d first slot page : ℕ) → ((s : ℕ) → first / 1024 ≤ s → s < slot → table_of m d s ≡ None)
+    → first ≤ page → page < 1024 * slot → is_some (entry_at m d page) ≡ false
+none_in_slots m d first slot page none low high = unmapped_without_table m d (slot_number page) page refl (none (slot_number page) (omega arith) (omega arith))
+
+-- nor is a page mapped before the first entry of the table behind them
+pub none_before : (m : Frames) (d first slot t end page : ℕ) → ((s : ℕ) → first / 1024 ≤ s → s < slot → table_of m d s ≡ None) → table_of m d slot ≡ Some t
+    → ((i : ℕ) → first - 1024 * slot ≤ i → i < end → word_entry (word_in (m t) i) ≡ None)
+    → end ≤ 1024 → first ≤ page → page < 1024 * slot + end → is_some (entry_at m d page) ≡ false
+none_before m d first slot t end page none there empty most low high = elim (cases_lt page (1024 * slot)) [
+  | inl below ↦ none_in_slots m d first slot page none low below
+  | inr above ↦ mapped_in_table m d slot t page (omega arith) there ∙ absent_word (word_in (m t) (index_number page)) (empty (index_number page) (omega arith) (omega arith))
+]
+
+-- that entry's page is
+pub entry_there : (m : Frames) (d slot t index : ℕ) (e : PageEntry) → table_of m d slot ≡ Some t → index < 1024 → word_entry (word_in (m t) index) ≡ Some e
+    → is_some (entry_at m d (slot * 1024 + index)) ≡ true
+entry_there m d slot t index e there small is =
+    let i : index_number (slot * 1024 + index) ≡ index = omega arith in
+    mapped_in_table m d slot t (slot * 1024 + index) (omega arith) there ∙ ap (λ k. is_present (word_in (m t) k)) i ∙ present_word (word_in (m t) index) e is
 
 pub count_end : (p : ℕ → Bool) (slot n : ℕ) → slot ≡ 960 → n ≡ count_range p 0x40000 (1024 * (slot - 256)) → n ≡ count_range p 0x40000 0xb0000
 count_end p slot n end so_far = so_far ∙ ap (count_range p 0x40000) (let e : 1024 * (slot - 256) ≡ 0xb0000 = omega arith in e)

@@ -1,7 +1,7 @@
 -- The names that the proofs of this crate cite from elsewhere, passed on from one place. Declares nothing.
 pub use Rattle.std.proofs.Common.{Bool, List, None, Option, Some, ap, arith, false, inl, inr, is_some, length, refl}
 pub use Rattle.std.proofs.Common.{replicate, subst, suc, sym, true, zero, ℕ, ◌*◌, ◌+◌, ◌-◌, ◌<◌, ◌^◌, ◌∙◌, ◌≡◌, ◌≢◌}
-pub use Rattle.std.proofs.Common.{◌≤◌}
+pub use Rattle.std.proofs.Common.{◌/◌, ◌≤◌}
 pub use Rattle.std.proofs.lemmas.Bool.{cases_eq}
 pub use Rattle.std.proofs.lemmas.List.{length-replicate}
 pub use Rattle.std.proofs.lemmas.Nat.{or_lt}

@@ -1,10 +1,12 @@
 -- What the words that are written say.
-use Rattle.std.proofs.Common.{◌≡◌, ◌≢◌, ℕ, ◌-◌, ◌^◌, ◌<◌, ◌≤◌, Bool, true, false, refl, ap, sym, ◌∙◌, subst, arith}
+use Rattle.std.proofs.Common.{◌≡◌, ◌≢◌, ℕ, ◌-◌, ◌^◌, ◌<◌, ◌≤◌, Bool, true, false, refl, ap, sym, ◌∙◌, subst, arith, inl, inr}
 use Rattle.std.specs.Prelude.{Some, not, ◌&&◌}
 use Rattle.std.proofs.lemmas.Nat.{or_lt, and_le_l}
 use Rattle.std.proofs.Math.Pow.{pow-lt}
 use Rattle.page_words.specs.Words.{flag, with_flag, word_with_frame, frame_number, is_present, is_writable, is_accessed, is_dirty, has_may, is_lazy, is_granted, NamesPage, NamesTable}
-use Rattle.page_words.proofs.Flags.{flag-with_flag_same, flag-with_flag_other, flag-with_frame, frame-with_flag, frame-with_frame}
+use Rattle.page_words.proofs.Flags.{flag-with_flag_same, flag-with_flag_other, flag-with_frame, frame-with_flag, frame-with_frame, same_from_fields}
+use Rattle.page_words.proofs.SetLemmas.{same_cases}
+use Rattle.page_words.specs.FiniteMap.{nat_order}
 use Rattle.page_map.specs.declared.PageEntry.{PageEntry}
 use Rattle.page_map.specs.Entries.{entry_from, lets_writes, walked_word, entry_word, IsKernelEntry, link_word, word_table, word_entry}
 
@@ -107,6 +109,53 @@ entry_word-names e h k =
       right = λ w. ap (λ (x : PageEntry). x.may) from ∙ k.right (sym granted ∙ w);
       touched = λ d. ap (λ (x : PageEntry). x.accessed) from ∙ k.touched (sym (ap (λ (x : PageEntry). x.dirty) from) ∙ d);
     }
+
+-- a flag that reads alike in two words does so after the same flag was set in both
+alike : (v w k j : ℕ) (b c : Bool) → k < 32 → j < 32 → (j ≡ k → b ≡ c) → flag v j ≡ flag w j → flag (with_flag v k b) j ≡ flag (with_flag w k c) j
+alike v w k j b c h i values same = grind (arith, same_cases, flag-with_flag_same, flag-with_flag_other)
+
+-- the entry of a copy on this frame
+abbrev copy : PageEntry → ℕ → PageEntry
+copy e f = record e { frame = f; accessed = false; dirty = false }
+
+copy_flag : (e : PageEntry) (f j : ℕ) → j < 12 → j ≢ 5 → j ≢ 6 → flag (entry_word e) j ≡ flag (entry_word (copy e f)) j
+copy_flag e f j l a d =
+    let i : j < 32 = omega (arith, l) in
+    alike _ _ 11 j e.write e.write (omega arith) i (λ _. refl)
+    (alike _ _ 10 j e.lazy e.lazy (omega arith) i (λ _. refl)
+    (alike _ _ 6 j e.dirty false (omega arith) i (λ is. absurd (d is))
+    (alike _ _ 5 j e.accessed false (omega arith) i (λ is. absurd (a is))
+    (alike _ _ 9 j e.may e.may (omega arith) i (λ _. refl)
+    (alike _ _ 1 j (lets_writes e) (lets_writes e) (omega arith) i (λ _. refl)
+    (alike _ _ 2 j true true (omega arith) i (λ _. refl)
+    (alike _ _ 0 j true true (omega arith) i (λ _. refl)
+    (flag-with_frame 0 e.frame j l ∙ sym (flag-with_frame 0 f j l)))))))))
+
+-- the word of a copy is the page's word with another frame, and untouched
+pub entry_word-copy : (e : PageEntry) (f : ℕ) → f < 2 ^ 20 → with_flag (with_flag (word_with_frame (entry_word e) f) 5 false) 6 false ≡ entry_word (copy e f)
+entry_word-copy e f small = same_from_fields _ _ frame flags
+  where
+    named : ℕ
+    named = word_with_frame (entry_word e) f
+
+    from : entry_from (entry_word (copy e f)) ≡ copy e f
+    from = entry_from-entry_word (copy e f) small
+
+    frame : frame_number (with_flag (with_flag named 5 false) 6 false) ≡ frame_number (entry_word (copy e f))
+    frame =
+        (keeps _ f 6 false (omega arith) (keeps _ f 5 false (omega arith) (record { small = omega (arith, small); frame = frame-with_frame (entry_word e) f }))).frame
+        ∙ sym (entry_word-keeps (copy e f) small).frame
+
+    flags : (j : ℕ) → j < 12 → flag (with_flag (with_flag named 5 false) 6 false) j ≡ flag (entry_word (copy e f)) j
+    flags j l = elim (same_cases nat_order j 6) [
+      | inl six ↦ ap (flag (with_flag (with_flag named 5 false) 6 false)) six.0 ∙ flag-with_flag_same _ 6 false (omega arith)
+          ∙ sym (ap (λ (x : PageEntry). x.dirty) from) ∙ sym (ap (flag (entry_word (copy e f))) six.0)
+      | inr past ↦ flag-with_flag_other _ 6 j false (omega arith) (omega (arith, l)) past.0 ∙ elim (same_cases nat_order j 5) [
+        | inl five ↦ ap (flag (with_flag named 5 false)) five.0 ∙ flag-with_flag_same named 5 false (omega arith)
+            ∙ sym (ap (λ (x : PageEntry). x.accessed) from) ∙ sym (ap (flag (entry_word (copy e f))) five.0)
+        | inr other ↦ flag-with_flag_other named 5 j false (omega arith) (omega (arith, l)) other.0 ∙ flag-with_frame (entry_word e) f j l ∙ copy_flag e f j l other.0 past.0
+      ]
+    ]
 
 link_keeps : (t : ℕ) → t < 2 ^ 20 → Keeps (link_word t) t
 link_keeps t h =

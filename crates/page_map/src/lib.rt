@@ -12,6 +12,7 @@ ghost use Rattle.page_words.specs.Addresses.{slot_number, index_number, IsUserPa
 ghost use Rattle.page_words.specs.FiniteMap as map;
 ghost use Rattle.phys_memory.specs.Bytes.{frame_bytes, word_in, with_word_in, with_frame};
 ghost use Rattle.page_map.specs.Entries.{IsPageMap, IsForeign, IsFreshTable, IsKernelEntry, IsLastEntry, HasOtherEntry, IsCleared, dir_word, table_of, entry_at, word_entry, entry_word, with_entry, with_table, link_word};
+ghost use Rattle.page_map.specs.declared.PageEntry.{PageEntry};
 ghost use Rattle.page_map.specs.Laws.{EntriesAreTheWords, EntriesAreUserPages, EntriesReadBack, EntryWordsAreKernelWords, TablesReadBack, LinkWordsAreKernelWords, BlankFramesAreMaps, BlankFramesMapNothing, WalksReadEntries, MarksTouchEntries};
 ghost use Rattle.page_map.specs.Pages.{entries_of, is_mapped, counted, count_range};
 
@@ -84,7 +85,7 @@ pub fn place_of(frame: Frame, at: u32) -> usize
 }
 
 /// The word of an index of a frame.
-fn word(memory: &Memory, frame: Frame, index: u32) -> u32
+pub fn word(memory: &Memory, frame: Frame, index: u32) -> u32
     requires inside { 4096 * frame + 4096 ≤ length memory.now }
     requires index { index < 1024 }
     ensures { result ≡ word_in (frame_bytes memory.now frame) index }
@@ -122,12 +123,10 @@ pub fn table(memory: &Memory, directory: Frame, slot: u32) -> Option<Frame>
 }
 
 /// The entry of a word of a table.
-fn word_entry(memory: &Memory, table: Frame, index: u32) -> Option<PageEntry>
-    requires inside { 4096 * table + 4096 ≤ length memory.now }
-    requires index { index < 1024 }
-    ensures { result ≡ word_entry (word_in (frame_bytes memory.now table) index) }
+fn word_entry(word: u32) -> Option<PageEntry>
+    ensures { result ≡ word_entry word }
 {
-    let word = TableWord::read(word(memory, table, index));
+    let word = TableWord::read(word);
     if word.present() {
         Some(PageEntry {
             frame: word.frame(),
@@ -147,7 +146,7 @@ pub fn entry_in(memory: &Memory, table: Frame, page: Page) -> Option<PageEntry>
     requires { 4096 * table + 4096 ≤ length memory.now }
     ensures { result ≡ word_entry (word_in (frame_bytes memory.now table) (index_number page)) }
 {
-    word_entry(memory, table, index_of(page))
+    word_entry(word(memory, table, index_of(page)))
 }
 
 /// The entry of a page, or None where it is not mapped.
@@ -171,21 +170,6 @@ pub fn has_table(memory: &Memory, directory: Frame, slot: u32) -> bool
     table(memory, directory, slot).is_some()
 }
 
-fn store_table(memory: &mut Memory, directory: Frame, slot: u32, table: Frame)
-    requires slot { slot < 1024 }
-    requires map { IsPageMap memory.old directory }
-    requires inside { 4096 * table + 4096 ≤ length memory.old }
-    requires apart { table ≢ directory }
-    ensures frames { frame_bytes memory.new ≡ with_table (frame_bytes memory.old) directory slot table }
-    ensures length { length memory.new ≡ length memory.old }
-    ensures few { table < 2 ^ 20 }
-{
-    let frames = memory.frames();
-    prove!(table.0 < frames);
-    memory.zero_frame(table);
-    set_word(memory, directory, slot, linking(table));
-}
-
 /// Makes a frame zero and links it as the table of a slot. No page is mapped by it yet.
 ///
 /// The map stays a map, with the entries that it had, where the slot had no table and the frame is none
@@ -203,7 +187,10 @@ pub fn link_table(memory: &mut Memory, directory: Frame, slot: u32, table: Frame
     ensures foreign { (frame : ℕ) → IsForeign (frame_bytes memory.old) directory frame → frame ≢ table
         → frame_bytes memory.new frame ≡ frame_bytes memory.old frame }
 {
-    store_table(memory, directory, slot, table);
+    let frames = memory.frames();
+    prove!(table.0 < frames);
+    memory.zero_frame(table);
+    set_word(memory, directory, slot, linking(table));
 }
 
 /// Writes the entry that a table has for a page.
@@ -216,18 +203,29 @@ pub fn put_entry(memory: &mut Memory, table: Frame, page: Page, entry: PageEntry
     set_word(memory, table, index_of(page), word_of(entry));
 }
 
-fn store_entry(memory: &mut Memory, directory: Frame, page: Page, entry: PageEntry)
-    requires user { IsUserPage page }
-    requires frame { entry.frame < 2 ^ 20 }
-    requires map { IsPageMap memory.old directory }
-    requires table { is_present (dir_word (frame_bytes memory.old) directory (slot_number page)) ≡ true }
-    ensures frames { frame_bytes memory.new ≡ with_entry (frame_bytes memory.old)
-        (frame_number (dir_word (frame_bytes memory.old) directory (slot_number page))) page entry }
+/// The word of the copy of a page on this frame, by the page's word: the same rights, untouched.
+fn copied_word(word: u32, frame: Frame) -> u32
+    requires { frame < 2 ^ 20 }
+    ensures { (e : PageEntry) → word ≡ entry_word e
+        → result ≡ entry_word (record e { frame = frame; accessed = false; dirty = false }) }
+{
+    let mut word = TableWord::read(word);
+    word.set_frame(frame);
+    word.set_accessed(false);
+    word.set_dirty(false);
+    word.word()
+}
+
+/// Writes the entry that a table has for the copy of a page, by the page's word: with this frame, and untouched.
+pub fn put_copy(memory: &mut Memory, table: Frame, page: Page, word: u32, frame: Frame)
+    requires inside { 4096 * table + 4096 ≤ length memory.old }
+    requires frame { frame < 2 ^ 20 }
+    ensures frames { (e : PageEntry) → word ≡ entry_word e
+        → frame_bytes memory.new ≡ with_entry (frame_bytes memory.old) table page
+        (record e { frame = frame; accessed = false; dirty = false }) }
     ensures length { length memory.new ≡ length memory.old }
 {
-    if let Some(table) = table(memory, directory, slot_of(page)) {
-        put_entry(memory, table, page, entry);
-    }
+    set_word(memory, table, index_of(page), copied_word(word, frame));
 }
 
 /// Sets a page's entry. The slot of the page must have a table.
@@ -248,27 +246,11 @@ pub fn set_entry(memory: &mut Memory, directory: Frame, page: Page, entry: PageE
     ensures foreign { (frame : ℕ) → IsForeign (frame_bytes memory.old) directory frame
         → frame_bytes memory.new frame ≡ frame_bytes memory.old frame }
 {
-    store_entry(memory, directory, page, entry);
+    let table = table(memory, directory, slot_of(page)).unwrap();
+    put_entry(memory, table, page, entry);
 }
 
-/// The least index from a first one on whose word in a table is present.
-fn next_present(memory: &Memory, table: Frame, first: u32) -> Option<u32>
-    requires inside { 4096 * table + 4096 ≤ length memory.now }
-    ensures within { IfSome result (λ index. (first ≤ index) × (index < 1024)) }
-    ensures present { IfSome result (λ index. is_present (word_in (frame_bytes memory.now table) index) ≡ true) }
-    ensures least { IfSome result (λ index. (i : ℕ) → first ≤ i → i < index
-        → is_present (word_in (frame_bytes memory.now table) i) ≡ false) }
-    ensures none { IfNone result ((i : ℕ) → first ≤ i → i < 1024
-        → is_present (word_in (frame_bytes memory.now table) i) ≡ false) }
-{
-    for index in first..1024 {
-        if TableWord::read(word(memory, table, index)).present() {
-            return Some(index);
-        }
-    }
-    None
-}
-
+#[tactic(auto, using(crate::proofs::PageLemmas::present_word, crate::proofs::PageLemmas::absent_word))]
 fn remove_entry(memory: &mut Memory, directory: Frame, page: Page) -> Option<Frame>
     requires user { IsUserPage page }
     requires map { IsPageMap memory.old directory }
@@ -279,11 +261,12 @@ fn remove_entry(memory: &mut Memory, directory: Frame, page: Page) -> Option<Fra
     let slot = slot_of(page);
     let table = table(memory, directory, slot)?;
     set_word(memory, table, index_of(page), 0);
-    if next_present(memory, table, 0).is_none() {
-        set_word(memory, directory, slot, 0);
-        Some(table)
-    } else {
-        None
+    match next_listed(memory, table, 0) {
+        Some(_) => None,
+        None => {
+            set_word(memory, directory, slot, 0);
+            Some(table)
+        }
     }
 }
 
@@ -359,20 +342,6 @@ pub fn clear_found_entry(
     remove_found_entry(memory, directory, table, page, mapped)
 }
 
-/// 1 where a word of a table is present, and else 0.
-fn word_count(memory: &Memory, table: Frame, index: u32) -> u32
-    requires inside { 4096 * table + 4096 ≤ length memory.now }
-    requires index { index < 1024 }
-    ensures count { result ≡ counted (is_present (word_in (frame_bytes memory.now table) index)) }
-    ensures bound { result ≤ 1 }
-{
-    if TableWord::read(word(memory, table, index)).present() {
-        1
-    } else {
-        0
-    }
-}
-
 /// How many words of a table are present.
 pub fn words_present(memory: &Memory, table: Frame) -> u32
     requires inside { 4096 * table + 4096 ≤ length memory.now }
@@ -381,7 +350,7 @@ pub fn words_present(memory: &Memory, table: Frame) -> u32
 {
     let mut count = 0;
     for index in 0..1024 {
-        count += word_count(memory, table, index);
+        count += TableWord::read(word(memory, table, index)).present() as u32;
     }
     count
 }
@@ -412,62 +381,6 @@ pub fn pages(memory: &Memory, directory: Frame) -> u32
     pages
 }
 
-/// The least mapped page of a slot from a first page on.
-// Out of line, so that `next_entry` passes over a slot without a table in a few instructions.
-#[inline(never)]
-fn next_in_table(memory: &Memory, directory: Frame, slot: u32, first: u32) -> Option<u32>
-    requires slot { slot < 1024 }
-    requires map { IsPageMap memory.now directory }
-    ensures within { IfSome result (λ page. (first ≤ page) × (1024 * slot ≤ page) × (page < 1024 * slot + 1024)) }
-    ensures mapped { IfSome result (λ page. is_some (entry_at (frame_bytes memory.now) directory page) ≡ true) }
-    ensures least { IfSome result (λ page. (p : ℕ) → first ≤ p → 1024 * slot ≤ p → p < page
-        → is_some (entry_at (frame_bytes memory.now) directory p) ≡ false) }
-    ensures none { IfNone result ((p : ℕ) → first ≤ p → 1024 * slot ≤ p → p < 1024 * slot + 1024
-        → is_some (entry_at (frame_bytes memory.now) directory p) ≡ false) }
-{
-    let table = table(memory, directory, slot)?;
-    let index = next_present(memory, table, first.saturating_sub(slot * 1024))?;
-    Some(slot * 1024 + index)
-}
-
-/// Returns the lowest mapped page of a slot from a first page on. Passes quickly over a slot without a table, as most
-/// are.
-fn next_in_slot(memory: &Memory, directory: Frame, slot: u32, first: u32) -> Option<u32>
-    requires slot { slot < 1024 }
-    requires map { IsPageMap memory.now directory }
-    ensures within { IfSome result (λ page. (first ≤ page) × (1024 * slot ≤ page) × (page < 1024 * slot + 1024)) }
-    ensures mapped { IfSome result (λ page. is_some (entry_at (frame_bytes memory.now) directory page) ≡ true) }
-    ensures least { IfSome result (λ page. (p : ℕ) → first ≤ p → 1024 * slot ≤ p → p < page
-        → is_some (entry_at (frame_bytes memory.now) directory p) ≡ false) }
-    ensures none { IfNone result ((p : ℕ) → first ≤ p → 1024 * slot ≤ p → p < 1024 * slot + 1024
-        → is_some (entry_at (frame_bytes memory.now) directory p) ≡ false) }
-{
-    if has_table(memory, directory, slot) {
-        next_in_table(memory, directory, slot, first)
-    } else {
-        None
-    }
-}
-
-/// The least mapped page from a first page of the user range on.
-fn next_entry(memory: &Memory, directory: Frame, first: u32) -> Option<u32>
-    requires first { 0x40000 ≤ first }
-    requires map { IsPageMap memory.now directory }
-    ensures within { IfSome result (λ page. (first ≤ page) × (page < 0xf0000)) }
-    ensures mapped { IfSome result (λ page. is_some (entry_at (frame_bytes memory.now) directory page) ≡ true) }
-    ensures least { IfSome result (λ page. (p : ℕ) → first ≤ p → p < page
-        → is_some (entry_at (frame_bytes memory.now) directory p) ≡ false) }
-    ensures none { IfNone result ((p : ℕ) → first ≤ p → p < 0xf0000
-        → is_some (entry_at (frame_bytes memory.now) directory p) ≡ false) }
-{
-    for slot in first / 1024..SLOT_END {
-        if let Some(page) = next_in_slot(memory, directory, slot, first) {
-            return Some(page);
-        }
-    }
-    None
-}
-
 /// The least mapped page that is not below `from`, or None where there is none. `from` may be any page.
 pub fn next_page(memory: &Memory, directory: Frame, from: Page) -> Option<Page>
     requires { IsPageMap memory.now directory }
@@ -479,8 +392,15 @@ pub fn next_page(memory: &Memory, directory: Frame, from: Page) -> Option<Page>
     ensures none { IfNone result ((other : ℕ) → from ≤ other
         → is_mapped (frame_bytes memory.now) directory other ≡ false) }
 {
-    let page = next_entry(memory, directory, from.0.max(FIRST_SLOT * 1024))?;
-    Some(Page(page))
+    let mut first = from.0.max(FIRST_SLOT * 1024);
+    while let Some(region) = next_region(memory, directory, first / 1024) {
+        let start = region.slot * 1024;
+        if let Some(listed) = next_listed(memory, region.table, first.saturating_sub(start)) {
+            return Some(Page(start + listed.index));
+        }
+        first = start + 1024;
+    }
+    None
 }
 
 /// The finite map of a directory has at each page of the user range what the page's two words say, and

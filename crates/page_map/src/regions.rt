@@ -4,7 +4,7 @@ ghost use Rattle.std.specs.Prelude.{◌≡◌, ℕ, ◌+◌, ◌*◌, ◌<◌, �
 ghost use Rattle.phys_memory.specs.Bytes.{frame_bytes, word_in};
 ghost use Rattle.page_map.specs.Entries.{IsPageMap, table_of, word_entry};
 
-use crate::{PageEntry, SLOT_END, table, word_entry};
+use crate::{PageEntry, SLOT_END, table, word, word_entry};
 use page_words::Frame;
 use phys_memory::Memory;
 
@@ -15,10 +15,11 @@ pub struct Region {
     pub table: Frame,
 }
 
-/// An entry of a table, and the index of its word.
+/// An entry of a table, its word, and the index of that.
 #[derive(Clone, Copy, Debug, PartialEq, Eq)]
 pub struct Listed {
     pub index: u32,
+    pub word: u32,
     pub entry: PageEntry,
 }
 
@@ -87,11 +88,13 @@ fn listed_at(memory: &Memory, table: Frame, place: usize) -> Option<Listed>
     ensures index { IfSome result (λ listed. listed.index ≡ place) }
     ensures entry { IfSome result (λ listed. word_entry (word_in (frame_bytes memory.now table) place)
         ≡ Some listed.entry) }
+    ensures word { IfSome result (λ listed. listed.word ≡ word_in (frame_bytes memory.now table) place) }
     ensures none { IfNone result (word_entry (word_in (frame_bytes memory.now table) place) ≡ None) }
 {
     let index = place as u32;
-    let entry = word_entry(memory, table, index)?;
-    Some(Listed { index, entry })
+    let word = word(memory, table, index);
+    let entry = word_entry(word)?;
+    Some(Listed { index, word, entry })
 }
 
 /// The first entry of two indexes of a table, one behind the other; None where there is none.
@@ -101,6 +104,7 @@ fn listed_of_two(memory: &Memory, table: Frame, place: usize) -> Option<Listed>
     ensures within { IfSome result (λ listed. (place ≤ listed.index) × (listed.index < place + 2)) }
     ensures entry { IfSome result (λ listed. word_entry (word_in (frame_bytes memory.now table) listed.index)
         ≡ Some listed.entry) }
+    ensures word { IfSome result (λ listed. listed.word ≡ word_in (frame_bytes memory.now table) listed.index) }
     ensures least { IfSome result (λ listed. (index : ℕ) → place ≤ index → index < listed.index
         → word_entry (word_in (frame_bytes memory.now table) index) ≡ None) }
     ensures none { IfNone result ((index : ℕ) → place ≤ index → index < place + 2
@@ -119,6 +123,7 @@ pub fn next_listed(memory: &Memory, table: Frame, first: u32) -> Option<Listed>
     ensures within { IfSome result (λ listed. (first ≤ listed.index) × (listed.index < 1024)) }
     ensures entry { IfSome result (λ listed. word_entry (word_in (frame_bytes memory.now table) listed.index)
         ≡ Some listed.entry) }
+    ensures word { IfSome result (λ listed. listed.word ≡ word_in (frame_bytes memory.now table) listed.index) }
     ensures least { IfSome result (λ listed. (index : ℕ) → first ≤ index → index < listed.index
         → word_entry (word_in (frame_bytes memory.now table) index) ≡ None) }
     ensures none { IfNone result ((index : ℕ) → first ≤ index → index < 1024

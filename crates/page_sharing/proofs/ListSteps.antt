@@ -151,6 +151,11 @@ offers_in-no_process lists p none =
     let is = offers_in-none lists (none_in_all lists none) in
     is ∙ ap (λ offers. without_process offers p) (sym is)
 
+pub offers_in-no_page : (lists : List (ArrayVec Offer)) (p page : ℕ) → all_pending lists ≡ 0 → offers_in lists ≡ without_page (offers_in lists) p page
+offers_in-no_page lists p page none =
+    let is = offers_in-none lists (none_in_all lists none) in
+    is ∙ ap (λ offers. without_page offers p page) (sym is)
+
 -- ---- One list is another
 
 module _ (lists : List (ArrayVec Offer)) (p : ℕ) (p_in : p < length lists) (offers : List Offer) where

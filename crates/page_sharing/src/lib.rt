@@ -4,7 +4,7 @@
 //! process has at most 32 offers pending, in a list of its own.
 #![tactic(auto)]
 
-ghost use Rattle.std.specs.Prelude.{◌≡◌, if◌then◌else◌, ℕ, ◌+◌, ◌<◌, ◌≤◌, ◌==◌, ◌&&◌, ◌↔◌, not, false, [], ◌∷◌, ◌++◌, IsErrOf, IfErr, IfOk, IfSome, IfNone, IsOk, OnOk, OnErr, Some, List, filter, find, position, remove, slice_get, length, nat_le};
+ghost use Rattle.std.specs.Prelude.{◌≡◌, if◌then◌else◌, ℕ, ◌+◌, ◌<◌, ◌≤◌, ◌==◌, ◌&&◌, ◌↔◌, not, false, [], ◌∷◌, ◌++◌, IsErrOf, IfErr, IfOk, IfSome, IfNone, IsOk, OnOk, OnErr, Some, List, filter, find, position, remove, slice_get, length};
 ghost use Rattle.std.specs.Option.{option_map};
 ghost use Rattle.page_words.specs.FiniteMap as map;
 ghost use Rattle.page_sharing.specs.Offers.{offer_key, offer_number, offer_answer, pending, without_page, without_process};
@@ -195,13 +195,6 @@ fn list_by(lists: &OfferLists, giver: Pid) -> &[Offer]
     &lists[giver.number() as usize]
 }
 
-/// Whether a process has 32 offers pending.
-fn has_most(lists: &OfferLists, giver: Pid) -> bool
-    ensures { result ≡ nat_le MOST_PENDING (length (offers_by lists.now giver)) }
-{
-    list_by(lists, giver).len() >= MOST_PENDING
-}
-
 fn add_offer(lists: &mut OfferLists, giver: Pid, offer: Offer)
     requires { length (offers_by lists.old giver) < MOST_PENDING }
     ensures listed { giver < length lists.old }
@@ -306,7 +299,7 @@ impl Offers {
         if self.get(giver, page, target).is_some() {
             return Err(OfferFault::OfferPending);
         }
-        if has_most(&self.lists, giver) {
+        if list_by(&self.lists, giver).len() >= MOST_PENDING {
             return Err(OfferFault::TooManyOffers);
         }
         Ok(())
@@ -381,6 +374,9 @@ impl Offers {
     pub fn drop_page(&mut self, pid: Pid, page: Page)
         ensures { self.new ≡ without_page self.old pid page }
     {
+        if self.count == 0 {
+            return;
+        }
         self.count -= remove_page(&mut self.lists, pid, page);
     }
 

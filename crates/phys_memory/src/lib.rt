@@ -152,7 +152,7 @@ impl Memory {
         ensures length { length self.new ≡ length self.old }
     {
         let start = frame.0 as usize * FRAME_BYTES;
-        fill_with_zeros(&mut self.bytes[start..start + FRAME_BYTES]);
+        self.bytes[start..start + FRAME_BYTES].fill(0);
     }
 
     /// Copies the 4,096 bytes of one frame to another.
@@ -198,20 +198,7 @@ fn put_at(bytes: &mut [u8], place: usize, part: &[u8])
     requires within { place + 4096 ≤ length bytes.old }
     ensures { bytes.new ≡ splice bytes.old place (place + 4096) part.now }
 {
-    put(&mut bytes[place..place + FRAME_BYTES], part);
-}
-
-fn put(bytes: &mut [u8], part: &[u8])
-    requires { length part.now ≡ length bytes.old }
-    ensures { bytes.new ≡ part.now }
-{
-    bytes.copy_from_slice(part);
-}
-
-fn fill_with_zeros(part: &mut [u8])
-    ensures { part.new ≡ replicate (length part.old) 0 }
-{
-    part.fill(0);
+    bytes[place..place + FRAME_BYTES].copy_from_slice(part);
 }
 
 /// A word that was written reads back, every word and every byte apart from it is as it was, and four

@@ -4,16 +4,16 @@ use Prelude.{◌≡◌, ℕ, Bool, true, false, refl, sym, ap, subst, ◌∙◌,
 use Prelude.{IsOk, IfSome, byte_count, page_number, offset_number, second_page, touched, EachTouched, Size, Spaces}
 use Prelude.{cost, slot_at, stored, with_pages, all_accessed, all_stored, bytes_of, IsThere, bytes_there}
 use Prelude.{key-all_accessed, key-all_stored, with_touched-same, cost-same, Containers, Offers, Read, Write, State}
-use Prelude.{is_live, child_of, container_of, map_refusal, protect_refusal, offer_refusal, accept_refusal}
-use Prelude.{spawn_refusal, exit_refusal, after_map, after_protect, after_offer, after_accept, after_spawn, after_exit}
-use Prelude.{after_access, child_unless, map_answer, protect_answer, offer_answer, accept_answer, spawn_answer}
+use Prelude.{is_live, child_of, container_of, map_refusal, accept_refusal}
+use Prelude.{spawn_refusal, exit_refusal, after_map, after_accept, after_spawn, after_exit}
+use Prelude.{after_access, child_unless, map_answer, accept_answer, spawn_answer}
 use Prelude.{exit_answer, IsProcesses, IsWhole, state_of, IsWellFormed, Cause, NoProcess}
 use Rattle.address_space.proofs.steps.Bytes.{stored_in_page}
 use Rattle.table_walk.specs.declared.Access.{Access}
 use Rattle.process_table.proofs.BookLaws.{well_formed-spawn, well_formed-exit}
 use Rattle.process_table.proofs.Charged.{charged-same}
 use Rattle.process_table.proofs.Refusals.{no_cause}
-use Rattle.process_table.proofs.SharingLaws.{well_formed-protect, well_formed-offer, well_formed-accept}
+use Rattle.process_table.proofs.SharingLaws.{well_formed-accept}
 use Rattle.process_table.proofs.SpaceLaws.{well_formed-map, well_formed-loaded, well_formed-bytes}
 use Rattle.address_space.specs.View as frames
 
@@ -23,12 +23,6 @@ whole v c o s kept spaces book offers w = record { kept = kept; well_formed = su
 
 pub keeps-map : (s : State) (p page : ℕ) (write : Bool) → IsWellFormed s → IsOk (map_answer s p page) → IsWellFormed (after_map s p page write)
 keeps-map s p page write w ok = let e = no_cause s p (map_refusal s p page) _ ok in well_formed-map s p page write w e.0 e.1
-
-pub keeps-protect : (s : State) (p page : ℕ) (write : Bool) → IsWellFormed s → IsOk (protect_answer s p page write) → IsWellFormed (after_protect s p page write)
-keeps-protect s p page write w ok = let e = no_cause s p (protect_refusal s p page write) _ ok in well_formed-protect s p page write w e.0 e.1
-
-pub keeps-offer : (s : State) (p page target : ℕ) (write : Bool) → IsWellFormed s → IsOk (offer_answer s p page target write) → IsWellFormed (after_offer s p page target write)
-keeps-offer s p page target write w ok = let e = no_cause s p (offer_refusal s p page target write) _ ok in well_formed-offer s p page target write w e.1
 
 pub keeps-accept : (s : State) (p giver giver_page page : ℕ) → IsWellFormed s → IsOk (accept_answer s p giver giver_page page) → IsWellFormed (after_accept s p giver giver_page page)
 keeps-accept s p giver giver_page page w ok = let e = no_cause s p (accept_refusal s p giver giver_page page) _ ok in well_formed-accept s p giver giver_page page w e.0 e.1

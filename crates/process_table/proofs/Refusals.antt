@@ -59,6 +59,10 @@ may_accept s p giver giver_page page h = grind (arith, not-false, no_value)
 pub no_cause : (s : State) (p : ℕ) (cause : Option Cause) (number : ℕ) → IsOk (number_unless (first_cause s p cause) number) → (is_live s p ≡ true) × (cause ≡ None)
 no_cause s p cause number ok = grind arith
 
+-- a call that nothing is against is of a live process
+pub may_be : (s : State) (p : ℕ) (cause : Option Cause) → first_cause s p cause ≡ None → (is_live s p ≡ true) × (cause ≡ None)
+may_be s p cause none = grind arith
+
 -- a call whose test answers a number is done
 pub is_done : (x : Option Cause) (number : ℕ) → IsOk (number_unless x number) → IsOk (done_unless x)
 is_done x number ok = grind arith

@@ -10,3 +10,4 @@ pub mod View
 pub mod WellFormed
 pub mod TestAnswers
 pub mod Restored
+pub mod Words

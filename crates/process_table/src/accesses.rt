@@ -1,17 +1,10 @@
 //! Accesses through mapped pages, and lazy pages that get their frames.
 
-ghost use Rattle.std.specs.Prelude.{◌≡◌, ℕ, true, false};
-ghost use Rattle.page_words.specs.Addresses.{page_number, second_page, EachTouched, IsUserPage};
-ghost use Rattle.address_space.specs.Spaces.{Slot, cost, cell_or_fresh, at_page, slot_at};
-ghost use Rattle.process_table.specs.State.{is_live, is_mapped};
-ghost use Rattle.process_table.specs.Calls.{loaded, after_load, after_store, after_access, access_value};
-ghost use Rattle.process_table.specs.Image.{memory_of};
-ghost use Rattle.address_space.specs.Image.{is_lazy_at, takes_stores};
-ghost use Rattle.address_space.specs.Stays.{FramesStay, none_goes, of_lazy};
-ghost use Rattle.address_space.specs.Places.{place_in};
-ghost use Rattle.process_table.specs.Places.{access_places};
+ghost use Rattle.std.specs.Prelude.{false, true, ℕ, ◌≡◌, ◌≢◌};
+ghost use Rattle.process_table.specs.Words.{EachTouched, FramesStay, IsUserPage, Slot, access_places, access_value, after_access, after_load};
+ghost use Rattle.process_table.specs.Words.{after_store, at_page, cell_or_fresh, is_lazy_at, is_mapped, loaded, memory_of, none_goes, of_lazy};
+ghost use Rattle.process_table.specs.Words.{page_number, place_in, second_page, slot_at, takes_stores};
 
-use crate::charges::charge_at;
 use crate::places::Places;
 use crate::processes::Processes;
 use address_space::Place;
@@ -19,43 +12,9 @@ use page_words::{Page, Pid, Size, Vaddr};
 use table_walk::Access;
 
 impl Processes {
-    /// What a live process is charged for after a load or a store that completes, once each page that it touches is
-    /// mapped. They lie in the user range.
-    pub fn access_charge(&self, pid: Pid, address: Vaddr, size: Size) -> u32
-        requires live { is_live self.now.state pid ≡ true }
-        requires user { EachTouched address size IsUserPage }
-        ensures load { result ≡ cost (after_load self.now.state pid address size).spaces pid }
-        ensures store { (value : ℕ) → result ≡ cost (after_store self.now.state pid address size value).spaces pid }
-    {
-        charge_at(self, pid, address, size)
-    }
-
     /// Makes an access through mapped pages, one or two by where its bytes lie, that the process may access so. A read
     /// sets accessed, and returns the value. A write writes the low bytes of the value, sets accessed and dirty, and
-    /// returns 0.
-    pub fn access(
-        &mut self,
-        pid: Pid,
-        address: Vaddr,
-        size: Size,
-        access: Access,
-        value: u32,
-    ) -> u32
-        requires mapped { EachTouched address size (λ page. is_mapped self.old.state (at_page pid page) ≡ true) }
-        requires right { access ≡ Access.Write → EachTouched address size
-            (λ page. (cell_or_fresh self.old.state.spaces (at_page pid page)).write ≡ true) }
-        requires real { access ≡ Access.Write → EachTouched address size
-            (λ page. is_lazy_at (memory_of self.old) (at_page pid page) ≡ false) }
-        ensures value { result ≡ access_value self.old.state pid address size access }
-        ensures state { self.new.state ≡ after_access self.old.state pid address size access value }
-        ensures stay { FramesStay none_goes (memory_of self.old) (memory_of self.new) }
-        ensures roles { self.new.roles ≡ self.old.roles }
-    {
-        let places = self.access_places(pid, address, size);
-        self.access_at(pid, address, size, access, value, &places)
-    }
-
-    /// An access through mapped pages, as `access` does it. The places are those of the pages that it touches.
+    /// returns 0. The places are those of the pages that it touches.
     #[inline(always)]
     pub fn access_at(
         &mut self,
@@ -90,7 +49,7 @@ impl Processes {
         }
     }
 
-    /// Loads, as `access` does, bytes that lie in one page, which is mapped and whose place this is.
+    /// Loads, as `access_at` does, bytes that lie in one page, which is mapped and whose place this is.
     #[inline(always)]
     pub fn load_at(&mut self, pid: Pid, address: Vaddr, size: Size, place: &Place) -> u32
         requires within { second_page address size ≡ None }
@@ -105,8 +64,8 @@ impl Processes {
         self.spaces.load_at(pid, address, size, place)
     }
 
-    /// Stores, as `access` does, bytes that lie in one page, which takes a store as memory stands and whose place this
-    /// is: it is mapped, with the right to write, and isn't lazy.
+    /// Stores, as `access_at` does, bytes that lie in one page, which takes a store as memory stands: it is mapped, with
+    /// the right to write, and isn't lazy. The place is the page's.
     #[inline(always)]
     pub fn store_at(&mut self, pid: Pid, address: Vaddr, size: Size, value: u32, place: &Place)
         requires within { second_page address size ≡ None }
@@ -127,22 +86,8 @@ impl Processes {
         self.spaces.is_lazy(pid, page)
     }
 
-    /// Gives a mapped page a frame of its own, where it is lazy; no other page becomes lazy. The state stays.
-    pub fn fill(&mut self, pid: Pid, page: Page)
-        requires mapped { is_mapped self.old.state (at_page pid page) ≡ true }
-        ensures state { self.new.state ≡ self.old.state }
-        ensures stay { FramesStay (of_lazy pid page) (memory_of self.old) (memory_of self.new) }
-        ensures real { is_lazy_at (memory_of self.new) (at_page pid page) ≡ false }
-        ensures others { (slot : Slot) → is_lazy_at (memory_of self.old) slot ≡ false
-            → is_lazy_at (memory_of self.new) slot ≡ false }
-    {
-        self.stands();
-        let place = self.spaces.place(pid, page);
-        self.fill_at(pid, page, &place);
-    }
-
-    /// Gives a mapped page a frame of its own, as `fill` does. The place is the page's, and the result the place that
-    /// it is at then.
+    /// Gives a mapped page a frame of its own, where it is lazy; no other page becomes lazy. The state stays, and so do
+    /// the places of other pages. The place is the page's, and the result the place that it is at then.
     #[inline(always)]
     pub fn fill_at(&mut self, pid: Pid, page: Page, place: &Place) -> Place
         requires mapped { is_mapped self.old.state (at_page pid page) ≡ true }
@@ -152,6 +97,9 @@ impl Processes {
         ensures real { is_lazy_at (memory_of self.new) (at_page pid page) ≡ false }
         ensures others { (slot : Slot) → is_lazy_at (memory_of self.old) slot ≡ false
             → is_lazy_at (memory_of self.new) slot ≡ false }
+        ensures beside { (p other : ℕ) → at_page p other ≢ at_page pid page
+            → place_in self.new.directories self.new.bytes p other
+            ≡ place_in self.old.directories self.old.bytes p other }
         ensures place { result ≡ place_in self.new.directories self.new.bytes pid page }
     {
         self.spaces.fill_at(pid, page, place)

@@ -2,6 +2,7 @@
 #![tactic(auto)]
 
 mod accesses;
+mod calls;
 mod causes;
 mod charges;
 mod families;

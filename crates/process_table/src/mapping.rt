@@ -1,28 +1,25 @@
 //! Pages of a process that are mapped, unmapped and protected: of each call its test and its change.
 
-ghost use Rattle.std.specs.Prelude.{◌≡◌, true, Some, None, IsOk, IsErr, IfOk, IfErr, Ok, Err};
-ghost use Rattle.process_table.specs.Calls.{after_map, after_unmap, after_protect, map_refusal, unmap_refusal, protect_refusal};
-ghost use Rattle.process_table.specs.TestAnswers.{map_answer, unmap_answer, protect_answer, first_cause, done_unless};
-ghost use Rattle.process_table.specs.Image.{memory_of};
-ghost use Rattle.address_space.specs.Stays.{FramesStay, LooseStay, none_goes, of_page};
-ghost use Rattle.address_space.specs.Image.{is_lazy_at};
-ghost use Rattle.address_space.specs.Places.{place_in};
-ghost use Rattle.address_space.specs.Spaces.{at_page};
+ghost use Rattle.std.specs.Prelude.{Err, IfErr, IfOk, IsErr, IsOk, None, Ok, Some, is_some, true, ℕ, ◌≡◌, ◌≢◌};
+ghost use Rattle.process_table.specs.Words.{FramesStay, LooseStay, after_map, after_protect, after_unmap, at_page, done_unless, first_cause, found_of};
+ghost use Rattle.process_table.specs.Words.{is_lazy_at, map_answer, map_refusal, memory_of, need, none_goes, of_page, place_in, protect_answer};
+ghost use Rattle.process_table.specs.Words.{protect_refusal, unmap_answer, unmap_refusal};
 
 use crate::causes::Cause;
-use crate::charges::{charge_of, charge_with, need_at, take_room};
+use crate::charges::{charge_of, charge_with, take_room};
 use crate::processes::Processes;
 use address_space::Place;
 use page_words::{Page, Pid};
 
 impl Processes {
-    /// The place of a page that a process may map, and what it would be charged for then; or the first cause against
-    /// it: NoProcess, BadPage, Mapped, Quota.
+    /// The place of a page that a process may map, what it needs for it, and what it would be charged for then; or the
+    /// first cause against it: NoProcess, BadPage, Mapped, Quota.
     #[tactic(auto, using(crate::proofs::Refusals::test_map))]
     #[inline(always)]
-    fn place_to_map(&self, pid: Pid, page: Page) -> Result<(Place, u32), Cause>
+    fn place_to_map(&self, pid: Pid, page: Page) -> Result<(Place, u32, u32), Cause>
         ensures place { IfOk result (λ found. found.0 ≡ place_in self.now.directories self.now.bytes pid page) }
-        ensures charge { IfOk result (λ found. map_answer self.now.state pid page ≡ Ok found.1) }
+        ensures need { IfOk result (λ found. found.1 ≡ need self.now.state.spaces pid page) }
+        ensures charge { IfOk result (λ found. map_answer self.now.state pid page ≡ Ok found.2) }
         ensures cause { IfErr result (λ cause. map_answer self.now.state pid page ≡ Err cause) }
     {
         let Some(container) = self.container(pid) else {
@@ -31,10 +28,8 @@ impl Processes {
         let Some(place) = self.place(pid, page) else {
             return Err(Cause::BadPage);
         };
-        match charge_with(self, &container, pid, page, &place) {
-            Ok(charge) => Ok((place, charge)),
-            Err(cause) => Err(cause),
-        }
+        let (frames, charge) = charge_with(self, &container, pid, page, &place)?;
+        Ok((place, frames, charge))
     }
 
     /// What a process would be charged for once it has mapped a page, or the first cause against it:
@@ -43,23 +38,11 @@ impl Processes {
     pub fn can_map(&self, pid: Pid, page: Page) -> Result<u32, Cause>
         ensures { result ≡ map_answer self.now.state pid page }
     {
-        match self.place_to_map(pid, page) {
-            Ok((_, charge)) => Ok(charge),
-            Err(cause) => Err(cause),
-        }
+        Ok(self.place_to_map(pid, page)?.2)
     }
 
-    /// Maps a page of zeros that the process may map, with the right to write as asked. The page is lazy.
-    pub fn map(&mut self, pid: Pid, page: Page, write: bool)
-        requires { IsOk (map_answer self.old.state pid page) }
-        ensures state { self.new.state ≡ after_map self.old.state pid page write }
-        ensures stay { FramesStay none_goes (memory_of self.old) (memory_of self.new) }
-        ensures lazy { is_lazy_at (memory_of self.new) (at_page pid page) ≡ true }
-    {
-        let _ = self.try_map(pid, page, write);
-    }
-
-    /// Maps a page of zeros, as `map` does. The place is the page's, and the result the place that it is at then.
+    /// Maps a page of zeros that the process may map, with the right to write as asked. The page is lazy. The place is
+    /// the page's, and the result the place that it is at then.
     #[inline(always)]
     pub fn map_at(&mut self, pid: Pid, page: Page, write: bool, place: &Place) -> Place
         requires may { IsOk (map_answer self.old.state pid page) }
@@ -68,9 +51,31 @@ impl Processes {
         ensures stay { FramesStay none_goes (memory_of self.old) (memory_of self.new) }
         ensures lazy { is_lazy_at (memory_of self.new) (at_page pid page) ≡ true }
         ensures place { result ≡ place_in self.new.directories self.new.bytes pid page }
+        ensures beside { (p other : ℕ) → at_page p other ≢ at_page pid page
+            → is_some (found_of (place_in self.old.directories self.old.bytes p other)) ≡ true
+            → place_in self.new.directories self.new.bytes p other
+            ≡ place_in self.old.directories self.old.bytes p other }
     {
-        let need = need_at(&self.spaces, pid, page, place);
-        take_room(&mut self.quotas, pid, need);
+        self.tells(pid, page, place);
+        self.map_with(pid, page, write, place, place.need())
+    }
+
+    /// Does what `map_at` does, with what the process needs for the page.
+    #[inline(always)]
+    fn map_with(&mut self, pid: Pid, page: Page, write: bool, place: &Place, frames: u32) -> Place
+        requires may { IsOk (map_answer self.old.state pid page) }
+        requires place { place.now ≡ place_in self.old.directories self.old.bytes pid page }
+        requires need { frames ≡ need self.old.state.spaces pid page }
+        ensures state { self.new.state ≡ after_map self.old.state pid page write }
+        ensures stay { FramesStay none_goes (memory_of self.old) (memory_of self.new) }
+        ensures lazy { is_lazy_at (memory_of self.new) (at_page pid page) ≡ true }
+        ensures place { result ≡ place_in self.new.directories self.new.bytes pid page }
+        ensures beside { (p other : ℕ) → at_page p other ≢ at_page pid page
+            → is_some (found_of (place_in self.old.directories self.old.bytes p other)) ≡ true
+            → place_in self.new.directories self.new.bytes p other
+            ≡ place_in self.old.directories self.old.bytes p other }
+    {
+        take_room(&mut self.quotas, pid, frames);
         self.spaces.map_at(pid, page, write, place)
     }
 
@@ -95,13 +100,9 @@ impl Processes {
         ensures lazy { IsOk result → is_lazy_at (memory_of self.new) (at_page pid page) ≡ true }
         ensures kept { IsErr result → self.new ≡ self.old }
     {
-        match self.place_to_map(pid, page) {
-            Ok((place, _)) => {
-                self.map_at(pid, page, write, &place);
-                Ok(())
-            }
-            Err(cause) => Err(cause),
-        }
+        let (place, frames, _) = self.place_to_map(pid, page)?;
+        self.map_with(pid, page, write, &place, frames);
+        Ok(())
     }
 
     /// The place of a page that a process may unmap, or the first cause against it: NoProcess, BadPage, NotMapped.
@@ -129,38 +130,9 @@ impl Processes {
     pub fn can_unmap(&self, pid: Pid, page: Page) -> Result<u32, Cause>
         ensures { result ≡ unmap_answer self.now.state pid page }
     {
-        match self.place_to_unmap(pid, page) {
-            Ok(place) => {
-                let relief = self.spaces.relief_at(pid, page, &place);
-                Ok(charge_of(self, pid) - relief)
-            }
-            Err(cause) => Err(cause),
-        }
-    }
-
-    /// Takes a page away that the process may unmap; the offers of it go.
-    pub fn unmap(&mut self, pid: Pid, page: Page)
-        requires { IsOk (unmap_answer self.old.state pid page) }
-        ensures state { self.new.state ≡ after_unmap self.old.state pid page }
-        ensures stay { FramesStay (of_page pid page) (memory_of self.old) (memory_of self.new) }
-        ensures loose { LooseStay (memory_of self.old) (memory_of self.new) }
-    {
-        let _ = self.try_unmap(pid, page);
-    }
-
-    /// Takes a page away, as `unmap` does. The place is the page's.
-    #[inline(always)]
-    fn unmap_at(&mut self, pid: Pid, page: Page, place: &Place)
-        requires may { IsOk (unmap_answer self.old.state pid page) }
-        requires place { place.now ≡ place_in self.old.directories self.old.bytes pid page }
-        ensures state { self.new.state ≡ after_unmap self.old.state pid page }
-        ensures stay { FramesStay (of_page pid page) (memory_of self.old) (memory_of self.new) }
-        ensures loose { LooseStay (memory_of self.old) (memory_of self.new) }
-    {
-        let relief = self.spaces.relief_at(pid, page, place);
-        self.spaces.unmap_at(pid, page, place);
-        self.quotas.refund(pid, relief);
-        self.offers.drop_page(pid, page);
+        let place = self.place_to_unmap(pid, page)?;
+        let relief = self.spaces.relief_at(pid, page, &place);
+        Ok(charge_of(self, pid) - relief)
     }
 
     /// Takes a page away, where nothing is against it, and the offers of it go; else the first cause against it, as
@@ -173,13 +145,12 @@ impl Processes {
         ensures loose { LooseStay (memory_of self.old) (memory_of self.new) }
         ensures kept { IsErr result → self.new ≡ self.old }
     {
-        match self.place_to_unmap(pid, page) {
-            Ok(place) => {
-                self.unmap_at(pid, page, &place);
-                Ok(())
-            }
-            Err(cause) => Err(cause),
-        }
+        let place = self.place_to_unmap(pid, page)?;
+        let relief = self.spaces.relief_at(pid, page, &place);
+        self.spaces.unmap_at(pid, page, &place);
+        self.quotas.refund(pid, relief);
+        self.offers.drop_page(pid, page);
+        Ok(())
     }
 
     /// The place of a page whose right to write a process may set so, or the first cause against it: NoProcess,
@@ -211,30 +182,8 @@ impl Processes {
     pub fn can_protect(&self, pid: Pid, page: Page, write: bool) -> Result<u32, Cause>
         ensures { result ≡ protect_answer self.now.state pid page write }
     {
-        match self.place_to_protect(pid, page, write) {
-            Ok(_) => Ok(charge_of(self, pid)),
-            Err(cause) => Err(cause),
-        }
-    }
-
-    /// Sets or clears the right to write to a page, which the process may.
-    pub fn protect(&mut self, pid: Pid, page: Page, write: bool)
-        requires { IsOk (protect_answer self.old.state pid page write) }
-        ensures state { self.new.state ≡ after_protect self.old.state pid page write }
-        ensures stay { FramesStay none_goes (memory_of self.old) (memory_of self.new) }
-    {
-        let _ = self.try_protect(pid, page, write);
-    }
-
-    /// Sets or clears the right to write, as `protect` does. The place is the page's.
-    #[inline(always)]
-    fn protect_at(&mut self, pid: Pid, page: Page, write: bool, place: &Place)
-        requires may { IsOk (protect_answer self.old.state pid page write) }
-        requires place { place.now ≡ place_in self.old.directories self.old.bytes pid page }
-        ensures state { self.new.state ≡ after_protect self.old.state pid page write }
-        ensures stay { FramesStay none_goes (memory_of self.old) (memory_of self.new) }
-    {
-        self.spaces.protect_at(pid, page, write, place);
+        self.place_to_protect(pid, page, write)?;
+        Ok(charge_of(self, pid))
     }
 
     /// Sets or clears the right to write to a page, where nothing is against it; else the first cause against it, as
@@ -247,12 +196,8 @@ impl Processes {
         ensures stay { FramesStay none_goes (memory_of self.old) (memory_of self.new) }
         ensures kept { IsErr result → self.new ≡ self.old }
     {
-        match self.place_to_protect(pid, page, write) {
-            Ok(place) => {
-                self.protect_at(pid, page, write, &place);
-                Ok(())
-            }
-            Err(cause) => Err(cause),
-        }
+        let place = self.place_to_protect(pid, page, write)?;
+        self.spaces.protect_at(pid, page, write, &place);
+        Ok(())
     }
 }

@@ -1,14 +1,8 @@
 //! Parts of a process's page: bytes that are loaded or stored as one slice, as an access of each would do it.
 
-ghost use Rattle.std.specs.Prelude.{◌≡◌, ◌+◌, ◌≤◌, length, map, true, false};
-ghost use Rattle.std.specs.List.{range_with_len};
-ghost use Rattle.page_words.specs.Addresses.{page_number, offset_number, IsUserPage};
-ghost use Rattle.address_space.specs.Image.{takes_stores};
-ghost use Rattle.address_space.specs.Spaces.{slot_at, byte_at};
-ghost use Rattle.address_space.specs.Stays.{FramesStay, none_goes};
-ghost use Rattle.process_table.specs.Image.{memory_of};
-ghost use Rattle.process_table.specs.Parts.{after_loads, after_stores};
-ghost use Rattle.process_table.specs.State.{is_live, is_mapped};
+ghost use Rattle.std.specs.Prelude.{false, length, map, true, ◌+◌, ◌≡◌, ◌≤◌};
+ghost use Rattle.process_table.specs.Words.{FramesStay, IsUserPage, after_loads, after_stores, byte_at, is_live, is_mapped, memory_of, none_goes};
+ghost use Rattle.process_table.specs.Words.{offset_number, page_number, range_with_len, slot_at, takes_stores};
 
 use crate::processes::Processes;
 use page_words::{Pid, Vaddr};

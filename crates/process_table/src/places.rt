@@ -1,7 +1,6 @@
 //! The place of a page, looked up by process and page, and what it says about the state.
 
 ghost use Rattle.std.specs.Prelude.{◌≡◌, ◌≤◌, IfSome, is_some, true};
-ghost use Rattle.std.specs.Option.{option_and_then};
 ghost use Rattle.page_words.specs.Addresses.{IsUserPage};
 ghost use Rattle.address_space.specs.Image.{is_lazy_at, takes_stores};
 ghost use Rattle.address_space.specs.Places.{found_of, lazy_place, need_of, takes_place, place_in, entry_flags, cell_flags};
@@ -35,25 +34,18 @@ impl Processes {
         }
     }
 
-    /// What stands at a page, where there is one.
-    #[inline(always)]
-    fn place_of(&self, pid: Pid, page: Option<Page>) -> Option<Place>
-        ensures { result ≡ option_and_then (place_at self.now pid) page }
-    {
-        match page {
-            Some(page) => self.place(pid, page),
-            None => None,
-        }
-    }
-
     /// What stands at the pages that an access touches, one or two.
     #[inline(always)]
     pub fn access_places(&self, pid: Pid, address: Vaddr, size: Size) -> Places
         ensures { result ≡ access_places self.now pid address size }
     {
+        let second = match second_page(address, size) {
+            Some(page) => self.place(pid, page),
+            None => None,
+        };
         Places {
             first: self.place(pid, page_of(address)),
-            second: self.place_of(pid, second_page(address, size)),
+            second,
         }
     }
 

@@ -39,18 +39,6 @@ impl Model for Processes {
     ghost invariant = { λ p. IsWhole p.spaces p.quotas p.offers };
 }
 
-fn root_pid() -> Pid
-    ensures { result ≡ 0 }
-{
-    Pid::new(0).unwrap()
-}
-
-fn is_process(quotas: &Quotas, pid: Pid) -> bool
-    ensures { result ≡ map.contains_key quotas.now.book pid }
-{
-    quotas.get(pid).is_some()
-}
-
 /// Process 0 alone.
 fn opened(mut spaces: Spaces) -> Processes
     requires spaces { spaces.spaces ≡ map.empty }
@@ -60,7 +48,7 @@ fn opened(mut spaces: Spaces) -> Processes
     ensures { result.state ≡ open_with (length spaces.roles) }
 {
     let quota = spaces.frames() - 1;
-    spaces.fresh(root_pid());
+    spaces.fresh(Pid::new(0).unwrap());
     Processes {
         spaces,
         quotas: Quotas::new(quota),
@@ -95,7 +83,7 @@ impl Processes {
     pub fn live(&self, pid: Pid) -> bool
         ensures { result ≡ is_live self.now.state pid }
     {
-        is_process(&self.quotas, pid)
+        self.quotas.get(pid).is_some()
     }
 
     /// What a process may use, uses and gives; None where it is not live.

@@ -1,9 +1,8 @@
 //! Processes from an image: their directories and accounts, and memory's bytes and roles.
 
-ghost use Rattle.std.specs.Prelude.{◌≡◌, ℕ, ◌<◌, ◌≤◌, IfOk, IfErr, length, slice_index};
+ghost use Rattle.std.specs.Prelude.{IfErr, IfOk, length, slice_index, ℕ, ◌<◌, ◌≡◌, ◌≤◌};
+ghost use Rattle.process_table.specs.Words.{IsSoundImage, RootIsItsParent, StandsFor, image_in};
 ghost use Rattle.page_words.specs.FiniteMap as finite_map;
-ghost use Rattle.process_table.specs.Image.{StandsFor, IsSoundImage};
-ghost use Rattle.process_table.specs.Restored.{image_in, RootIsItsParent};
 
 use crate::processes::Processes;
 use address_space::{Spaces, have_places};

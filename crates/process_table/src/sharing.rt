@@ -1,21 +1,14 @@
 //! Offers of pages, and pages that are accepted: of each call its test and its change.
 
-ghost use Rattle.std.specs.Prelude.{◌≡◌, true, false, Some, None, IsOk, IsErr, if◌then◌else◌, nat_le, [], ◌∷◌};
-ghost use Rattle.page_words.specs.Addresses.{IsUserPage};
-ghost use Rattle.address_space.specs.Spaces.{at_page};
-ghost use Rattle.page_sharing.specs.Offers.{offer_key, pending};
-ghost use Rattle.process_table.specs.State.{is_live, is_mapped, overdrawn};
-ghost use Rattle.process_table.specs.Calls.{after_offer, after_withdraw, after_accept, offer_refusal, withdraw_refusal};
-ghost use Rattle.process_table.specs.TestAnswers.{offer_answer, withdraw_answer, accept_answer, first_cause, done_unless};
-ghost use Rattle.process_table.specs.Image.{memory_of};
-ghost use Rattle.address_space.specs.Stays.{FramesStay, none_goes, of_lazy};
-ghost use Rattle.address_space.specs.Places.{place_in};
-ghost use Rattle.process_table.specs.Places.{place_at};
+ghost use Rattle.std.specs.Prelude.{IsErr, IsOk, None, Some, [], false, if◌then◌else◌, nat_le, true, ◌∷◌, ◌≡◌};
+ghost use Rattle.process_table.specs.Words.{FramesStay, IsUserPage, accept_answer, after_accept, after_offer, after_withdraw, at_page, done_unless};
+ghost use Rattle.process_table.specs.Words.{first_cause, is_live, is_mapped, memory_of, need, none_goes, of_lazy, offer_answer, offer_key, offer_refusal};
+ghost use Rattle.process_table.specs.Words.{overdrawn, pending, place_at, place_in, withdraw_answer, withdraw_refusal};
 ghost use Rattle.page_words.specs.FiniteMap as map;
 ghost use Rattle.process_table.specs.declared.causes.Cause.TheVariants as cause;
 
 use crate::causes::Cause;
-use crate::charges::{charge_or, charge_with, need_at, take_room};
+use crate::charges::{charge_or, charge_with, take_room};
 use crate::processes::Processes;
 use address_space::Place;
 use page_sharing::{OfferFault, Offers};
@@ -42,9 +35,7 @@ impl Processes {
     pub fn can_offer(&self, pid: Pid, page: Page, target: Pid, write: bool) -> Result<u32, Cause>
         ensures { result ≡ offer_answer self.now.state pid page target write }
     {
-        let Some(container) = self.container(pid) else {
-            return Err(Cause::NoProcess);
-        };
+        let container = self.container(pid).ok_or(Cause::NoProcess)?;
         let place = self.place(pid, page);
         charge_or(
             container.used,
@@ -82,15 +73,6 @@ impl Processes {
         }
     }
 
-    /// Makes an offer that the process may make, with the right to write or without it.
-    pub fn offer(&mut self, pid: Pid, page: Page, target: Pid, write: bool)
-        requires { IsOk (offer_answer self.old.state pid page target write) }
-        ensures state { self.new.state ≡ after_offer self.old.state pid page target write }
-        ensures stay { FramesStay none_goes (memory_of self.old) (memory_of self.new) }
-    {
-        self.offers.offer(pid, page, target, write);
-    }
-
     /// Makes an offer, where nothing is against it, with the right to write or without it; else the first cause against
     /// it, as `can_offer` gives it, and nothing changes. The page is looked up once.
     #[inline(never)]
@@ -107,7 +89,7 @@ impl Processes {
         let place = self.place(pid, page);
         match self.offer_check(pid, page, target, write, &place) {
             None => {
-                self.offer(pid, page, target, write);
+                self.offers.offer(pid, page, target, write);
                 Ok(())
             }
             Some(cause) => Err(cause),
@@ -136,15 +118,6 @@ impl Processes {
         } else {
             None
         }
-    }
-
-    /// Takes back an offer that is pending.
-    pub fn withdraw(&mut self, pid: Pid, page: Page, target: Pid)
-        requires { IsOk (withdraw_answer self.old.state pid page target) }
-        ensures state { self.new.state ≡ after_withdraw self.old.state pid page target }
-        ensures stay { FramesStay none_goes (memory_of self.old) (memory_of self.new) }
-    {
-        let _ = self.try_withdraw(pid, page, target);
     }
 
     /// Takes back an offer, where nothing is against it; else the first cause against it, as `can_withdraw` gives it,
@@ -182,30 +155,17 @@ impl Processes {
     ) -> Result<u32, Cause>
         ensures { result ≡ accept_answer self.now.state pid giver giver_page page }
     {
-        let Some(container) = self.container(pid) else {
-            return Err(Cause::NoProcess);
-        };
-        let Some(place) = self.place(pid, page) else {
-            return Err(Cause::BadPage);
-        };
+        let container = self.container(pid).ok_or(Cause::NoProcess)?;
+        let place = self.place(pid, page).ok_or(Cause::BadPage)?;
         if self.offers().get(giver, giver_page, pid).is_none() {
             return Err(Cause::NoOffer);
         }
-        charge_with(self, &container, pid, page, &place)
-    }
-
-    /// Accepts an offer that the process may accept: its page is the giver's page too from now on, with
-    /// the right that was offered, and the offer goes.
-    pub fn accept(&mut self, pid: Pid, giver: Pid, giver_page: Page, page: Page)
-        requires { IsOk (accept_answer self.old.state pid giver giver_page page) }
-        ensures state { self.new.state ≡ after_accept self.old.state pid giver giver_page page }
-        ensures stay { FramesStay (of_lazy giver giver_page) (memory_of self.old) (memory_of self.new) }
-    {
-        let _ = self.try_accept(pid, giver, giver_page, page);
+        Ok(charge_with(self, &container, pid, page, &place)?.1)
     }
 
     /// Accepts an offer, where nothing is against it: what the process is charged for then, or the first cause against
-    /// it, as `can_accept` gives it. Each page is looked up once, and so is the offer.
+    /// it, as `can_accept` gives it. Its page is the giver's page too from then on, with the right that was offered,
+    /// and the offer goes. Each page is looked up once, and so is the offer.
     #[inline(never)]
     pub fn try_accept(
         &mut self,
@@ -226,22 +186,17 @@ impl Processes {
             return Err(Cause::BadPage);
         };
         match charge_with(self, &container, pid, page, &own) {
-            Ok(charge) => {
-                if self.accept_offered(pid, giver, giver_page, page, &own) {
-                    Ok(charge)
-                } else {
-                    Err(Cause::NoOffer)
-                }
+            Ok((frames, charge)) => {
+                self.accept_offered(pid, giver, giver_page, page, &own, frames)?;
+                Ok(charge)
             }
-            Err(cause) => match self.offers().get(giver, giver_page, pid) {
-                Some(_) => Err(cause),
-                None => Err(Cause::NoOffer),
-            },
+            Err(cause) if self.offers().get(giver, giver_page, pid).is_some() => Err(cause),
+            Err(_) => Err(Cause::NoOffer),
         }
     }
 
-    /// Accepts an offer, where it is pending, at a page that the process may map and whose place this is. Whether it is
-    /// pending; where it isn't, nothing changes.
+    /// Accepts an offer, where it is pending, at a page that the process may map and whose place this is. NoOffer
+    /// where it isn't, and nothing changes.
     fn accept_offered(
         &mut self,
         pid: Pid,
@@ -249,26 +204,28 @@ impl Processes {
         giver_page: Page,
         page: Page,
         own: &Place,
-    ) -> bool
+        frames: u32,
+    ) -> Result<(), Cause>
         requires live { is_live self.old.state pid ≡ true }
         requires user { IsUserPage page }
         requires unmapped { is_mapped self.old.state (at_page pid page) ≡ false }
         requires room { overdrawn self.old.state pid (page ∷ []) ≡ false }
         requires own { own.now ≡ place_in self.old.directories self.old.bytes pid page }
-        ensures there { result ≡ map.contains_key self.old.state.offers (offer_key giver giver_page pid) }
-        ensures state { result ≡ true → self.new.state ≡ after_accept self.old.state pid giver giver_page page }
+        requires need { frames ≡ need self.old.state.spaces pid page }
+        ensures there { result ≡ done_unless (if map.contains_key self.old.state.offers (offer_key giver giver_page pid)
+            then None else Some cause.NoOffer) }
+        ensures state { IsOk result → self.new.state ≡ after_accept self.old.state pid giver giver_page page }
         ensures stay { FramesStay (of_lazy giver giver_page) (memory_of self.old) (memory_of self.new) }
-        ensures none { result ≡ false → self.new ≡ self.old }
+        ensures none { IsErr result → self.new ≡ self.old }
     {
         let Ok(right) = self.offers.take(giver, giver_page, pid) else {
-            return false;
+            return Err(Cause::NoOffer);
         };
-        let need = need_at(&self.spaces, pid, page, own);
-        take_room(&mut self.quotas, pid, need);
+        take_room(&mut self.quotas, pid, frames);
         let given = self.spaces.place(giver, giver_page);
         let given = self.spaces.fill_at(giver, giver_page, &given);
         self.spaces
             .join_at(giver, giver_page, &given, pid, page, own, right);
-        true
+        Ok(())
     }
 }

@@ -1,17 +1,10 @@
 //! Accesses that a processor makes by itself: by the walk of a process's directory, or by translations that it kept.
 
-ghost use Rattle.std.specs.Prelude.{◌≡◌, ℕ, true, false, Some};
-ghost use Rattle.page_words.specs.Addresses.{byte_count, EachTouched, IsUserPage};
+ghost use Rattle.std.specs.Prelude.{Some, false, true, ℕ, ◌≡◌};
+ghost use Rattle.process_table.specs.Words.{EachTouched, FramesStay, IsUserPage, LeadTo, access_value, after_access, after_walked, at_page};
+ghost use Rattle.process_table.specs.Words.{byte_count, bytes_of, cell_or_fresh, container_of, directory_of, finds, is_live, is_mapped, is_marked};
+ghost use Rattle.process_table.specs.Words.{memory_of, none_goes, takes_stores, value_found, with_walked, written_at};
 ghost use Rattle.page_words.specs.FiniteMap as map;
-ghost use Rattle.address_space.specs.ByWalk.{finds, value_found, after_walked, with_walked};
-ghost use Rattle.address_space.specs.Kept.{is_marked, written_at, LeadTo};
-ghost use Rattle.address_space.specs.Image.{takes_stores};
-ghost use Rattle.address_space.specs.Spaces.{at_page, bytes_of, cell_or_fresh};
-ghost use Rattle.address_space.specs.Stays.{FramesStay, none_goes};
-ghost use Rattle.address_space.specs.View.{directory_of};
-ghost use Rattle.process_table.specs.Calls.{after_access, access_value};
-ghost use Rattle.process_table.specs.Image.{memory_of};
-ghost use Rattle.process_table.specs.State.{is_live, is_mapped, container_of};
 
 use crate::processes::Processes;
 use page_words::{Page, Pid, Size, Vaddr};
@@ -28,7 +21,7 @@ impl Processes {
 
     /// Makes an access as a processor does, if the walks find a frame for each page that it touches. It sets accessed
     /// (and dirty) in the words that lead there, and reads the value, or writes its low bytes, where they lead.
-    /// `access` makes the same.
+    /// `access_at` makes the same.
     pub fn access_by_walk(
         &mut self,
         pid: Pid,
@@ -95,7 +88,8 @@ impl Processes {
     }
 
     /// Makes a store as a processor does by translations that it cached, if accessed and dirty of each page that it
-    /// touches are already set. It writes the bytes at the end of the walks, and nothing else. `access` makes the same.
+    /// touches are already set. It writes the bytes at the end of the walks, and nothing else. `access_at` makes the
+    /// same.
     pub fn store_kept(&mut self, pid: Pid, address: Vaddr, size: Size, value: u32)
         requires finds { finds (memory_of self.old) pid address size Access.Write ≡ true }
         requires marked { EachTouched address size (λ page. is_marked self.old.state.spaces (at_page pid page) ≡ true) }

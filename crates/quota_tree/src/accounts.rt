@@ -62,14 +62,6 @@ fn container_of(accounts: &[Option<Account>; 64], pid: Pid) -> Option<Container>
     })
 }
 
-/// The process of a number below 64.
-fn pid_of(number: u8) -> Pid
-    requires { number < 64 }
-    ensures { result ≡ number }
-{
-    Pid::new(number).unwrap()
-}
-
 /// The containers of all processes that have accounts.
 fn containers_of(accounts: &[Option<Account>; 64]) -> [Option<Container>; 64]
     ensures length { length result ≡ 64 }
@@ -77,7 +69,7 @@ fn containers_of(accounts: &[Option<Account>; 64]) -> [Option<Container>; 64]
 {
     let mut containers = [None; 64];
     for number in 0..64u8 {
-        containers[number as usize] = container_of(accounts, pid_of(number));
+        containers[number as usize] = container_of(accounts, Pid::new(number).unwrap());
     }
     containers
 }

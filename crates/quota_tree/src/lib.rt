@@ -63,12 +63,6 @@ impl Model for Quotas {
     ghost invariant = { λ quotas. IsQuotas quotas.containers };
 }
 
-fn root_pid() -> Pid
-    ensures { result ≡ 0 }
-{
-    Pid::new(0).unwrap()
-}
-
 /// A container that gives nothing, and uses that many frames.
 fn opened(parent: Pid, quota: u32, used: u32) -> Container
     ensures { result ≡ charged_with (opened_container parent quota) used }
@@ -79,28 +73,6 @@ fn opened(parent: Pid, quota: u32, used: u32) -> Container
         used,
         given: 0,
         children: 0,
-    }
-}
-
-/// The container with that many frames more in use.
-fn charged(container: Container, frames: u32) -> Container
-    requires { container.used + frames < 2 ^ 32 }
-    ensures { result ≡ charged_with container (container.used + frames) }
-{
-    Container {
-        used: container.used + frames,
-        ..container
-    }
-}
-
-/// The container with that many frames less in use.
-fn refunded(container: Container, frames: u32) -> Container
-    requires { frames ≤ container.used }
-    ensures { result ≡ charged_with container (container.used - frames) }
-{
-    Container {
-        used: container.used - frames,
-        ..container
     }
 }
 
@@ -158,17 +130,19 @@ fn put(containers: &mut [Option<Container>; 64], pid: Pid, container: Option<Con
     containers[pid.number() as usize] = container;
 }
 
+fn set_used(containers: &mut [Option<Container>; 64], pid: Pid, used: u32)
+    ensures { (container : _) → slice_index_or containers.old pid None ≡ Some container
+        → containers.new ≡ slice_set containers.old pid (Some (charged_with container used)) }
+{
+    if let Some(container) = &mut containers[pid.number() as usize] {
+        container.used = used;
+    }
+}
+
 fn first_absent(containers: &[Option<Container>; 64]) -> Option<usize>
     ensures { result ≡ position (λ container. not (is_some container)) containers.now }
 {
     containers.iter().position(|container| container.is_none())
-}
-
-fn first_number(containers: &[Option<Container>; 64]) -> Option<Pid>
-    ensures { result ≡ position (λ container. not (is_some container)) containers.now }
-{
-    let place = first_absent(containers)?;
-    Pid::new(place as u8)
 }
 
 /// Gives a part of a parent's room to a new child, which has the least number that isn't live, and uses that many
@@ -196,15 +170,8 @@ impl Quotas {
     fn next_number(&self) -> Option<Pid>
         ensures { result ≡ next_number self.now.book }
     {
-        first_number(&self.containers)
-    }
-
-    /// The container of a live process.
-    fn live(&self, pid: Pid) -> Container
-        requires { IsLive self.now pid }
-        ensures { container_of self.now pid ≡ Some result }
-    {
-        live(&self.containers, pid)
+        let place = first_absent(&self.containers)?;
+        Pid::new(place as u8)
     }
 
     /// How many frames a process may still use or give. The container is the process's.
@@ -222,7 +189,7 @@ impl Quotas {
         ensures { result ≡ opening root }
     {
         let mut containers = [None; 64];
-        containers[0] = Some(opened(root_pid(), root, 1));
+        containers[0] = Some(opened(Pid::new(0).unwrap(), root, 1));
         Quotas { containers }
     }
 
@@ -234,7 +201,7 @@ impl Quotas {
         requires { IsLive self.now parent }
         ensures { result ≡ split_answer self.now parent quota }
     {
-        self.split_test(&self.live(parent), parent, quota)
+        self.split_test(&self.get(parent).unwrap(), parent, quota)
     }
 
     /// Returns what `can_split` returns, from the parent's container.
@@ -300,8 +267,8 @@ impl Quotas {
         requires room { frames ≤ room_of self.old pid }
         ensures { self.new ≡ with_used self.old pid (used_of self.old pid + frames) }
     {
-        let container = live(&self.containers, pid);
-        put(&mut self.containers, pid, Some(charged(container, frames)));
+        let used = live(&self.containers, pid).used + frames;
+        set_used(&mut self.containers, pid, used);
     }
 
     /// Charges a live process for that many frames less, fewer than it uses.
@@ -310,8 +277,8 @@ impl Quotas {
         requires used { frames < used_of self.old pid }
         ensures { self.new ≡ with_used self.old pid (used_of self.old pid - frames) }
     {
-        let container = live(&self.containers, pid);
-        put(&mut self.containers, pid, Some(refunded(container, frames)));
+        let used = live(&self.containers, pid).used - frames;
+        set_used(&mut self.containers, pid, used);
     }
 
     /// Takes out a live process, which isn't process 0 and has no children. Its quota returns to its
@@ -334,7 +301,7 @@ impl Quotas {
         requires { IsLive self.now pid }
         ensures { result ≡ room_of self.now pid }
     {
-        self.left_of(&self.live(pid), pid)
+        self.left_of(&self.get(pid).unwrap(), pid)
     }
 
     /// The container of a process; None where it isn't live.

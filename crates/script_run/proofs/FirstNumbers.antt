@@ -7,7 +7,7 @@ use Rattle.std.specs.Str.Parse.{digits_value}
 use Rattle.std.proofs.lemmas.Bool.{lt-ltb, le-leb, lt-leb, eqb-true, cases_Bool, cases_eq, false≢true}
 use Rattle.std.proofs.lemmas.List.{get_or-take, length-take-le}
 use Rattle.std.proofs.lemmas.Int.Digits.{digits_value_more}
-use Rattle.std.proofs.lemmas.List.Folds.{length-prefix_len, list_all_at}
+use Rattle.std.proofs.lemmas.List.Folds.{list_all_at}
 use Rattle.std.proofs.Math.Bool.{and-false}
 use Rattle.std.proofs.Math.Nat.{pow-le-pow_right, pow-suc}
 use Rattle.page_words.specs.declared.addresses.Size.{Size}
@@ -17,7 +17,7 @@ use Rattle.script_run.specs.Operands.{IsWorth, caller_by, first_by, is_trimmed, 
 use Rattle.script_run.specs.Tokens.{is_space, tokens_of}
 use Rattle.script_run.proofs.NumberLemmas.{digits_bound, digits_step}
 use Rattle.script_run.proofs.OperandLemmas.{first_below, with_cpu, with_pid, with_rest}
-use Rattle.script_run.proofs.TokenLemmas.{front_token, no_front, past_space, token_ends}
+use Rattle.script_run.proofs.TokenLemmas.{front_token, length_of_first, no_front, past_space, token_ends}
 
 -- ---- Hexadecimal digits, and what is none
 
@@ -62,15 +62,12 @@ no_number token e = ap (λ t. cond t (Some (digits_value 16 token)) None) e
 at_token : (xs : List ℕ) (n : ℕ) → n ≡ position_or_len is_space xs → 0 < n → first_by hexadecimal_number (tokens_of xs) ≡ first_by hexadecimal_number (take n xs ∷ tokens_of (drop n xs))
 at_token xs n is some = ap (first_by hexadecimal_number) (front_token xs n is some)
 
-long_token : (xs : List ℕ) → length (take (position_or_len is_space xs) xs) ≡ position_or_len is_space xs
-long_token xs = length-prefix_len (λ x. not (is_space x)) xs
-
 pub hexadecimal_long : (xs : List ℕ) → 8 < position_or_len is_space xs → None ≡ first_by hexadecimal_number (tokens_of xs)
 unfolding first_by
 hexadecimal_long xs long =
     let n = position_or_len is_space xs in
     let token = take n xs in
-    let over : nat_le (length token) 8 ≡ false = lt-leb (length token) 8 (subst (λ (k : ℕ). 8 < k) (sym (long_token xs)) long) in
+    let over : nat_le (length token) 8 ≡ false = lt-leb (length token) 8 (subst (λ (k : ℕ). 8 < k) (sym (length_of_first xs)) long) in
     let none = no_number token (ap (λ b. (nat_le 1 (length token) && b) && are_digits 16 token) over ∙ ap (λ b. b && are_digits 16 token) (and-false (nat_le 1 (length token)))) in
     sym (at_token xs n refl (omega (arith, long)) ∙ ap (λ o. o >>= with_rest (tokens_of (drop n xs))) none)
 
@@ -81,7 +78,7 @@ hexadecimal_bad xs n v is some few worths large = at (are_digits 16 (take n xs))
   at : (b : Bool) → are_digits 16 (take n xs) ≡ b → None ≡ first_by hexadecimal_number (tokens_of xs)
   at true digits =
       let value : v ≡ digits_value 16 (take n xs) = at_worth v (take n xs) _ true digits worths in
-      let short : length (take n xs) ≤ 8 = subst (λ (k : ℕ). length (take k xs) ≤ 8) (sym is) (omega (arith, is, few, long_token xs)) in
+      let short : length (take n xs) ≤ 8 = subst (λ (k : ℕ). length (take k xs) ≤ 8) (sym is) (omega (arith, is, few, length_of_first xs)) in
       let bound : digits_value 16 (take n xs) < 16 ^ 8 = digits_bound 16 8 (take n xs) (omega arith) short digits in
       absurd (omega (arith, value, bound, large))
   at false digits =
@@ -100,7 +97,7 @@ pub hexadecimal_some : (xs : List ℕ) (n v : ℕ) → n ≡ position_or_len is_
 unfolding first_by hexadecimal_number
 hexadecimal_some xs n v is some few worths small = at (are_digits 16 (take n xs)) refl where
   len : length (take n xs) ≡ n
-  len = subst (λ (k : ℕ). length (take k xs) ≡ k) (sym is) (long_token xs)
+  len = subst (λ (k : ℕ). length (take k xs) ≡ k) (sym is) (length_of_first xs)
 
   at : (b : Bool) → are_digits 16 (take n xs) ≡ b → Some (v, tokens_of (drop n xs)) ≡ first_by hexadecimal_number (tokens_of xs)
   at true digits =

@@ -4,9 +4,9 @@ use Rattle.std.proofs.lemmas.Bool.{lt-ltb, le-ltb}
 use Rattle.kernel_calls.specs.declared.calls.Call.{Call}
 use Rattle.kernel_calls.specs.declared.calls.Call.TheVariants as call
 use Rattle.kernel_calls.specs.declared.calls.Event.{Event}
-use Rattle.script_run.specs.Lines.{◌>>=◌, is_blank, one, two, three, alone, cpu_of, process_of, size_of, right_of, quota_of, load_of, store_of, map_of, unmap_of, protect_of, info_of, offer_of, withdraw_of, accept_of, spawn_of, fork_of, event_of_words}
+use Rattle.script_run.specs.Lines.{◌>>=◌, is_blank, one, two, three, alone, cpu_of, process_of, size_of, right_of, quota_of, load_of, store_of, map_of, unmap_of, protect_of, info_of, offer_of, withdraw_of, accept_of, spawn_of, fork_of, call_of, event_of_words}
 use Rattle.script_run.specs.Numbers.{hexadecimal_number, below}
-use Rattle.script_run.specs.Operands.{first_by, one_by, two_by, three_by, caller_by, named_by, event_by}
+use Rattle.script_run.specs.Operands.{first_by, one_by, two_by, three_by, caller_by, first_in, event_by}
 
 -- ---- Steps of a chain
 
@@ -64,24 +64,6 @@ threes f g h k (a ∷ b ∷ c ∷ d ∷ ts) =
     first f a (b ∷ c ∷ d ∷ ts) (λ p. first_by g p.1 >>= λ q. first_by h q.1 >>= λ r. alone (k p.0 q.0 r.0) r.1)
     ∙ same_rest (f a) _ (λ v. None) (λ v. first g b (c ∷ d ∷ ts) (λ q. first_by h q.1 >>= λ r. alone (k v q.0 r.0) r.1)
     ∙ same_rest (g b) _ (λ w. None) (λ w. first h c (d ∷ ts) (λ r. alone (k v w r.0) r.1) ∙ ends_so (h c)) ∙ ends_so (g b)) ∙ ends_so (f a)
-
--- ---- Operands that were read, and none behind them
-
-pub one_last : {A : Type 0} (f : List ℕ → Option A) (k : A → Call) (ts : List (List ℕ)) (a : A) → Some (a, []) ≡ first_by f ts → Some (k a) ≡ one_by f k ts
-unfolding one_by alone
-one_last f k ts a is = ap (λ o. o >>= λ p. alone (k p.0) p.1) is
-
-pub two_last : {A B : Type 0} (f : List ℕ → Option A) (g : List ℕ → Option B) (k : A → B → Call) (ts us : List (List ℕ)) (a : A) (b : B) → Some (a, us) ≡ first_by f ts → Some (b, []) ≡ first_by g us → Some (k a b) ≡ two_by f g k ts
-unfolding two_by alone
-two_last f g k ts us a b is next =
-    ap (λ o. o >>= λ q. alone (k a q.0) q.1) next ∙ ap (λ o. o >>= λ p. first_by g p.1 >>= λ q. alone (k p.0 q.0) q.1) is
-
-pub three_last : {A B C : Type 0} (f : List ℕ → Option A) (g : List ℕ → Option B) (h : List ℕ → Option C) (k : A → B → C → Call) (ts us vs : List (List ℕ)) (a : A) (b : B) (c : C)
-    → Some (a, us) ≡ first_by f ts → Some (b, vs) ≡ first_by g us → Some (c, []) ≡ first_by h vs → Some (k a b c) ≡ three_by f g h k ts
-unfolding three_by alone
-three_last f g h k ts us vs a b c is next last =
-    ap (λ o. o >>= λ r. alone (k a b r.0) r.1) last ∙ ap (λ o. o >>= λ q. first_by h q.1 >>= λ r. alone (k a q.0 r.0) r.1) next
-    ∙ ap (λ o. o >>= λ p. first_by g p.1 >>= λ q. first_by h q.1 >>= λ r. alone (k p.0 q.0 r.0) r.1) is
 
 -- ---- Each call
 
@@ -141,7 +123,7 @@ abbrev pub with_cpu : ℕ × List (List ℕ) → Option Caller
 with_cpu cpu = first_by process_of cpu.1 >>= with_pid cpu.0
 
 abbrev with_call : Caller → Option Event
-with_call caller = named_by caller.2 >>= λ call. Some (record { cpu = caller.0; pid = caller.1; call = call })
+with_call caller = first_in call_of caller.2 >>= λ call. Some (record { cpu = caller.0; pid = caller.1; call = call })
 
 chained : {A B C : Type 0} (x : Option A) (F : A → Option B) (G : B → Option C) → ((x >>= F) >>= G) ≡ (x >>= λ v. F v >>= G)
 chained None F G = refl
@@ -169,8 +151,6 @@ pub ruleset calls = (load_read, store_read, map_read, unmap_read, protect_read, 
 pub ruleset sharing_calls = (offer_read, withdraw_read, accept_read)
 
 pub ruleset process_calls = (spawn_read, fork_read)
-
-pub ruleset often = (load_read, store_read, map_read, unmap_read, offer_read, accept_read)
 
 -- ---- Limits
 

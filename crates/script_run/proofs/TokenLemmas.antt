@@ -1,16 +1,20 @@
 -- The first token of a line, and those after it.
 use Rattle.std.proofs.Common.{◌≡◌, ℕ, suc, ◌<◌, ◌≤◌, Bool, true, false, not, cond, List, [], ◌∷◌, ◌++◌, length, take, drop, refl, sym, ap, subst, ◌∙◌, arith, Some, None, unwrap_or, position, get_or, inl, inr, eq-eqb}
 use Rattle.std.specs.Prelude.{filter, nat_lt, ◌==◌}
-use Rattle.std.specs.List.{slice_split, onto_first, position_or_len}
-use Rattle.std.proofs.lemmas.Bool.{ltb-true, ltb-false, eqb-true, cases_Bool, cases_lt, cases_eq, false≢true}
-use Rattle.std.proofs.lemmas.List.{drop_all}
+use Rattle.std.specs.List.{list_all, slice_split, onto_first, position_or_len}
+use Rattle.std.specs.Str.{bytes_eq}
+use Rattle.std.specs.Cmp.Lexicographic.{same_text}
+use Rattle.std.proofs.lemmas.Grind.{same_number_lists}
+use Rattle.std.proofs.lemmas.List.Folds.{length-prefix_len, list_all_at}
+use Rattle.std.proofs.lemmas.Bool.{and_parts, ltb-true, ltb-false, eqb-true, cases_Bool, cases_lt, cases_eq, false≢true}
+use Rattle.std.proofs.lemmas.List.{drop_all, get_or-take, length-take-le}
 use Rattle.std.proofs.lemmas.Slice.Eq.{HasBytesAt}
 use Rattle.std.proofs.lemmas.List.Sums.{prefix_len-le-length, position_or_len_is, passes_at_first}
 use Rattle.std.proofs.lemmas.List.Splits.{slice_split-cons_yes, slice_split-cons_no}
 use Rattle.std.proofs.Math.Numerals.{one-add}
 use Rattle.script_run.specs.Tokens.{is_space, is_visible, is_run, tokens_of}
 use Rattle.script_run.specs.Lines.{is_blank}
-use Rattle.script_run.specs.Operands.{is_trimmed}
+use Rattle.script_run.specs.Operands.{is_trimmed, is_word, is_first}
 
 -- ---- Places: the first that passes, or the length
 
@@ -183,3 +187,56 @@ blank_front (x ∷ xs) front =
       | inr other ↦ other
     ] in
     some ∙ sym (ap is_blank (front_token (x ∷ xs) _ refl (some_front (x ∷ xs) front (omega arith))))
+
+-- ---- Whether a word is the first token
+
+pub length_of_first : (xs : List ℕ) → length (take (position_or_len is_space xs) xs) ≡ position_or_len is_space xs
+length_of_first xs = length-prefix_len (λ x. not (is_space x)) xs
+
+pub not_first : (line word : List ℕ) → is_trimmed line ≡ true → (take (position_or_len is_space line) line ≡ word → ⊥) → is_first word (tokens_of line) ≡ false
+unfolding tokens_of
+not_first [] word front other = refl
+not_first (x ∷ xs) word front other = ap (is_first word) tokens ∙ unlike where
+  op : List ℕ
+  op = take (position_or_len is_space (x ∷ xs)) (x ∷ xs)
+
+  tokens : tokens_of (x ∷ xs) ≡ op ∷ tokens_of (drop (position_or_len is_space (x ∷ xs)) (x ∷ xs))
+  tokens = front_token (x ∷ xs) _ refl (some_front (x ∷ xs) front (omega arith))
+
+  unlike : bytes_eq op word ≡ false
+  unlike = elim (cases_Bool (bytes_eq op word)) [
+    | inl same ↦ absurd (other (same_text op word (sym same)))
+    | inr apart ↦ apart
+  ]
+
+-- what is at the places of a first token, and behind it
+pub first_fits : (line word : List ℕ) → take (position_or_len is_space line) line ≡ word → length word ≤ length line
+first_fits line word is =
+    let same : length word ≡ position_or_len is_space line = sym (ap length is) ∙ length_of_first line in
+    omega (arith, same, prefix_len-le-length (λ x. not (is_space x)) line)
+
+pub first_ends : (line word : List ℕ) → take (position_or_len is_space line) line ≡ word → length word < length line → get_or line (length word) 0 ≡ 32
+first_ends line word is inside =
+    let same : length word ≡ position_or_len is_space line = sym (ap length is) ∙ length_of_first line in
+    let stops : is_space (get_or line (position_or_len is_space line) 0) ≡ true = passes_at_first is_space line 0 (omega (arith, same, inside)) in
+    ap (λ n. get_or line n 0) same ∙ eqb-true _ _ stops
+
+pub first_bytes : (line word : List ℕ) (k : ℕ) → take (position_or_len is_space line) line ≡ word → k < length word → get_or line k 0 ≡ get_or word k 0
+first_bytes line word k is inside =
+    let same : length word ≡ position_or_len is_space line = sym (ap length is) ∙ length_of_first line in
+    sym (get_or-take (position_or_len is_space line) line k 0 (omega (arith, same, inside))) ∙ ap (λ xs. get_or xs k 0) is
+
+no_space : (word : List ℕ) (k : ℕ) → list_all is_visible word ≡ true → k < length word → get_or word k 0 ≡ 32 → ⊥
+no_space word k visible inside space = false≢true (sym (list_all_at is_visible word k 0 inside (ap is_visible space)) ∙ visible)
+
+some_byte : (word : List ℕ) → is_run word ≡ true → 0 < length word
+some_byte [] run = absurd (false≢true run)
+some_byte (x ∷ xs) run = omega arith
+
+pub word_first : (line word : List ℕ) → is_word word ≡ true → length word ≤ length line → ((k : ℕ) → k < length word → get_or line k 0 ≡ get_or word k 0) → (length word < length line → get_or line (length word) 0 ≡ 32) → tokens_of line ≡ word ∷ tokens_of (drop (length word) line)
+word_first line word is fits same ends =
+    let parts = and_parts (is_run word) (list_all is_visible word) is in
+    let place = token_ends line (length word) fits (λ k before here. no_space word k parts.1 before (sym (same k before) ∙ here)) ends in
+    let long : length (take (length word) line) ≡ length word = length-take-le (length word) line fits in
+    let front : take (length word) line ≡ word = same_number_lists (take (length word) line) word long (λ k before. get_or-take (length word) line k 0 (omega (arith, long, before)) ∙ same k (omega (arith, long, before))) in
+    front_token line (length word) place (some_byte word parts.0) ∙ ap (λ op. op ∷ tokens_of (drop (length word) line)) front

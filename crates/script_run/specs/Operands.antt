@@ -1,14 +1,16 @@
 -- Operands read in sequence: each gives what its token says, and the tokens after it.
 --     first_by read tokens      what the first token says, and the tokens after it
 --     one_by, two_by, three_by      a call of so many operands, after which there is no token
-use Rattle.std.specs.Prelude.{ℕ, ◌≡◌, ◌≤◌, ◌^◌, Bool, true, List, [], ◌∷◌, Option, None, Some, MatchBool, if◌then◌else◌}
+use Rattle.std.specs.Prelude.{ℕ, ◌≡◌, ◌≤◌, ◌^◌, Bool, true, false, ◌&&◌, List, [], ◌∷◌, Option, None, Some, MatchBool, if◌then◌else◌}
+use Rattle.std.specs.List.{list_all}
+use Rattle.std.specs.Str.{bytes_eq}
 use Rattle.std.specs.Char.{digit_value, is_digit}
 use Rattle.std.specs.Str.Parse.{digits_value}
 use Rattle.kernel_calls.specs.declared.calls.Call.{Call}
 use Rattle.kernel_calls.specs.declared.calls.Event.{Event}
 use Rattle.script_run.specs.Lines.{◌>>=◌, alone, cpu_of, process_of, call_of}
 use Rattle.script_run.specs.Numbers.{are_digits}
-use Rattle.script_run.specs.Tokens.{is_visible}
+use Rattle.script_run.specs.Tokens.{is_run, is_visible}
 
 -- the tokens begin with no space
 abbrev pub is_trimmed : List ℕ → Bool
@@ -51,10 +53,19 @@ three_by read next last call tokens = do
   third ← first_by last second.1
   alone (call first.0 second.0 third.0) third.1
 
--- the call that the first token names, with the others as its operands
-abbrev pub named_by : List (List ℕ) → Option Call
-named_by [] = None
-named_by (op ∷ operands) = call_of op operands
+-- whether some bytes are a word: at least one, and no space
+abbrev pub is_word : List ℕ → Bool
+is_word bytes = is_run bytes && list_all is_visible bytes
+
+-- whether a word is the first token
+abbrev pub is_first : List ℕ → List (List ℕ) → Bool
+is_first word [] = false
+is_first word (op ∷ operands) = bytes_eq op word
+
+-- what a table of calls has at the first token, with the others as its operands
+abbrev pub first_in : (List ℕ → List (List ℕ) → Option Call) → List (List ℕ) → Option Call
+first_in table [] = None
+first_in table (op ∷ operands) = table op operands
 
 -- CPU and process, and the tokens behind them
 unfoldable pub caller_by : List (List ℕ) → Option (ℕ × ℕ × List (List ℕ))
@@ -67,5 +78,5 @@ caller_by tokens = do
 unfoldable pub event_by : List (List ℕ) → Option Event
 event_by tokens = do
   caller ← caller_by tokens
-  call ← named_by caller.2
+  call ← first_in call_of caller.2
   Some (record { cpu = caller.0; pid = caller.1; call = call })

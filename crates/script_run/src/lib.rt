@@ -14,7 +14,6 @@ mod replies;
 mod script;
 mod session;
 mod tokens;
-mod usual_lines;
 
 pub use faults::ScriptFault;
 pub use lines::{Line, line_of};

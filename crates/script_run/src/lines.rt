@@ -1,18 +1,22 @@
 //! What a line of a script says.
 
-ghost use Rattle.std.specs.Prelude.{◌≡◌, ◌<◌, ◌∷◌, IfSome, codes, if◌then◌else◌};
+ghost use Rattle.std.specs.Prelude.{◌≡◌, ◌<◌, ◌∷◌, [], true, Some, IfSome, if◌then◌else◌};
 ghost use Rattle.std.specs.Option.{option_map};
-ghost use Rattle.std.specs.Str.{bytes_eq};
 ghost use Rattle.script_run.specs.Tokens.{tokens_of};
 
-use super::numbers::{digit_of, hexadecimal, number_below};
-use super::tokens::{first_token, is_blank};
-use super::usual_lines::often_call_of;
+use super::numbers::{any_hexadecimal, digit_of, hexadecimal, number_below};
+use super::tokens::{after, ends_at, first_token, is_blank, trimmed};
 use kernel_calls::{Call, Event};
 use page_words::{Page, Pid, Size, Vaddr};
 
 /// The most bytes of a line, its line feed not counted.
 pub const LINE: usize = 100;
+
+/// The digits of an address as scripts mostly write it.
+const ADDRESS: usize = 8;
+
+/// The digits of a page as scripts mostly write it.
+const PAGE: usize = 5;
 
 /// What a line says.
 #[derive(Clone, Copy, Debug, PartialEq, Eq)]
@@ -25,98 +29,30 @@ pub enum Line {
 
 // The clauses' words on lines name `Line`, and so stand below it.
 ghost use Rattle.script_run.specs.declared.lines.Line.TheVariants as line;
-ghost use Rattle.script_run.specs.Lines.{is_blank, cpu_of, process_of, size_of, right_of, quota_of, alone, process_call_of, sharing_call_of, line_of};
+ghost use Rattle.script_run.specs.Lines.{is_blank, cpu_of, process_of, size_of, right_of, quota_of, alone, process_call_of, sharing_call_of, call_of, line_of};
 ghost use Rattle.script_run.specs.Numbers.{hexadecimal_number};
-ghost use Rattle.script_run.specs.Operands.{first_by, one_by, two_by, three_by, named_by, caller_by, event_by};
+ghost use Rattle.script_run.specs.Operands.{is_trimmed, first_by, one_by, two_by, three_by, first_in, caller_by, event_by};
 ghost use Rattle.kernel_calls.specs.declared.calls.Call.TheVariants as call;
 
-/// Returns whether a token is this word. The words of up to five letters have functions of their own, which read the
-/// bytes without a loop.
-#[inline(always)]
-fn is_word(token: &[u8], word: &str) -> bool
-    ensures { result ≡ bytes_eq token.now word.now }
-{
-    token == word.as_bytes()
-}
-
-#[inline(always)]
-fn is_load(op: &[u8]) -> bool
-    ensures { result ≡ bytes_eq op.now (codes "load") }
-{
-    matches!(op, b"load")
-}
-
-#[inline(always)]
-fn is_store(op: &[u8]) -> bool
-    ensures { result ≡ bytes_eq op.now (codes "store") }
-{
-    matches!(op, b"store")
-}
-
-#[inline(always)]
-fn is_map(op: &[u8]) -> bool
-    ensures { result ≡ bytes_eq op.now (codes "map") }
-{
-    matches!(op, b"map")
-}
-
-#[inline(always)]
-fn is_unmap(op: &[u8]) -> bool
-    ensures { result ≡ bytes_eq op.now (codes "unmap") }
-{
-    matches!(op, b"unmap")
-}
-
-#[inline(always)]
-fn is_info(op: &[u8]) -> bool
-    ensures { result ≡ bytes_eq op.now (codes "info") }
-{
-    matches!(op, b"info")
-}
-
-#[inline(always)]
-fn is_offer(op: &[u8]) -> bool
-    ensures { result ≡ bytes_eq op.now (codes "offer") }
-{
-    matches!(op, b"offer")
-}
-
-#[inline(always)]
-fn is_spawn(op: &[u8]) -> bool
-    ensures { result ≡ bytes_eq op.now (codes "spawn") }
-{
-    matches!(op, b"spawn")
-}
-
-#[inline(always)]
-fn is_fork(op: &[u8]) -> bool
-    ensures { result ≡ bytes_eq op.now (codes "fork") }
-{
-    matches!(op, b"fork")
-}
-
-#[inline(always)]
-fn is_exit(op: &[u8]) -> bool
-    ensures { result ≡ bytes_eq op.now (codes "exit") }
-{
-    matches!(op, b"exit")
-}
-
-#[inline(always)]
-fn is_quota(op: &[u8]) -> bool
-    ensures { result ≡ bytes_eq op.now (codes "quota") }
-{
-    matches!(op, b"quota")
-}
-
 /// `1`, `2` or `4`, bytes.
+#[inline(always)]
+fn size_by(byte: u8) -> Option<Size>
+    ensures { result ≡ size_of (byte ∷ []) }
+{
+    match byte {
+        b'1' => Some(Size::One),
+        b'2' => Some(Size::Two),
+        b'4' => Some(Size::Four),
+        _ => None,
+    }
+}
+
+/// The size that a token names.
 fn size_named(token: &[u8]) -> Option<Size>
     ensures { result ≡ size_of token.now }
 {
     match token {
-        b"1" => Some(Size::One),
-        b"2" => Some(Size::Two),
-        b"4" => Some(Size::Four),
+        [byte] => size_by(*byte),
         _ => None,
     }
 }
@@ -132,10 +68,22 @@ fn right_named(token: &[u8]) -> Option<bool>
     }
 }
 
-/// A size, and the bytes after it.
+/// A size behind one space, and the bytes after it; None if the bytes begin in another way.
 #[inline(always)]
+fn next_size(line: &[u8]) -> Option<(Size, &[u8])>
+    ensures { IfSome result (λ found. Some (found.0, tokens_of found.1.now) ≡ first_by size_of (tokens_of line.now)) }
+{
+    if line.len() < 2 || line[0] != b' ' || !ends_at(line, 2) {
+        return None;
+    }
+    let size = size_by(line[1])?;
+    Some((size, &line[2..]))
+}
+
+/// A size, and the bytes after it, wherever it begins.
+#[inline(never)]
 #[tactic(auto, unfolding(crate::specs::Operands::first_by))]
-fn size_of(line: &[u8]) -> Option<(Size, &[u8])>
+fn any_size(line: &[u8]) -> Option<(Size, &[u8])>
     ensures { option_map (λ found. (found.0, tokens_of found.1.now)) result ≡ first_by size_of (tokens_of line.now) }
 {
     let (token, rest) = first_token(line)?;
@@ -143,15 +91,38 @@ fn size_of(line: &[u8]) -> Option<(Size, &[u8])>
     Some((size, rest))
 }
 
-/// A right, and the bytes after it.
+/// A size, and the bytes after it. One behind a single space is read in one pass.
 #[inline(always)]
+fn size_of(line: &[u8]) -> Option<(Size, &[u8])>
+    ensures { option_map (λ found. (found.0, tokens_of found.1.now)) result ≡ first_by size_of (tokens_of line.now) }
+{
+    match next_size(line) {
+        Some(found) => Some(found),
+        None => any_size(line),
+    }
+}
+
+/// A right, and the bytes after it, wherever it begins.
+#[inline(never)]
 #[tactic(auto, unfolding(crate::specs::Operands::first_by))]
-fn right_of(line: &[u8]) -> Option<(bool, &[u8])>
+fn any_right(line: &[u8]) -> Option<(bool, &[u8])>
     ensures { option_map (λ found. (found.0, tokens_of found.1.now)) result ≡ first_by right_of (tokens_of line.now) }
 {
     let (token, rest) = first_token(line)?;
     let write = right_named(token)?;
     Some((write, rest))
+}
+
+/// A right, and the bytes after it. One behind a single space, at the line's end, is read in one pass.
+#[inline(always)]
+fn right_of(line: &[u8]) -> Option<(bool, &[u8])>
+    ensures { option_map (λ found. (found.0, tokens_of found.1.now)) result ≡ first_by right_of (tokens_of line.now) }
+{
+    match line {
+        b" rw" => Some((true, &[])),
+        b" ro" => Some((false, &[])),
+        _ => any_right(line),
+    }
 }
 
 /// A call with all its operands, where no token is left.
@@ -164,49 +135,49 @@ fn alone(call: Call, line: &[u8]) -> Option<Call>
 }
 
 /// `load ADDR SIZE`.
-#[inline(never)]
+#[inline(always)]
 #[tactic(auto, unfolding(crate::specs::Operands::two_by))]
 fn load_of(line: &[u8]) -> Option<Call>
     ensures { result ≡ two_by hexadecimal_number size_of call.Load (tokens_of line.now) }
 {
-    let (addr, rest) = hexadecimal(line)?;
+    let (addr, rest) = hexadecimal(line, ADDRESS)?;
     let addr = Vaddr(addr);
     let (size, rest) = size_of(rest)?;
     alone(Call::Load { addr, size }, rest)
 }
 
 /// `store ADDR SIZE VALUE`.
-#[inline(never)]
+#[inline(always)]
 #[tactic(auto, unfolding(crate::specs::Operands::three_by))]
 fn store_of(line: &[u8]) -> Option<Call>
     ensures { result ≡ three_by hexadecimal_number size_of hexadecimal_number call.Store (tokens_of line.now) }
 {
-    let (addr, rest) = hexadecimal(line)?;
+    let (addr, rest) = hexadecimal(line, ADDRESS)?;
     let addr = Vaddr(addr);
     let (size, rest) = size_of(rest)?;
-    let (value, rest) = hexadecimal(rest)?;
+    let (value, rest) = any_hexadecimal(rest)?;
     alone(Call::Store { addr, size, value }, rest)
 }
 
 /// `map PAGE RIGHT`.
-#[inline(never)]
+#[inline(always)]
 #[tactic(auto, unfolding(crate::specs::Operands::two_by))]
 fn map_of(line: &[u8]) -> Option<Call>
     ensures { result ≡ two_by hexadecimal_number right_of call.Map (tokens_of line.now) }
 {
-    let (page, rest) = hexadecimal(line)?;
+    let (page, rest) = hexadecimal(line, PAGE)?;
     let page = Page(page);
     let (write, rest) = right_of(rest)?;
     alone(Call::Map { page, write }, rest)
 }
 
 /// `unmap PAGE`.
-#[inline(never)]
+#[inline(always)]
 #[tactic(auto, unfolding(crate::specs::Operands::one_by))]
 fn unmap_of(line: &[u8]) -> Option<Call>
     ensures { result ≡ one_by hexadecimal_number call.Unmap (tokens_of line.now) }
 {
-    let (page, rest) = hexadecimal(line)?;
+    let (page, rest) = hexadecimal(line, PAGE)?;
     let page = Page(page);
     alone(Call::Unmap { page }, rest)
 }
@@ -217,7 +188,7 @@ fn unmap_of(line: &[u8]) -> Option<Call>
 fn protect_of(line: &[u8]) -> Option<Call>
     ensures { result ≡ two_by hexadecimal_number right_of call.Protect (tokens_of line.now) }
 {
-    let (page, rest) = hexadecimal(line)?;
+    let (page, rest) = hexadecimal(line, PAGE)?;
     let page = Page(page);
     let (write, rest) = right_of(rest)?;
     alone(Call::Protect { page, write }, rest)
@@ -229,18 +200,18 @@ fn protect_of(line: &[u8]) -> Option<Call>
 fn info_of(line: &[u8]) -> Option<Call>
     ensures { result ≡ one_by hexadecimal_number call.Info (tokens_of line.now) }
 {
-    let (page, rest) = hexadecimal(line)?;
+    let (page, rest) = hexadecimal(line, PAGE)?;
     let page = Page(page);
     alone(Call::Info { page }, rest)
 }
 
 /// `offer PAGE process RIGHT`.
-#[inline(never)]
+#[inline(always)]
 #[tactic(auto, unfolding(crate::specs::Operands::three_by))]
 fn offer_of(line: &[u8]) -> Option<Call>
     ensures { result ≡ three_by hexadecimal_number process_of right_of call.Offer (tokens_of line.now) }
 {
-    let (page, rest) = hexadecimal(line)?;
+    let (page, rest) = hexadecimal(line, PAGE)?;
     let page = Page(page);
     let (target, rest) = number_below(rest, 64)?;
     let target = Pid::new(target as u8)?;
@@ -261,7 +232,7 @@ fn offer_of(line: &[u8]) -> Option<Call>
 fn withdraw_of(line: &[u8]) -> Option<Call>
     ensures { result ≡ two_by hexadecimal_number process_of call.Withdraw (tokens_of line.now) }
 {
-    let (page, rest) = hexadecimal(line)?;
+    let (page, rest) = hexadecimal(line, PAGE)?;
     let page = Page(page);
     let (target, rest) = number_below(rest, 64)?;
     let target = Pid::new(target as u8)?;
@@ -269,16 +240,16 @@ fn withdraw_of(line: &[u8]) -> Option<Call>
 }
 
 /// `accept process PAGE PAGE`: the giver, its page, and the own page.
-#[inline(never)]
+#[inline(always)]
 #[tactic(auto, unfolding(crate::specs::Operands::three_by))]
 fn accept_of(line: &[u8]) -> Option<Call>
     ensures { result ≡ three_by process_of hexadecimal_number hexadecimal_number call.Accept (tokens_of line.now) }
 {
     let (giver, rest) = number_below(line, 64)?;
     let giver = Pid::new(giver as u8)?;
-    let (giver_page, rest) = hexadecimal(rest)?;
+    let (giver_page, rest) = hexadecimal(rest, PAGE)?;
     let giver_page = Page(giver_page);
-    let (page, rest) = hexadecimal(rest)?;
+    let (page, rest) = hexadecimal(rest, PAGE)?;
     let page = Page(page);
     alone(
         Call::Accept {
@@ -312,76 +283,81 @@ fn fork_of(line: &[u8]) -> Option<Call>
     alone(Call::Fork { quota }, rest)
 }
 
-/// A call of processes and their quotas.
+/// A call of processes and their quotas. No space is in front.
 #[inline(always)]
 #[tactic(auto, unfolding(crate::specs::Lines::process_call_of), using(crate::proofs::OperandLemmas::process_calls))]
-fn process_call_of(op: &[u8], operands: &[u8]) -> Option<Call>
-    ensures { result ≡ process_call_of op.now (tokens_of operands.now) }
+fn process_call_of(line: &[u8]) -> Option<Call>
+    requires { is_trimmed line.now ≡ true }
+    ensures { result ≡ first_in process_call_of (tokens_of line.now) }
 {
-    if is_spawn(op) {
-        spawn_of(operands)
-    } else if is_fork(op) {
-        fork_of(operands)
-    } else if is_exit(op) {
-        alone(Call::Exit, operands)
-    } else if is_quota(op) {
-        alone(Call::Quota, operands)
-    } else {
-        None
+    if let Some(operands) = after(line, b"spawn") {
+        return spawn_of(operands);
     }
+    if let Some(operands) = after(line, b"fork") {
+        return fork_of(operands);
+    }
+    if let Some(operands) = after(line, b"exit") {
+        return alone(Call::Exit, operands);
+    }
+    if let Some(operands) = after(line, b"quota") {
+        return alone(Call::Quota, operands);
+    }
+    None
 }
 
-/// A call of offers, or one of processes.
+/// A call of offers, or one of processes. No space is in front.
 #[inline(always)]
 #[tactic(auto, unfolding(crate::specs::Lines::sharing_call_of), using(crate::proofs::OperandLemmas::sharing_calls))]
-fn sharing_call_of(op: &[u8], operands: &[u8]) -> Option<Call>
-    ensures { result ≡ sharing_call_of op.now (tokens_of operands.now) }
+fn sharing_call_of(line: &[u8]) -> Option<Call>
+    requires { is_trimmed line.now ≡ true }
+    ensures { result ≡ first_in sharing_call_of (tokens_of line.now) }
 {
-    if is_offer(op) {
-        offer_of(operands)
-    } else if is_word(op, "withdraw") {
-        withdraw_of(operands)
-    } else if is_word(op, "accept") {
-        accept_of(operands)
-    } else {
-        process_call_of(op, operands)
+    if let Some(operands) = after(line, b"offer") {
+        return offer_of(operands);
     }
+    if let Some(operands) = after(line, b"withdraw") {
+        return withdraw_of(operands);
+    }
+    if let Some(operands) = after(line, b"accept") {
+        return accept_of(operands);
+    }
+    process_call_of(line)
 }
 
-/// The call whose name is the first token, and whose operands are the others.
-#[inline(never)]
+/// The call that the first token names, with the others as its operands. No space is in front.
+#[inline(always)]
 #[tactic(auto, unfolding(crate::specs::Lines::call_of), using(crate::proofs::OperandLemmas::calls))]
-fn any_call_of(line: &[u8]) -> Option<Call>
-    ensures { result ≡ named_by (tokens_of line.now) }
+fn trimmed_call_of(line: &[u8]) -> Option<Call>
+    requires { is_trimmed line.now ≡ true }
+    ensures { result ≡ first_in call_of (tokens_of line.now) }
 {
-    let (op, operands) = first_token(line)?;
-    if is_load(op) {
-        load_of(operands)
-    } else if is_store(op) {
-        store_of(operands)
-    } else if is_map(op) {
-        map_of(operands)
-    } else if is_unmap(op) {
-        unmap_of(operands)
-    } else if is_word(op, "protect") {
-        protect_of(operands)
-    } else if is_info(op) {
-        info_of(operands)
-    } else {
-        sharing_call_of(op, operands)
+    if let Some(operands) = after(line, b"load") {
+        return load_of(operands);
     }
+    if let Some(operands) = after(line, b"store") {
+        return store_of(operands);
+    }
+    if let Some(operands) = after(line, b"map") {
+        return map_of(operands);
+    }
+    if let Some(operands) = after(line, b"unmap") {
+        return unmap_of(operands);
+    }
+    if let Some(operands) = after(line, b"protect") {
+        return protect_of(operands);
+    }
+    if let Some(operands) = after(line, b"info") {
+        return info_of(operands);
+    }
+    sharing_call_of(line)
 }
 
-/// Returns the call that the first token names, with the others as its operands. A line in its usual form is read in
-/// one pass.
+/// The call that the first token names, with the others as its operands.
 #[inline(always)]
 fn call_of(line: &[u8]) -> Option<Call>
-    ensures { result ≡ named_by (tokens_of line.now) }
+    ensures { result ≡ first_in call_of (tokens_of line.now) }
 {
-    match often_call_of(line) {
-        Some(call) => Some(call),
-        None => any_call_of(line),
-    }
+    trimmed_call_of(trimmed(line))
 }
 
 /// The CPU and the process that a line begins with, and the bytes after them.

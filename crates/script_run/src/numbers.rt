@@ -8,7 +8,7 @@ ghost use Rattle.script_run.specs.Numbers.{number_written, below, decimal_number
 ghost use Rattle.script_run.specs.Operands.{IsWorth, first_by, worth};
 ghost use Rattle.script_run.specs.Tokens.{is_space, tokens_of};
 
-use super::tokens::{first_token, trimmed};
+use super::tokens::{ends_at, first_token, trimmed};
 
 /// What each byte is worth as a digit, a letter of either case behind the nine; 36 where it is neither.
 const DIGITS: [u8; 256] = [
@@ -99,16 +99,6 @@ fn worth_of(byte: u8) -> u64
     number_at(&HEXADECIMAL, byte)
 }
 
-/// Whether the token in front ends at this place: a space stands there, or nothing.
-#[inline(always)]
-pub fn ends_at(line: &[u8], place: usize) -> bool
-    requires { place ≤ length line.now }
-    ensures ends { result ≡ true → place < length line.now → slice_index line.now place ≡ 32 }
-    ensures goes_on { result ≡ false → (place < length line.now) × (slice_index line.now place ≡ 32 → ⊥) }
-{
-    place == line.len() || line[place] == b' '
-}
-
 /// Returns the value of the bytes up to the first space as hexadecimal digits, and how many they are; None if they are
 /// more than eight. It reads each byte once.
 #[inline(always)]
@@ -133,9 +123,9 @@ fn short_token(line: &[u8]) -> Option<(u64, usize)>
 }
 
 /// The number that the first token writes in one to eight hexadecimal digits, of either case, and the
-/// bytes after it.
+/// bytes after it, wherever it begins.
 #[inline(always)]
-pub fn hexadecimal(line: &[u8]) -> Option<(u32, &[u8])>
+pub fn any_hexadecimal(line: &[u8]) -> Option<(u32, &[u8])>
     ensures { option_map (λ found. (found.0, tokens_of found.1.now)) result
         ≡ first_by hexadecimal_number (tokens_of line.now) }
 {
@@ -163,7 +153,7 @@ fn worth_in_front(line: &[u8], digits: usize) -> u64
 /// The number of a token in front of just so many hexadecimal digits, and the bytes after it; None where the
 /// token in front is another.
 #[inline(always)]
-pub fn hexadecimal_of(line: &[u8], digits: usize) -> Option<(u32, &[u8])>
+fn hexadecimal_of(line: &[u8], digits: usize) -> Option<(u32, &[u8])>
     requires { (0 < digits) × (digits ≤ 8) }
     ensures { IfSome result (λ found. Some (found.0, tokens_of found.1.now)
         ≡ first_by hexadecimal_number (tokens_of line.now)) }
@@ -176,6 +166,21 @@ pub fn hexadecimal_of(line: &[u8], digits: usize) -> Option<(u32, &[u8])>
         return None;
     }
     Some((value as u32, &line[digits..]))
+}
+
+/// The number that the first token writes in one to eight hexadecimal digits, of either case, and the bytes after it. A
+/// token of just so many digits is read in one pass.
+#[inline(always)]
+pub fn hexadecimal(line: &[u8], digits: usize) -> Option<(u32, &[u8])>
+    requires { (0 < digits) × (digits ≤ 8) }
+    ensures { option_map (λ found. (found.0, tokens_of found.1.now)) result
+        ≡ first_by hexadecimal_number (tokens_of line.now) }
+{
+    let line = trimmed(line);
+    match hexadecimal_of(line, digits) {
+        Some(found) => Some(found),
+        None => any_hexadecimal(line),
+    }
 }
 
 /// Returns the number in the first token, of one to ten decimal digits, and the bytes after it. One or two digits that

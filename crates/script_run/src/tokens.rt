@@ -1,8 +1,8 @@
 //! The tokens of a line: the runs of bytes other than the space.
 
-ghost use Rattle.std.specs.Prelude.{◌≡◌, [], ◌∷◌, true, MatchOption, position};
+ghost use Rattle.std.specs.Prelude.{◌≡◌, ◌<◌, ◌≤◌, [], ◌∷◌, true, false, length, slice_index, MatchOption, position};
 ghost use Rattle.script_run.specs.Tokens.{is_space, is_visible, tokens_of};
-ghost use Rattle.script_run.specs.Operands.{is_trimmed};
+ghost use Rattle.script_run.specs.Operands.{is_trimmed, is_word, is_first};
 ghost use Rattle.script_run.specs.Lines as line;
 
 /// Where the first byte other than a space stands, wherever that is.
@@ -44,6 +44,36 @@ pub fn is_blank(bytes: &[u8]) -> bool
     ensures { result ≡ line.is_blank (tokens_of bytes.now) }
 {
     trimmed(bytes).is_empty()
+}
+
+/// Whether the token in front ends at this place: a space stands there, or nothing.
+#[inline(always)]
+pub fn ends_at(line: &[u8], place: usize) -> bool
+    requires { place ≤ length line.now }
+    ensures ends { result ≡ true → place < length line.now → slice_index line.now place ≡ 32 }
+    ensures goes_on { result ≡ false → (place < length line.now) × (slice_index line.now place ≡ 32 → ⊥) }
+{
+    place == line.len() || line[place] == b' '
+}
+
+/// The bytes behind a word that is the first token; None if another is, or none. It looks for no end of the token. No space
+/// is in front.
+#[inline(always)]
+pub fn after<'a>(line: &'a [u8], word: &[u8]) -> Option<&'a [u8]>
+    requires front { is_trimmed line.now ≡ true }
+    requires word { is_word word.now ≡ true }
+    ensures { MatchOption result (is_first word.now (tokens_of line.now) ≡ false)
+        (λ rest. tokens_of line.now ≡ word.now ∷ tokens_of rest.now) }
+{
+    if line.len() < word.len() || !ends_at(line, word.len()) {
+        return None;
+    }
+    for place in 0..word.len() {
+        if line[place] != word[place] {
+            return None;
+        }
+    }
+    Some(&line[word.len()..])
 }
 
 /// Where the first space stands.

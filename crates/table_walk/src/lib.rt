@@ -10,7 +10,7 @@
 ghost use Rattle.std.specs.Prelude.{◌^◌, ◌≡◌, ℕ, ◌+◌, ◌*◌, ◌%◌, ◌<◌, ◌≤◌, length, IsOk};
 ghost use Rattle.std.specs.Result.{ForOk};
 ghost use Rattle.phys_memory.specs.Bytes.{word_place};
-ghost use Rattle.table_walk.specs.Walk.{WalksFindWhatLeads, page_fault, not_present, not_allowed, walk_of};
+ghost use Rattle.table_walk.specs.Walk.{WalksFindWhatLeads, page_fault, walk_of};
 ghost use Rattle.table_walk.specs.declared.Access.{Access};
 ghost use Rattle.table_walk.specs.Marks.{ChangesTwoWords, MarksChangeTwoWords, MarksKeepWalks, StandsApart, marked};
 
@@ -70,18 +70,6 @@ fn place_of(frame: Frame, index: u32) -> usize
     frame.0 as usize * FRAME_BYTES + index as usize * 4
 }
 
-fn absent(addr: Vaddr, access: Access) -> Result<Frame, WalkEnd>
-    ensures { result ≡ not_present addr access }
-{
-    Err(WalkEnd::Fault(PageFault::new(addr, access, false)))
-}
-
-fn forbidden(addr: Vaddr, access: Access) -> Result<Frame, WalkEnd>
-    ensures { result ≡ not_allowed addr access }
-{
-    Err(WalkEnd::Fault(PageFault::new(addr, access, true)))
-}
-
 /// The frame that an address leads to by the map of a directory, for a user-mode access. It ends on any
 /// bytes, and for any directory frame; the directory may lie outside memory.
 ///
@@ -102,7 +90,7 @@ pub fn walk(
     let page = page_of(address);
     let dir_word = DirWord::read(memory.read_word(place_of(directory, slot_of(page))));
     if !dir_word.present() {
-        return absent(address, access);
+        return Err(WalkEnd::Fault(PageFault::new(address, access, false)));
     }
     let table = dir_word.frame();
     if table.0 >= frames {
@@ -110,13 +98,13 @@ pub fn walk(
     }
     let table_word = TableWord::read(memory.read_word(place_of(table, index_of(page))));
     if !table_word.present() {
-        return absent(address, access);
+        return Err(WalkEnd::Fault(PageFault::new(address, access, false)));
     }
     if !(dir_word.user() && table_word.user()) {
-        return forbidden(address, access);
+        return Err(WalkEnd::Fault(PageFault::new(address, access, true)));
     }
     if access == Access::Write && !(dir_word.writable() && table_word.writable()) {
-        return forbidden(address, access);
+        return Err(WalkEnd::Fault(PageFault::new(address, access, true)));
     }
     let frame = table_word.frame();
     if frame.0 >= frames {

@@ -3,7 +3,7 @@ use Rattle.std.proofs.Common.{◌==◌, ℕ, not, Option, Some, None, List, take
 use Rattle.process_table.specs.State.{State, is_live}
 use Rattle.process_table.specs.View.{View}
 use Rattle.process_table.specs.declared.causes.Cause.TheVariants.{RootExit, NoProcess}
-use Rattle.kernel_calls.specs.Acts.{children_in, EndsFamily}
+use Rattle.kernel_acts.specs.Acts.{children_in, EndsFamily}
 use Rattle.tower_c.specs.Border.{numbers, no_event, refused_numbers}
 use Rattle.tower_c.specs.declared.families.TowerProcesses.{TowerProcesses}
 use Rattle.tower_c.specs.declared.numbers.TowerReply.{TowerReply}

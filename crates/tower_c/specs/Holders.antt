@@ -7,8 +7,8 @@ use Rattle.process_table.specs.View.{View}
 use Rattle.process_table.specs.declared.causes.Cause.{Cause}
 use Rattle.process_table.specs.declared.causes.Cause.TheVariants.{NoProcess, BadPage, NotMapped}
 use Rattle.kernel_calls.specs.Effects.{IsAlone}
-use Rattle.kernel_calls.specs.TakenBack.{is_beside, Taking}
-use Rattle.kernel_calls.specs.declared.taking.Holder.{Holder}
+use Rattle.kernel_acts.specs.TakenBack.{is_beside, Taking}
+use Rattle.kernel_acts.specs.declared.taking.Holder.{Holder}
 use Rattle.tower_c.specs.Border.{numbers, no_event, refused_numbers}
 use Rattle.tower_c.specs.declared.holders.TowerHolder.{TowerHolder}
 use Rattle.tower_c.specs.declared.numbers.TowerReply.{TowerReply}

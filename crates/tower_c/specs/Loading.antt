@@ -4,8 +4,8 @@ use Rattle.address_space.specs.Spaces.{slot_at, byte_at}
 use Rattle.process_table.specs.State.{State, is_mapped}
 use Rattle.process_table.specs.View.{View}
 use Rattle.process_table.specs.declared.causes.Cause.{Cause}
-use Rattle.kernel_calls.specs.Installed.{is_writable_at}
-use Rattle.kernel_calls.specs.Loaded.{pages_under, load_refusal, Loads, IsLastThere}
+use Rattle.kernel_acts.specs.Installed.{is_writable_at}
+use Rattle.kernel_acts.specs.Loaded.{pages_under, load_refusal, Loads, IsLastThere}
 use Rattle.tower_c.specs.Border.{numbers, no_event, refused_numbers}
 use Rattle.tower_c.specs.declared.numbers.TowerReply.{TowerReply}
 

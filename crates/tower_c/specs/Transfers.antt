@@ -2,7 +2,7 @@
 use Rattle.std.specs.Prelude.{ℕ, Option, Some, None, List, []}
 use Rattle.address_space.specs.Stays.{Gone, none_goes}
 use Rattle.process_table.specs.State.{State}
-use Rattle.kernel_calls.specs.Transfers.{loads, stores, stop_of, of_lazy_pages}
+use Rattle.kernel_acts.specs.Transfers.{loads, stores, stop_of, of_lazy_pages}
 use Rattle.kernel_calls.specs.declared.calls.Event.{Event}
 use Rattle.kernel_calls.specs.declared.calls.Reply.{Reply}
 use Rattle.tower_c.specs.Border.{numbers, no_event, reply_numbers}

@@ -76,7 +76,7 @@ fn next_dirty(core: &Core, pid: u32, from: u32) -> Option<u32>
     let Some(pid) = pid_from(pid) else {
         return None;
     };
-    match core.next_dirty(pid, Page(from)) {
+    match kernel_acts::next_dirty(core, pid, Page(from)) {
         Some(page) => Some(page.0),
         None => None,
     }
@@ -123,7 +123,7 @@ fn peek(core: &Core, pid: u32, address: u32, bytes: &mut [u8]) -> usize
     ensures { PeeksIn core.now.state (pid_of pid) address bytes.old bytes.new result }
 {
     match pid_from(pid) {
-        Some(pid) => core.peek(pid, Vaddr(address), bytes),
+        Some(pid) => kernel_acts::peek(core, pid, Vaddr(address), bytes),
         None => 0,
     }
 }

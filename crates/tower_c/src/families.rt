@@ -2,7 +2,7 @@
 
 ghost use Rattle.std.specs.Prelude.{◌≡◌, ◌≢◌, ◌≤◌, Some, IfSome, take, drop, false};
 ghost use Rattle.process_table.specs.Image.{StandsFor, image_of};
-ghost use Rattle.kernel_calls.specs.Acts.{exits, spaces_of_all};
+ghost use Rattle.kernel_acts.specs.Acts.{exits, spaces_of_all};
 ghost use Rattle.kernel_calls.specs.Translations.{EndAlong};
 ghost use Rattle.tower_c.specs.Border.{given, pid_of};
 ghost use Rattle.tower_c.specs.Families.{pids_in, children_at, end_told, EndsFamilyIn};
@@ -47,7 +47,7 @@ fn children(core: &Core, pid: u32, children: &mut TowerProcesses) -> bool
         return false;
     };
     let mut found = [pid; 64];
-    let count = core.children(pid, &mut found);
+    let count = kernel_acts::children(core, pid, &mut found);
     list(&found, count, children);
     true
 }
@@ -91,7 +91,7 @@ fn end(core: &mut Core, pid: u32, exited: &mut TowerProcesses) -> TowerReply
         return no_event();
     };
     let mut pids = [pid; 64];
-    match core.end_family(pid, &mut pids) {
+    match kernel_acts::end_family(core, pid, &mut pids) {
         Ok(count) => {
             list(&pids, count, exited);
             done()

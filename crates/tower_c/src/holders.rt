@@ -5,14 +5,16 @@ ghost use Rattle.address_space.specs.Spaces.{at_page};
 ghost use Rattle.process_table.specs.Image.{StandsFor, image_of};
 ghost use Rattle.kernel_calls.specs.Effects.{IsAlone};
 ghost use Rattle.kernel_calls.specs.Machine.{answer, completes};
-ghost use Rattle.kernel_calls.specs.TakenBack.{info_of_page, Taking};
+ghost use Rattle.kernel_calls.specs.Cleaned.{info_of_page};
+ghost use Rattle.kernel_acts.specs.TakenBack.{Taking};
 ghost use Rattle.tower_c.specs.Border.{pid_of};
 ghost use Rattle.tower_c.specs.Holders.{holder_of, IsNextHolderIn, HasNoHolder, take_refusal, take_told, TakesIn, IsAloneIn};
 ghost use Rattle.c_handle.specs.Handle.{IsTower};
 
 use crate::numbers::{TowerReply, done, no_event, pid_from, refused_for};
 use c_handle::{Tower, put, take};
-use kernel_calls::{Cause, Core, Holder};
+use kernel_acts::Holder;
+use kernel_calls::{Cause, Core};
 use page_words::{Page, Pid, in_user_range};
 use std::alloc::Global;
 
@@ -40,7 +42,7 @@ fn next_holder(core: &Core, pid: u32, page: u32, holder: u32, from: u32) -> Opti
     if !in_user_range(Page(page)) {
         return None;
     }
-    match core.next_beside(pid, Page(page), holder, Page(from)) {
+    match kernel_acts::next_beside(core, pid, Page(page), holder, Page(from)) {
         Some(found) => Some(found.0),
         None => None,
     }
@@ -115,7 +117,7 @@ fn take_some(core: &mut Core, pid: Pid, page: Page, lost: &mut [TowerHolder]) ->
     ensures rest { drop result lost.new ≡ drop result lost.old }
 {
     let mut part = [Holder { pid, page }; 64];
-    let count = core.take_back(pid, page, &mut part[..lost.len()]).unwrap();
+    let count = kernel_acts::take_back(core, pid, page, &mut part[..lost.len()]).unwrap();
     list(&part[..count], &mut lost[..count]);
     count
 }

@@ -23,7 +23,7 @@ fn load(core: &mut Core, pid: u32, address: u32, bytes: &[u8], write: bool) -> T
         core.stands();
         return no_event();
     };
-    match core.load_bytes(pid, Vaddr(address), bytes, write) {
+    match kernel_acts::load_bytes(core, pid, Vaddr(address), bytes, write) {
         Ok(_) => done(),
         Err(cause) => refused_for(cause),
     }

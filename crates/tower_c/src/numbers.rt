@@ -135,7 +135,7 @@ fn call_from(e: &TowerEvent) -> Option<Call>
 pub fn event_from(e: &TowerEvent) -> Option<Event>
     ensures { result ≡ event_in e.now }
 {
-    let pid = pid_from(u32::from(e.pid))?;
+    let pid = Pid::new(e.pid)?;
     let call = call_from(e)?;
     Some(Event {
         cpu: e.cpu,

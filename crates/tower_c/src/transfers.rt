@@ -4,7 +4,7 @@ ghost use Rattle.std.specs.Prelude.{◌≡◌, ◌++◌, Some, IfSome, length, d
 ghost use Rattle.address_space.specs.Stays.{FramesStay, none_goes};
 ghost use Rattle.process_table.specs.Image.{StandsFor, image_of, memory_of};
 ghost use Rattle.kernel_calls.specs.Machine.{answers, end_of};
-ghost use Rattle.kernel_calls.specs.Transfers.{carried, values};
+ghost use Rattle.kernel_acts.specs.Transfers.{carried, values};
 ghost use Rattle.tower_c.specs.Border.{pid_of};
 ghost use Rattle.c_handle.specs.Handle.{IsTower};
 ghost use Rattle.tower_c.specs.Transfers.{loads_in, stores_in, gone_in, stop_in, stop_numbers};
@@ -39,7 +39,7 @@ fn read(core: &mut Core, pid: u32, address: u32, bytes: &mut [u8]) -> (usize, To
 {
     match pid_from(pid) {
         Some(pid) => {
-            let transfer = core.read_bytes(pid, Vaddr(address), bytes);
+            let transfer = kernel_acts::read_bytes(core, pid, Vaddr(address), bytes);
             (transfer.count, stop_from(&transfer.stop))
         }
         None => {
@@ -105,7 +105,7 @@ fn write(core: &mut Core, pid: u32, address: u32, bytes: &[u8]) -> (usize, Tower
 {
     match pid_from(pid) {
         Some(pid) => {
-            let transfer = core.write_bytes(pid, Vaddr(address), bytes);
+            let transfer = kernel_acts::write_bytes(core, pid, Vaddr(address), bytes);
             (transfer.count, stop_from(&transfer.stop))
         }
         None => {

@@ -22,7 +22,7 @@ fn may_write(core: &Core, event: &TowerEvent, frame: u32) -> Option<bool>
     if frame >= core.frames() {
         return None;
     }
-    Some(core.may_write(&event, Frame(frame)))
+    Some(kernel_acts::may_write(core, &event, Frame(frame)))
 }
 
 /// Reports whether an event may write a frame, if it were the next one. It may write free frames, and the directory,

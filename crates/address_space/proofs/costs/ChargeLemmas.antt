@@ -145,5 +145,8 @@ module _ (directories : List (Option ℕ)) (bytes : List ℕ) (roles : List Role
   pub charged : (tables pages : ℕ) → tables ≡ set.len regions → pages ≡ map.len (entries_of (frame_bytes bytes) d) → 1 + tables + pages ≡ cost S p
   charged tables pages t n = let k = count_pages in omega (arith, t, n, k)
 
+  pub cost_fits : cost S p ≤ 1048576
+  cost_fits = grind (arith, cost_within, few)
+
   pub charge_fits : (tables pages : ℕ) → tables ≡ set.len regions → pages ≡ map.len (entries_of (frame_bytes bytes) d) → 1 + tables + pages ≤ 1048576
-  charge_fits tables pages t n = grind (arith, charged, cost_within, few)
+  charge_fits tables pages t n = grind (arith, charged, cost_fits)

@@ -3,12 +3,19 @@ use Rattle.address_space.proofs.Prelude
 use Prelude.{◌≡◌, ℕ, ◌-◌, ◌*◌, ◌<◌, ◌≤◌, true, false, List, length, refl, ap, sym, ◌∙◌, subst, Option, Some, is_some}
 use Prelude.{slice_get, slice_set, slot_number, IsUserPage, frame_bytes, Role, Page, IsInUse, get-set_same, table_of}
 use Prelude.{entry_at, IsCleared, count_range, Found, directory_of, spaces_in, IsCounted, AreCountedSpaces, EntryLeft}
-use Prelude.{TableFreed, SlotRemoved, arith}
+use Prelude.{TableFreed, SlotRemoved, arith, ◌≢◌, ◌+◌, ◌==◌, Bool, inl, inr, if◌then◌else◌, some_value, no_value}
+use Prelude.{Spaces, cost, need, without, is_slot, at_page, IsAlone, IsShared, eq-eqb, ne_eqb}
 use Rattle.address_space.specs.declared.Spaces.TheInside.{Inside as Inner}
-use Rattle.address_space.proofs.Insides.{AreCountedInside, found_at}
+use Rattle.address_space.proofs.Insides.{AreCountedInside, found_at, spaces_at}
+use Rattle.address_space.proofs.costs.Relief.{cost_left, relief_alone, relief_shared}
+use Rattle.page_map.proofs.Counting.{one_alone, another_one}
+use Rattle.page_words.proofs.SetLemmas.{same_cases}
+use Rattle.page_words.specs.FiniteMap.{nat_order}
+use Rattle.page_words.specs.FiniteMap as map
 use Rattle.address_space.proofs.steps.CountSteps.{one_less, counted_roles, alike_left, counted_freed, table_freed}
 use Rattle.address_space.proofs.steps.CountSteps.{count_there, count_positive, count_by_entries, page_uncounted}
-use Rattle.address_space.proofs.steps.FoundPages.{found_known, found_there, found_below}
+use Rattle.address_space.proofs.steps.FoundPages.{found_known, found_mapped, found_there, found_below}
+use Rattle.address_space.proofs.steps.Steps.{live_small}
 use Rattle.address_space.proofs.steps.Leaves.{slot_removed, freed_table}
 
 -- what is known of a page that was found, by the directory that was read
@@ -35,6 +42,36 @@ module _ (inner : Inner) (p d page : ℕ) (f : Found) (before : AreCountedInside
 
   pub home_counts : (n : ℕ) → slice_get inner.counts.items f.table ≡ Some n → n ≡ count_range (λ other. is_some (entry_at (frame_bytes inner.memory) d other)) (1024 * slot_number page) 1024
   home_counts n counts = count_by_entries inner.directories inner.memory inner.frames inner.counts.items p d page f.table n before.spaces.sound live user home_table before.counted counts
+
+  -- what the process's cost falls by
+  pub home_relief : (n : ℕ) → slice_get inner.counts.items f.table ≡ Some n → cost (without (spaces_at inner) (is_slot p page)) p + (if n == 1 then 2 else 1) ≡ cost (spaces_at inner) p
+  home_relief n counts =
+      let cell = some_value (map.get S (at_page p page)) (sym (found_mapped inner p page before user) ∙ ap is_some is) in
+      let gone : need (without S (is_slot p page)) p page ≡ (if n == 1 then 2 else 1) = elim (same_cases nat_order n 1) [
+        | inl one ↦ relief_alone inner.directories inner.memory p d page live (alone one.0) ∙ sym (ap (λ b. if b then 2 else 1) (eq-eqb n 1 one.0))
+        | inr more ↦ relief_shared inner.directories inner.memory p d page (live_small inner.directories p d before.spaces.sound.pids live) live (shared more.0) ∙ sym (ap (λ b. if b then 2 else 1) (ne_eqb n 1 more.0))
+      ] in
+      sym (cost_left S p page cell.0 cell.1 ∙ ap (λ k. cost (without S (is_slot p page)) p + k) gone)
+    where
+      S : Spaces
+      S = spaces_at inner
+
+      mapped : ℕ → Bool
+      mapped other = is_some (entry_at (frame_bytes inner.memory) d other)
+
+      alone : n ≡ 1 → IsAlone (frame_bytes inner.memory) d page
+      alone one i l apart =
+          no_value (entry_at (frame_bytes inner.memory) d (slot_number page * 1024 + i))
+          (one_alone mapped (1024 * slot_number page) 1024 page (slot_number page * 1024 + i) (sym (home_counts n counts) ∙ one) (omega arith) (omega arith) (ap is_some home_entry) (omega arith) (omega arith) apart)
+
+      shared : n ≢ 1 → IsShared (frame_bytes inner.memory) d page
+      shared more =
+          let r = another_one mapped (1024 * slot_number page) 1024 page (λ one. more (home_counts n counts ∙ one)) (omega arith) (omega arith) (ap is_some home_entry) in
+          let low = r.1 in
+          let high = r.2 in
+          let first = user.0 in
+          let last = user.1 in
+          record { other = r.0; low = omega arith; high = omega arith; region = omega arith; apart = r.3; mapped = r.4 }
 
   -- its frame, where it has one of its own
   pub home_in_use : f.entry.lazy ≡ false → IsInUse inner.frames f.entry.frame

@@ -1,13 +1,13 @@
 -- The places of a process's other pages, after an access through one.
 use Rattle.address_space.proofs.Prelude
-use Prelude.{◌≡◌, ◌≢◌, ◌+◌, ◌<◌, ◌≤◌, ◌^◌, ℕ, true, false, List, length, ap, sym, ◌∙◌, inl, inr, Option, Some}
+use Prelude.{◌≡◌, ◌≢◌, ◌+◌, ◌<◌, ◌≤◌, ◌^◌, ℕ, true, false, List, length, ap, sym, ◌∙◌, inl, inr, Option, Some, None, is_some}
 use Prelude.{arith, slice_get, option_map, option_and_then, slot_number, IsUserPage, frame_bytes, length-frame}
 use Prelude.{Role, PageEntry, Frames, table_of, entry_at, entry_word, with_entry, entry_word-lt, Found, Place, Slot}
 use Prelude.{at_page, write_at, Directories, directory_of, table_in, entry_in, PageFilled, EntryIs, BytesStored}
-use Prelude.{place_by, place_in, IsSound}
+use Prelude.{place_by, place_in, found_of, refl, TableGiven, IsSound}
 use Rattle.address_space.specs.declared.Spaces.TheInside.{Inside as Inner}
 use Rattle.address_space.proofs.Insides.{AreCountedInside, found_at}
-use Rattle.address_space.proofs.entries.EntrySteps.{entry_by_table, tables_kept, entry_other}
+use Rattle.address_space.proofs.entries.EntrySteps.{entry_by_table, entry_kept, tables_kept, entry_other}
 use Rattle.address_space.proofs.steps.FoundPages.{found_known, found_lies}
 use Rattle.address_space.proofs.steps.Stores.{frame_written, length-write_at, stored_place}
 
@@ -15,6 +15,11 @@ use Rattle.address_space.proofs.steps.Stores.{frame_written, length-write_at, st
 place_same : (D : Directories) (m m' : Frames) (p page : ℕ) → table_in D m' p (slot_number page) ≡ table_in D m p (slot_number page)
     → entry_in D m' (at_page p page) ≡ entry_in D m (at_page p page) → place_by m' page (table_in D m' p (slot_number page)) ≡ place_by m page (table_in D m p (slot_number page))
 place_same D m m' p page tables entries = grind (arith, entry_by_table)
+
+-- the region of a mapped page has a table
+linked_found : (m : Frames) (page : ℕ) (x : Option ℕ) → is_some (found_of (place_by m page x)) ≡ true → (t : ℕ) × (x ≡ Some t)
+linked_found m page None h = absurd (let k = h in cc)
+linked_found m page (Some t) h = (t, refl)
 
 -- where an entry is written at another page
 entry_beside : (directories : List (Option ℕ)) (one two : List ℕ) (roles : List Role) (p d page : ℕ) (f : Found) (e : PageEntry) → IsSound directories one roles → directory_of directories p ≡ Some d
@@ -65,8 +70,30 @@ pub filled_beside : {directories : List (Option ℕ)} {bytes bytes' : List ℕ} 
 filled_beside {directories} {bytes} {bytes'} {roles} {roles'} filled q other differ =
     place_same (directory_of directories) (frame_bytes bytes) (frame_bytes bytes') q other (filled.tables q (slot_number other)) (filled.others (at_page q other) differ)
 
--- ---- The second page of an access
+-- and of each mapped one, after a page more was mapped
+pub added_beside : {directories : List (Option ℕ)} {bytes one : List ℕ} {roles roles1 : List Role} {p d page t : ℕ} (two : List ℕ) (e : PageEntry) → TableGiven directories p (slot_number page) bytes roles one roles1
+    → directory_of directories p ≡ Some d → table_of (frame_bytes one) d (slot_number page) ≡ Some t → e.frame < 2 ^ 20 → frame_bytes two ≡ with_entry (frame_bytes one) t page e
+    → (q other : ℕ) → at_page q other ≢ at_page p page → is_some (found_of (place_in directories bytes q other)) ≡ true → place_in directories two q other ≡ place_in directories bytes q other
+added_beside {directories} {bytes} {one} {roles} {roles1} {p} {d} {page} {t} two e given live there small is q other differ mapped =
+    let D : Directories = directory_of directories in
+    let m : Frames = frame_bytes one in
+    let T = given.sound.tables in
+    let lt = entry_word-lt e small in
+    let table = linked_found (frame_bytes bytes) other (table_in D (frame_bytes bytes) q (slot_number other)) mapped in
+    let same = given.tables q (slot_number other) table.0 table.1 ∙ sym table.1 in
+    place_same D (frame_bytes bytes) (frame_bytes two) q other
+    (ap (λ n. table_in D n q (slot_number other)) is ∙ tables_kept D m (slice_get roles1) T p d page t (entry_word e) live there lt q (slot_number other) ∙ same)
+    (ap (λ n. entry_in D n (at_page q other)) is ∙ entry_other D m (slice_get roles1) T p d page t (entry_word e) live there lt (at_page q other) differ
+    ∙ entry_kept D D (frame_bytes bytes) m (at_page q other) same (given.kept q (slot_number other)))
 
-pub second_there : (directories : List (Option ℕ)) (bytes : List ℕ) (p page : ℕ) (x : Option ℕ) (y : Option Place) (place : Place) → y ≡ option_map (place_in directories bytes p) x → x ≡ Some page → y ≡ Some place
-    → place ≡ place_in directories bytes p page
-second_there directories bytes p page x y place at is found = grind arith
+-- ---- The second page of an access, by its place
+
+module _ (directories : List (Option ℕ)) (bytes : List ℕ) (p : ℕ) (x : Option ℕ) (y : Option Place) (at : y ≡ option_map (place_in directories bytes p) x) where
+  pub second_none : y ≡ None → x ≡ None
+  second_none none = grind (arith, at, none)
+
+  pub second_there : (page : ℕ) (place : Place) → x ≡ Some page → y ≡ Some place → place ≡ place_in directories bytes p page
+  second_there page place is found = grind (arith, at, is, found)
+
+  pub second_is : (place : Place) → y ≡ Some place → is_some x ≡ true
+  second_is place found = grind (arith, at, found)

@@ -5,12 +5,12 @@ use Prelude.{Option, Some, None, ◌≢◌, true, length-set, is_some, slice_get
 use Prelude.{IsUserPage, frame_number, frame_bytes, Role, Page, free_frames, IsPageBelow, frames_weight, PageEntry}
 use Prelude.{Frames, dir_word, table_of, entry_at, with_entry, Slot, at_page, fresh, cell_or_fresh, copy_of, joined}
 use Prelude.{directory_of, table_in, entries_in, spaces_in, Roles, IsSound, IsSpaces, Names, Inside, Tables, IsCounted}
-use Prelude.{AreCountedSpaces, KeepsCounts, AlwaysMapsAlike, MapsOneMore, region_pages, pages_under, table_need}
+use Prelude.{AreCountedSpaces, KeepsCounts, AlwaysMapsAlike, MapsOneMore, region_pages, pages_under}
 use Prelude.{TableGiven, SlotAdded, PageAdded, SlotJoined, SlotCopied, PageCopied, weight-set, Entries, spaces_of}
-use Prelude.{some_value, ne_eqb, TableReady, CountedUp, EntryCopied}
-use Rattle.address_space.proofs.costs.Costed.{Room, room_for_table, room_for_page, mapped}
+use Prelude.{some_value, ne_eqb, TableGot, TableReady, TakesPage, CountedUp, EntryCopied}
+use Rattle.address_space.proofs.costs.Costed.{Room, room_for_page, mapped}
 use Rattle.address_space.proofs.steps.CountSteps.{counted_roles, table_counted, table_count, count_there, count_fits}
-use Rattle.address_space.proofs.steps.CountSteps.{page_counted, one_inserted, alike_taken}
+use Rattle.address_space.proofs.steps.CountSteps.{page_counted, region_more, one_inserted, alike_taken}
 use Rattle.address_space.proofs.steps.Steps.{page_map_of, inside, table_by_word, table_given, table_given_there}
 use Rattle.address_space.proofs.steps.Steps.{lazy_entry, page_added, page_loose, none_before, role_own, role_other}
 use Rattle.address_space.proofs.steps.Steps.{entry_added}
@@ -108,9 +108,6 @@ module _ (directories : List (Option ℕ)) (bytes : List ℕ) (roles : List Role
         there = ap (λ x. option_and_then (λ y. table_of (frame_bytes one) y (slot_number page)) x) (sym live) ∙ table_given_there directories bytes one roles roles1 p d (slot_number page) t before.sound live low high n.none n.taken n.linked;
         counted = table_counted directories bytes one roles roles1 p d (slot_number page) t before.sound live low high n.none n.taken given.spaces;
       }
-
-  pub table_room : Room directories (spaces_in directories bytes) roles p page → table_need (table_of (frame_bytes bytes) d (slot_number page)) ≤ free_frames roles
-  table_room room = subst (λ x. table_need x ≤ free_frames roles) (ap (option_and_then (λ y. table_of (frame_bytes bytes) y (slot_number page))) live) (room_for_table directories bytes roles p page before room)
 
   module _ (linked : TableReady bytes roles p d (slot_number page) t one roles1) where
     pub ready_given : TableGiven directories p (slot_number page) bytes roles one roles1
@@ -211,8 +208,8 @@ module _ (directories : List (Option ℕ)) (bytes : List ℕ) (roles : List Role
           one_inserted S (spaces_in directories two) slot (copy_of slot (cell_or_fresh S (at_page from page))) (ready_unmapped none) (λ q. ap (λ x. map.contains_key x q) added.spaces)
 
       -- the table that was given leads to the copy
-      pub copy_linked : SlotCopied directories from p page one roles1 two roles2 → table_of (frame_bytes two) d (slot_number page) ≡ Some t
-      copy_linked added = grind (arith, ready_table)
+      pub copy_linked : SlotCopied directories from p page one roles1 two roles2 → table_in (directory_of directories) (frame_bytes two) p (slot_number page) ≡ Some t
+      copy_linked added = added.linked p (slot_number page) ∙ ap (option_and_then (λ x. table_of (frame_bytes one) x (slot_number page))) live ∙ ready_table
 
       pub copy_whole : Room directories (spaces_in directories bytes) roles p page → SlotCopied directories from p page one roles1 two roles2 → PageCopied directories from p page bytes roles two roles2
       copy_whole room added = page_copied directories bytes one two roles roles1 roles2 from source p page before home user.0 user.1 room ready_given added
@@ -227,6 +224,18 @@ module _ (directories : List (Option ℕ)) (bytes : List ℕ) (roles : List Role
       pub ready_fits : (n : ℕ) → slice_get counts t ≡ Some n → n ≤ 1024
       ready_fits n is = count_fits directories one roles1 counts p d page t n ready_given.sound live user ready_table counted1 is
 
+      -- how many pages each table maps once the page has its entry
+      pub added_counted : (two : List ℕ) (roles2 : List Role) → MapsOneMore (spaces_in directories one) (at_page p page) (spaces_in directories two) → AlwaysMapsAlike roles1 roles2
+          → IsCounted (spaces_in directories two) roles2 (slice_set counts t (region_pages (spaces_in directories two) p (slot_number page)))
+      added_counted two roles2 more alike =
+          let S = spaces_in directories one in
+          let n = region_pages S p (slot_number page) in
+          let named = ap (option_and_then (λ x. table_of (frame_bytes one) x (slot_number page))) live ∙ ready_table in
+          let is = table_count S S directories one roles1 counts p (slot_number page) t n ready_given.sound named counted1 in
+          let right = page_counted directories one roles1 counts p d page t n ready_given.sound live user ready_table counted1 is (spaces_in directories two) more in
+          counted_roles (spaces_in directories two) roles1 roles2 (slice_set counts t (region_pages (spaces_in directories two) p (slot_number page))) (alike (spaces_in directories two))
+          (subst (λ k. IsCounted (spaces_in directories two) roles1 (slice_set counts t k)) (sym (region_more S (spaces_in directories two) p page more)) right)
+
       -- the type's invariant once the page has its entry, and is counted
       pub added_kept : (two counts2 : List ℕ) (roles2 : List Role) → Room directories (spaces_in directories bytes) roles p page → SlotAdded directories p page one roles1 two roles2
           → MapsOneMore (spaces_in directories one) (at_page p page) (spaces_in directories two) → AlwaysMapsAlike roles1 roles2 → CountedUp counts t counts2 → AreCountedSpaces directories two roles2 counts2
@@ -237,6 +246,43 @@ module _ (directories : List (Option ℕ)) (bytes : List ℕ) (roles : List Role
           let is = table_count S S directories one roles1 counts p (slot_number page) t n ready_given.sound named counted1 in
           record {
             spaces = mapped directories bytes one two roles roles1 roles2 p page before room ready_given added;
-            counted = counted_roles (spaces_in directories two) roles1 roles2 counts2 (alike (spaces_in directories two))
-                (subst (IsCounted (spaces_in directories two) roles1) (sym (up n is)) (page_counted directories one roles1 counts p d page t n ready_given.sound live user ready_table counted1 is (spaces_in directories two) more));
+            counted = subst (IsCounted (spaces_in directories two) roles2) (sym (up n is ∙ ap (slice_set counts t) (sym (region_more S (spaces_in directories two) p page more)))) (added_counted two roles2 more alike);
           }
+
+-- ---- The copy of a page, in its region's table
+
+pub record CopyMade (D : List (Option ℕ)) (from p page t : ℕ) (bytes : List ℕ) (roles : List Role) (two : List ℕ) (roles2 : List Role) : Type 0 where
+  pub whole : PageCopied D from p page bytes roles two roles2
+  pub table : table_in (directory_of D) (frame_bytes two) p (slot_number page) ≡ Some t
+  pub counted : (counts : List ℕ) → IsCounted (spaces_in D bytes) roles counts → IsCounted (spaces_in D two) roles2 (slice_set counts t (region_pages (spaces_in D two) p (slot_number page)))
+
+module _ (D : List (Option ℕ)) (bytes : List ℕ) (roles : List Role) (p page t : ℕ) (one : List ℕ) (roles1 : List Role) (takes : TakesPage D bytes roles p page) (got : TableGot D bytes roles p page t one roles1) where
+  pub got_sound : IsSound D one roles1
+  got_sound = (ready_given D bytes roles p got.0 page t one roles1 takes.spaces takes.user got.1 got.2).sound
+
+  pub got_inside : (one2 : List ℕ) → length one2 ≡ length one → 4096 * t + 4096 ≤ length one2
+  got_inside one2 long = subst (λ n. 4096 * t + 4096 ≤ n) (sym long) (ready_inside D bytes roles p got.0 page t one roles1 takes.spaces takes.user got.1 got.2)
+
+  pub got_lies : (f : ℕ) → Inside bytes f → Inside one f
+  got_lies = ready_lies D bytes roles p got.0 page t one roles1 takes.spaces takes.user got.1 got.2
+
+  pub got_free : 0 < free_frames roles1
+  got_free = ready_free D bytes roles p got.0 page t one roles1 takes.spaces takes.user got.1 got.2 takes.room
+
+  pub copy_made : (from source : ℕ) (e e' : PageEntry) (one2 two : List ℕ) (roles2 : List Role) → directory_of D from ≡ Some source → entry_at (frame_bytes bytes) source page ≡ Some e
+      → map.get (spaces_in D bytes) (at_page p page) ≡ None → EntryCopied one roles1 e e' one2 roles2 → frame_bytes two ≡ with_entry (frame_bytes one2) t page e' → length two ≡ length one2
+      → CopyMade D from p page t bytes roles two roles2
+  copy_made from source e e' one2 two roles2 home here none made is long =
+      let added = copy_added D bytes roles p got.0 page t one roles1 takes.spaces takes.user got.1
+      got.2 from source e e' one2 two roles2 home here none made is long in
+      record {
+        whole = copy_whole D bytes roles p got.0 page t one roles1 takes.spaces takes.user got.1
+            got.2 from source e e' one2 two roles2 home here none made takes.room added;
+        table = copy_linked D bytes roles p got.0 page t one roles1 takes.spaces takes.user got.1
+            got.2 from source e e' one2 two roles2 home here none made added;
+        counted = λ counts right. added_counted D bytes roles p got.0 page t one roles1 takes.spaces takes.user got.1 got.2 counts right two roles2
+            (copy_more D bytes roles p got.0 page t one roles1 takes.spaces takes.user got.1
+            got.2 from source e e' one2 two roles2 home here none made added)
+            (copy_alike D bytes roles p got.0 page t one roles1 takes.spaces takes.user got.1
+            got.2 from source e e' one2 two roles2 home here none made);
+      }

@@ -1,13 +1,13 @@
 -- What the place of a page says.
 use Rattle.address_space.proofs.Prelude
-use Prelude.{arith, ◌≡◌, ℕ, List, refl, ap, sym, ◌∙◌, Option, Some, None, subst, true, is_some, option_and_then}
-use Prelude.{option_map, slot_number, IsUserPage, frame_bytes, Frames, table_of}
-use Prelude.{Found, takes_stores_through, need, at_page, directory_of, View, place_there, place_by}
-use Prelude.{place_in, found_of, table_of_place, need_of, PlacesTell, entry_flags, cell_flags, Place}
+use Prelude.{arith, ◌≡◌, ℕ, List, refl, ap, sym, ◌∙◌, Option, Some, None, is_some, option_and_then}
+use Prelude.{option_map, slot_number, IsUserPage, frame_bytes, Frames}
+use Prelude.{Found, takes_stores_through, need, at_page, directory_of, place_there, place_by, table_in}
+use Prelude.{place_in, found_of, table_of_place, need_of, PlacesTell, entry_flags, cell_flags}
 use Prelude.{found_in, entry_found}
 use Rattle.address_space.specs.declared.Spaces.TheInside.{Inside as Inner}
 use Rattle.address_space.specs.declared.place.Place.TheVariants.{Mapped}
-use Rattle.address_space.proofs.Insides.{AreCountedInside, spaces_at, image_at, table_at, found_at, view_of}
+use Rattle.address_space.proofs.Insides.{AreCountedInside, spaces_at, image_at, table_at, found_at}
 use Rattle.address_space.proofs.steps.FoundPages.{absent_cell, need_without, need_with, found_mapped, found_takes}
 use Rattle.address_space.proofs.steps.FoundPages.{found_lazy, found_get}
 use Rattle.page_words.specs.FiniteMap as map
@@ -42,25 +42,10 @@ places_tell inner before = record {
   need = λ p page user. place_need inner p page before user;
 }
 
--- the table of a place is that which the directory has
-pub place_table : (directories : List (Option ℕ)) (bytes : List ℕ) (p d page : ℕ) → directory_of directories p ≡ Some d
-    → table_of_place (place_in directories bytes p page) ≡ table_of (frame_bytes bytes) d (slot_number page)
-place_table directories bytes p d page live = grind arith
+-- the table of a place is that of its region
+pub place_table : (directories : List (Option ℕ)) (bytes : List ℕ) (p page : ℕ) → table_of_place (place_in directories bytes p page) ≡ table_in (directory_of directories) (frame_bytes bytes) p (slot_number page)
+place_table directories bytes p page = grind arith
 
 -- what is found at a page is its place
 pub place_mapped : (directories : List (Option ℕ)) (bytes : List ℕ) (p page : ℕ) (f : Found) → found_in (directory_of directories) (frame_bytes bytes) p page ≡ Some f → place_in directories bytes p page ≡ Mapped f
 place_mapped directories bytes p page f h = grind arith
-
-found_there : (q : Place) (f : Found) → found_of q ≡ Some f → Mapped f ≡ q
-found_there q f is = grind arith
-
--- a page that was found is mapped, and this is its place
-pub found_placed : (v : View) (inner : Inner) (p page : ℕ) (f : Found) → AreCountedInside inner → view_of inner ≡ v → IsUserPage page
-    → found_in (directory_of v.directories) (frame_bytes v.bytes) p page ≡ Some f
-    → (is_some (map.get v.spaces (at_page p page)) ≡ true) × (Mapped f ≡ place_in v.directories v.bytes p page)
-found_placed v inner p page f counted is user found =
-    subst (λ (w : View). (is_some (map.get w.spaces (at_page p page)) ≡ true) × (Mapped f ≡ place_in w.directories w.bytes p page)) is
-    (sym (found_mapped inner p page counted user) ∙ ap is_some here, found_there (place_in inner.directories inner.memory p page) f (place_found inner p page ∙ here))
-  where
-    here : found_at inner p page ≡ Some f
-    here = subst (λ (w : View). found_in (directory_of w.directories) (frame_bytes w.bytes) p page ≡ Some f) (sym is) found

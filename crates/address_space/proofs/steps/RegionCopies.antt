@@ -1,12 +1,13 @@
 -- A copy of a process's pages goes from region to region, and through each by its table.
 use Rattle.address_space.proofs.Prelude
 use Prelude.{◌≡◌, ℕ, suc, ◌+◌, ◌-◌, ◌*◌, ◌<◌, ◌≤◌, Bool, true, false, List, length, refl, ap, sym, ◌∙◌, subst, arith}
-use Prelude.{Option, Some, None, is_some, slice_get, IfSome, if◌then◌else◌, option_and_then, slot_number, index_number}
-use Prelude.{IsUserPage, is_present, frame_bytes, word_in, Role, PageEntry, Frames, table_of, entry_at, entry_from}
+use Prelude.{Option, Some, None, is_some, slice_get, slice_set, IfSome, if◌then◌else◌, option_and_then, slot_number, index_number}
+use Prelude.{IsUserPage, is_present, frame_bytes, word_in, Role, PageEntry, Frames, table_of, entry_at, entry_from, entry_word}
 use Prelude.{word_entry, counted, count_range, count_range-none, count_range-same, Slot, cost, at_page, cell_or_fresh}
-use Prelude.{copy_of, directory_of, spaces_in, total_cost, IsSound, IsSpaces, IsCounted, IsEmptySpace, PageCopied}
+use Prelude.{copy_of, directory_of, spaces_in, table_in, total_cost, IsSound, IsSpaces, IsCounted, IsEmptySpace, PageCopied}
 use Prelude.{CopiedBelow, CopyIn, PagesCopied, words_left, ◌⊎◌, inl, inr, cases_lt, Cell, Spaces, Set, nat_order}
-use Prelude.{option_map, cost_of, need, pages_of, regions_of, without, is_slot}
+use Prelude.{option_map, cost_of, need, pages_of, regions_of, without, is_slot, region_pages, length-set, slice_get_within, Inside, TakesPage}
+use Rattle.std.proofs.Common.{set-set}
 use Rattle.page_map.proofs.PageLemmas.{count_range-add, count-table, mapped_in_table}
 use Rattle.page_map.specs.declared.regions.Listed.{Listed}
 use Rattle.page_map.proofs.Counting.{count_none}
@@ -16,10 +17,11 @@ use Rattle.address_space.proofs.costs.CostSteps.{need-least, need-one, need-two,
 use Rattle.address_space.proofs.costs.Relief.{cost_left, page_left}
 use Rattle.address_space.proofs.costs.Sizes.{len-subset}
 use Rattle.address_space.proofs.entries.Readings.{mapped_read}
-use Rattle.address_space.proofs.steps.Openings.{cost_within}
-use Rattle.address_space.proofs.steps.Steps.{live_small}
-use Rattle.address_space.proofs.steps.CountSteps.{count_there, count_by_entries}
+use Rattle.address_space.proofs.steps.Steps.{live_small, page_map_of}
+use Rattle.address_space.proofs.steps.CountSteps.{count_there, count_by_entries, one_inserted, region_more, table_count}
 use Rattle.address_space.proofs.steps.Copies.{copied_over, copied_past, copied_next, copied_at_last, room_for_copy, put_other}
+use Rattle.address_space.proofs.steps.Stores.{entry_rules, named_inside}
+use Rattle.address_space.proofs.steps.WalkSteps.{word_of_entry}
 use Rattle.page_words.specs.FiniteMap as map
 use Rattle.page_words.specs.FiniteSet as set
 
@@ -38,6 +40,13 @@ no_word w h = grind arith
 pub none_left : (bytes : List ℕ) (table index : ℕ) → words_left bytes table index ≡ 0 → (i : ℕ) → index ≤ i → i < 1024 → word_entry (word_in (frame_bytes bytes table) i) ≡ None
 none_left bytes table index none i low high =
     word_absent (word_in (frame_bytes bytes table) i) (count_none (λ k. is_present (word_in (frame_bytes bytes table) k)) index (1024 - index) i none low (omega (arith, low, high)))
+
+-- where no word has an entry, none is left
+pub none_listed : {bytes memory : List ℕ} (table index : ℕ) → memory ≡ bytes → ((i : ℕ) → index ≤ i → i < 1024 → word_entry (word_in (frame_bytes memory table) i) ≡ None) → words_left bytes table index ≡ 0
+none_listed {bytes} {memory} table index same none =
+    sym (ap (λ b. words_left b table index) same)
+    ∙ count_range-none (λ i. is_present (word_in (frame_bytes memory table) i)) index (1024 - index)
+    (λ i l. no_word (word_in (frame_bytes memory table) (index + i)) (none (index + i) (omega arith) (omega (arith, l))))
 
 -- behind the first word with an entry one less is left
 pub one_left : (bytes : List ℕ) (table index found : ℕ) (e : PageEntry) → index ≤ found → found < 1024 → ((i : ℕ) → index ≤ i → i < found → word_entry (word_in (frame_bytes bytes table) i) ≡ None)
@@ -99,13 +108,26 @@ module _ {directories : List (Option ℕ)} {bytes : List ℕ} {roles : List Role
       ∙ ap (λ s. count_range (λ other. is_some (entry_at (frame_bytes bytes) d other)) (1024 * s) 1024) (first_slot slot)
       ∙ sym (count-table (frame_bytes bytes) d slot table there)
 
+-- the counts once a table, where one is given, counts so many
+abbrev pub count_made : List ℕ → Option ℕ → ℕ → List ℕ
+count_made counts None k = counts
+count_made counts (Some t) k = slice_set counts t k
+
+pub count_step : (counts : List ℕ) (linked : Option ℕ) (t k n : ℕ) → ((u : ℕ) → linked ≡ Some u → u ≡ t) → slice_set (count_made counts linked k) t n ≡ count_made counts (Some t) n
+count_step counts None t k n same = refl
+count_step counts (Some u) t k n same = ap (λ i. slice_set (slice_set counts i k) t n) (same u refl) ∙ set-set counts t k n
+
+pub none_made : (x : Option ℕ) → ((t : ℕ) → x ≡ Some t → ⊥) → x ≡ None
+none_made None none = refl
+none_made (Some t) none = absurd (none t refl)
+
 -- a process without a page in a region has no table there
 pub no_table_there : {directories : List (Option ℕ)} {bytes : List ℕ} {roles : List Role} {d slot : ℕ} (p : ℕ) → IsSpaces directories bytes roles → directory_of directories p ≡ Some d → 256 ≤ slot → slot < 960
-    → ((i : ℕ) → i < 1024 → map.get (spaces_in directories bytes) (at_page p (1024 * slot + i)) ≡ None) → table_of (frame_bytes bytes) d slot ≡ None
+    → ((i : ℕ) → i < 1024 → map.get (spaces_in directories bytes) (at_page p (1024 * slot + i)) ≡ None) → table_in (directory_of directories) (frame_bytes bytes) p slot ≡ None
 no_table_there {directories} {bytes} {roles} {d} {slot} p spaces live low high bare = by (table_of (frame_bytes bytes) d slot) refl
   where
-    by : (x : Option ℕ) → table_of (frame_bytes bytes) d slot ≡ x → table_of (frame_bytes bytes) d slot ≡ None
-    by None is = is
+    by : (x : Option ℕ) → table_of (frame_bytes bytes) d slot ≡ x → table_in (directory_of directories) (frame_bytes bytes) p slot ≡ None
+    by None is = ap (option_and_then (λ d. table_of (frame_bytes bytes) d slot)) live ∙ is
     by (Some t) is =
         let used = spaces.in_use p slot t (ap (option_and_then (λ d. table_of (frame_bytes bytes) d slot)) live ∙ is) in
         let mapped = sym used.2 ∙ present_mapped directories bytes p d slot t used.0 spaces.sound.pids live used.1 low high is ∙ ap is_some (bare used.0 used.1) in
@@ -129,6 +151,25 @@ module _ {directories : List (Option ℕ)} {bytes one : List ℕ} {roles roles1 
             (λ page low high. no_entry_there (frame_bytes one) source page (least (slot_number page) (omega (arith, low)) (omega (arith, high)))));
         there = there;
       }
+
+  -- no page of the region is mapped
+  pub none_mapped : CopyIn directories from source to slot table 0 bytes roles one roles1 → region_pages (spaces_in directories one) to slot ≡ 0
+  none_mapped begun = count_range-none (λ page. map.contains_key (spaces_in directories one) (at_page to page)) (1024 * slot) 1024 (λ i few. ap is_some (begun.so_far.rest (1024 * slot + i) (omega arith)))
+
+  -- a table of the region that is counted is one of those that are
+  pub made_inside : {index : ℕ} (counts : List ℕ) (t k : ℕ) → CopyIn directories from source to slot table index bytes roles one roles1 → Some t ≡ table_in (directory_of directories) (frame_bytes one) to slot
+      → IsCounted (spaces_in directories one) roles1 (slice_set counts t k) → t < length counts
+  made_inside counts t k copy there right =
+      let S = spaces_in directories one in
+      let is = table_count S S directories one roles1 (slice_set counts t k) to slot t k copy.so_far.after.sound (sym there) right in
+      let within = slice_get_within (slice_set counts t k) t (region_pages S to slot) is in
+      omega (arith, within, length-set counts t k)
+
+  -- whose table lies in memory
+  pub copy_inside : {index : ℕ} {memory : List ℕ} → CopyIn directories from source to slot table index bytes roles one roles1 → memory ≡ one → slot < 960 → 4096 * table + 4096 ≤ length memory
+  copy_inside copy same few =
+      subst (λ b. 4096 * table + 4096 ≤ length b) (sym same)
+      ((page_map_of directories one roles1 from source copy.so_far.after.sound copy.home).tables_inside slot table (omega (arith, few)) copy.there)
 
   -- and through it over the words without an entry
   pub copy_passed : {index : ℕ} (beyond : ℕ) {memory : List ℕ} → CopyIn directories from source to slot table index bytes roles one roles1 → memory ≡ one → index ≤ beyond → beyond ≤ 1024 → slot < 960
@@ -156,6 +197,16 @@ module _ {directories : List (Option ℕ)} {bytes one : List ℕ} {roles roles1 
     pub copy_user : IsUserPage (1024 * slot + index)
     copy_user = (copy.so_far.low, omega (arith, inside, few))
 
+    -- the word is that of the entry, as the kernel writes it
+    pub copy_word : word_in (frame_bytes memory table) index ≡ entry_word e
+    copy_word =
+        let sound = copy.so_far.after.sound in
+        let kernel = sound.tables.table_words from slot table index (ap (option_and_then (λ d. table_of (frame_bytes one) d slot)) copy.home ∙ copy.there) inside in
+        let small = (named_inside directories one roles1 from source (1024 * slot + index) e sound copy.home copy_user.0 copy_user.1 copy_entry).small in
+        let rules = entry_rules directories one roles1 from source (1024 * slot + index) e sound copy.home copy_entry in
+        let same_word = ap (λ b. word_in (frame_bytes b table) index) same in
+        same_word ∙ word_of_entry (word_in (frame_bytes one table) index) e kernel (ap word_entry (sym same_word) ∙ is) small rules
+
     pub copy_unmapped : map.get (spaces_in directories one) (at_page to (1024 * slot + index)) ≡ None
     copy_unmapped = copy.so_far.rest (1024 * slot + index) (omega arith)
 
@@ -163,21 +214,24 @@ module _ {directories : List (Option ℕ)} {bytes one : List ℕ} {roles roles1 
     copy_room {target} live =
         room_for_copy directories bytes one roles roles1 from source to target (1024 * slot + index) copy.so_far copy.home live copy_user (ap is_some copy_entry) copy.before copy.empty copy.room
 
+    pub copy_takes : {target : ℕ} → directory_of directories to ≡ Some target → TakesPage directories one roles1 to (1024 * slot + index)
+    copy_takes live = record { user = copy_user; live = ap is_some live; spaces = copy.so_far.after; room = copy_room live }
+
+    -- and its frame lies in memory
+    pub copy_lies : Inside one e.frame
+    copy_lies = named_inside directories one roles1 from source (1024 * slot + index) e copy.so_far.after.sound copy.home copy_user.0 copy_user.1 copy_entry
+
     -- what the copy of the page costs: its table, where its region has none yet, and its frame
     pub copy_need : {target : ℕ} (linked : Option ℕ) → directory_of directories to ≡ Some target
-        → linked ≡ table_of (frame_bytes one) target (slot_number (1024 * slot + index))
+        → linked ≡ table_in (directory_of directories) (frame_bytes one) to (slot_number (1024 * slot + index))
         → need (spaces_in directories one) to (1024 * slot + index) ≡ (if is_some linked then 1 else 2)
     unfolding spaces_in
     copy_need {target} None live is = grind (arith, need-two)
     copy_need {target} (Some t) live is =
         let few = live_small directories to target copy.so_far.after.sound.pids live in
         need-one (directory_of directories) (frame_bytes one) to (1024 * slot + index) t few copy_user.0 copy_user.1
-        (ap (option_and_then (λ d. table_of (frame_bytes one) d (slot_number (1024 * slot + index)))) live ∙ sym is)
+        (sym is)
         (copy.so_far.after.in_use to (slot_number (1024 * slot + index)))
-
-    pub copy_fits : {target : ℕ} → directory_of directories to ≡ Some target
-        → cost (spaces_in directories one) to + need (spaces_in directories one) to (1024 * slot + index) ≤ 1048576
-    copy_fits {target} live = grind (arith, copy_room, cost_within)
 
     pub copy_cost : {two : List ℕ} {roles2 : List Role} → PageCopied directories from to (1024 * slot + index) one roles1 two roles2
         → cost (spaces_in directories two) to ≡ cost (spaces_in directories one) to + need (spaces_in directories one) to (1024 * slot + index)
@@ -200,6 +254,16 @@ module _ {directories : List (Option ℕ)} {bytes one : List ℕ} {roles roles1 
           there = sym (ap (option_and_then (λ d. table_of (frame_bytes two) d slot)) copy.home)
               ∙ made.tables from slot table (ap (option_and_then (λ d. table_of (frame_bytes one) d slot)) copy.home ∙ copy.there);
         }
+
+    -- one page more of the region is mapped
+    pub copy_mapped : {two : List ℕ} {roles2 : List Role} → PageCopied directories from to (1024 * slot + index) one roles1 two roles2
+        → region_pages (spaces_in directories two) to slot ≡ region_pages (spaces_in directories one) to slot + 1
+    copy_mapped {two} made =
+        let there : slot_number (1024 * slot + index) ≡ slot = omega (arith, inside) in
+        let S = spaces_in directories one in
+        let page : Slot = at_page to (1024 * slot + index) in
+        let more = one_inserted S (spaces_in directories two) page (copy_of page (cell_or_fresh S (at_page from (1024 * slot + index)))) copy_unmapped (λ q. ap (λ x. map.contains_key x q) made.spaces) in
+        ap (region_pages (spaces_in directories two) to) (sym there) ∙ region_more S (spaces_in directories two) to (1024 * slot + index) more ∙ ap (λ s. region_pages S to s + 1) there
 
     -- the words that are left stay as they are
     pub words_kept : {two : List ℕ} {roles2 : List Role} → PageCopied directories from to (1024 * slot + index) one roles1 two roles2 → CopyIn directories from source to slot table (index + 1) bytes roles two roles2

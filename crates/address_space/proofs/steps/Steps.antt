@@ -89,6 +89,7 @@ table_given directories bytes bytes' roles roles' p d s t sound live low high no
           ∙ linked-others D m R T p d s t live none free small low high q r
           (λ a b. let k : None ≡ Some g = sym ((λ i. table_in D m (a i) (b i))
           ∙ ap (option_and_then (λ x. table_of m x s)) live ∙ none) ∙ found in cc) ∙ found;
+      kept = λ q r g found. (λ i. is i g) ∙ kept_table D m R T p d s t live none free small low high q r g found;
       weight = grind (arith, weight-taken);
       length = same_length;
       others = λ q r n use_at f found.

@@ -152,6 +152,13 @@ touched_then directories S1 S2 bytes half two roles a b = record {
       (frame_bytes half) (directory_of directories) (frame_bytes two) a.stay b.stay;
 }
 
+-- words of pages with equal entries are equal
+same_words : (v w : ℕ) → NamesPage v → NamesPage w → entry_from v ≡ entry_from w → v ≡ w
+same_words v w own new same =
+    table_words_by_fields v w (inr own) (inr new)
+    (ap (λ (x : PageEntry). x.frame) same) (own.present ∙ sym new.present) (ap (λ (x : PageEntry). x.write) same) (ap (λ (x : PageEntry). x.lazy) same)
+    (ap (λ (x : PageEntry). x.accessed) same) (ap (λ (x : PageEntry). x.dirty) same) (ap (λ (x : PageEntry). x.may) same)
+
 -- a marked word is that of the entry with its flags set
 touched_is_entry : (access : Access) (w : ℕ) (e : PageEntry) → NamesPage w → entry_from w ≡ e → e.frame < 2 ^ 20 → (access ≡ Write → lets_writes e ≡ true) → IsKernelEntry (touched_entry access e) → entry_word (touched_entry access e) ≡ touched_word access w
 touched_is_entry access w e n from small right rules =
@@ -159,9 +166,7 @@ touched_is_entry access w e n from small right rules =
     let own : NamesPage (entry_word (touched_entry access e)) = entry_word-names (touched_entry access e) small rules in
     let same : entry_from (entry_word (touched_entry access e)) ≡ entry_from (touched_word access w) =
     entry_from-entry_word (touched_entry access e) small ∙ ap (touched_entry access) (sym from) ∙ sym (entry_from-touched access w) in
-    table_words_by_fields (entry_word (touched_entry access e)) (touched_word access w) (inr own) (inr new)
-    (ap (λ (x : PageEntry). x.frame) same) (own.present ∙ sym new.present) (ap (λ (x : PageEntry). x.write) same) (ap (λ (x : PageEntry). x.lazy) same)
-    (ap (λ (x : PageEntry). x.accessed) same) (ap (λ (x : PageEntry). x.dirty) same) (ap (λ (x : PageEntry). x.may) same)
+    same_words (entry_word (touched_entry access e)) (touched_word access w) own new same
 
 -- a mark is a change of accessed in the directory word, and one of the page's entry
 pub record MarkParts (directories : List (Option ℕ)) (bytes : List ℕ) (roles : List Role) (p d address : ℕ) (access : Access) (e : PageEntry) : Type 0 where
@@ -179,6 +184,12 @@ pub record EntryWord (w : ℕ) (e : PageEntry) : Type 0 where
 
 entry_of_word : (w : ℕ) (e : PageEntry) → IsKernelTableWord w → word_entry w ≡ Some e → EntryWord w e
 entry_of_word w e k h = grind (arith, none_some)
+
+-- and it is the word of that entry
+pub word_of_entry : (w : ℕ) (e : PageEntry) → IsKernelTableWord w → word_entry w ≡ Some e → e.frame < 2 ^ 20 → IsKernelEntry e → w ≡ entry_word e
+word_of_entry w e k h small rules =
+    let held = entry_of_word w e k h in
+    same_words w (entry_word e) held.names (entry_word-names e small rules) (held.from ∙ sym (entry_from-entry_word e small))
 
 not_lazy : (e : PageEntry) → lets_writes e ≡ true → e.lazy ≡ false
 not_lazy e h = grind arith

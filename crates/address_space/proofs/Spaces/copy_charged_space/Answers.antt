@@ -1,4 +1,4 @@
-use Rattle.address_space.proofs.Prelude.{◌≡◌, ◌<◌, ◌≤◌, ◌∙◌, ℕ, List, Option, Some, None, ap, sym, subst, refl}
+use Rattle.address_space.proofs.Prelude.{◌≡◌, ◌<◌, ◌≤◌, ◌∙◌, ℕ, List, Option, Some, None, true, is_some, ap, sym, subst, refl}
 use Rattle.address_space.proofs.Prelude.{frame_bytes, table_of, is_lazy_entry, IsPageMap, at_page, none_goes}
 use Rattle.address_space.proofs.Prelude.{cost, ◌⊎◌, FramesStay, View, directory_of, entry_in, spaces_in, IsSound, image_from}
 use Rattle.address_space.specs.Changes.{IsCopying, CopyIn}
@@ -34,10 +34,10 @@ copy_region-made-requires-clause-copying c =
     subst (λ (l : List (Option ℕ)). IsCopying l c.args.to c.in-Some.region.slot c.in-Some.region.table c.loop-region.self.bytes c.loop-region.self.roles) (sym same)
     (record { from = c.args.from; source = c.home-source.result; bytes = c.self.inside.memory; roles = c.self.inside.frames; begun = begun })
 
-pub copy_region-made-requires-clause-target : goal.copy_region-made-requires-clause-target
-copy_region-made-requires-clause-target c =
+pub copy_region-made-requires-clause-live : goal.copy_region-made-requires-clause-live
+copy_region-made-requires-clause-live c =
     let same = rw (← c.self.view_is) at c.loop-region.invariant.same in
-    subst (λ (l : List (Option ℕ)). directory_of l c.args.to ≡ Some c.home-target.result) (sym same) c.home-target.ensures
+    subst (λ (l : List (Option ℕ)). is_some (directory_of l c.args.to) ≡ true) (sym same) (rw (← c.self.view_is) at c.requires.live)
 
 pub copy_region-made-requires-clause-used : goal.copy_region-made-requires-clause-used
 copy_region-made-requires-clause-used c =

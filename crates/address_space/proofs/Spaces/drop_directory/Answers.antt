@@ -1,4 +1,4 @@
-use Rattle.address_space.proofs.Prelude.{arith, sym, subst, refl, Directory, DirectoryDropped, spaces_in, eq-eqb}
+use Rattle.address_space.proofs.Prelude.{arith, sym, subst, refl, None, slice_set, Directory, DirectoryDropped, spaces_in, eq-eqb}
 use Rattle.address_space.proofs.entries.Staying.{places_more}
 use Rattle.address_space.proofs.standing.FramesStand.{frames_stay_by}
 use Rattle.address_space.proofs.steps.CountSteps.{counts_kept, alike_released}
@@ -10,9 +10,9 @@ pub release-requires : goal.release-requires
 release-requires c =
     record { role = Directory c.args.pid; is = c.self.invariant.spaces.sound.tables.directory c.args.pid c.args.directory (rw (← c.self.view_is) at c.requires.live); in_use = refl }
 
-dropped : (c : goal.After-forget) → DirectoryDropped c.self.inside.directories c.args.pid c.self.inside.memory c.self.inside.frames c.forget.new.directories c.release.new.self
+dropped : (c : goal.After-index-self-number) → DirectoryDropped c.self.inside.directories c.args.pid c.self.inside.memory c.self.inside.frames (slice_set c.self.inside.directories c.number.result None) c.release.new.self
 dropped c =
-    subst (λ l. DirectoryDropped c.self.inside.directories c.args.pid c.self.inside.memory c.self.inside.frames l c.release.new.self) (sym c.forget.ensures)
+    subst (λ k. DirectoryDropped c.self.inside.directories c.args.pid c.self.inside.memory c.self.inside.frames (slice_set c.self.inside.directories k None) c.release.new.self) (sym c.number.ensures.value)
     (directory_removed c.self.inside.directories c.self.inside.memory c.self.inside.frames c.release.new.self c.args.pid c.args.directory c.self.invariant.spaces (rw (← c.self.view_is) at c.requires.live) (rw (← c.self.view_is) at c.requires.empty) c.release.ensures.role)
 
 pub returns : goal.returns
@@ -23,7 +23,7 @@ returns c = record {
   frames = rw (← c.self.view_is) ((dropped c).length);
   stay = grind (arith, frames_stay_by, dropped, eq-eqb, places_more, c.self.invariant.spaces.sound);
   loose = rw (← c.self.view_is)
-      (loose_released c.self.inside.directories c.forget.new.directories c.self.inside.memory c.self.inside.frames c.release.new.self c.args.directory c.release.ensures.role);
+      (loose_released c.self.inside.directories (slice_set c.self.inside.directories c.number.result None) c.self.inside.memory c.self.inside.frames c.release.new.self c.args.directory c.release.ensures.role);
 }
 
 pub invariant_of-self : goal.invariant_of-self
@@ -31,7 +31,7 @@ invariant_of-self c =
     let S = spaces_in c.self.inside.directories c.self.inside.memory in
     record {
       spaces = (dropped c).after;
-      counted = counts_kept S (spaces_in c.forget.new.directories c.self.inside.memory) c.self.inside.frames c.release.new.self (dropped c).spaces
+      counted = counts_kept S (spaces_in (slice_set c.self.inside.directories c.number.result None) c.self.inside.memory) c.self.inside.frames c.release.new.self (dropped c).spaces
           (alike_released S c.self.inside.frames c.release.new.self c.args.directory (Directory c.args.pid) c.release.ensures.role
           (c.self.invariant.spaces.sound.tables.directory c.args.pid c.args.directory (rw (← c.self.view_is) at c.requires.live)) refl)
           c.self.inside.counts.items c.self.invariant.counted;

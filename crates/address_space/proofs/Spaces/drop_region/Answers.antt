@@ -1,10 +1,9 @@
 use Rattle.address_space.proofs.Prelude
 use Prelude.{◌≡◌, ◌+◌, ◌*◌, ◌<◌, ◌≤◌, ◌∙◌, ℕ, List, Option, Some, ap, sym, subst, refl, inl, arith, frame_bytes}
-use Prelude.{word_in, word_entry, View, directory_of, DroppedBelow, words_left, cost}
+use Prelude.{word_in, word_entry, View, directory_of, DroppedBelow, words_left}
 use Rattle.address_space.proofs.steps.Departures.{dropped_next}
 use Rattle.address_space.proofs.steps.RegionCopies.{region_there, region_words}
 use Rattle.address_space.proofs.steps.RegionDrops.{RegionLeft, left_linked, left_next, listed_found, region_passed}
-use Rattle.address_space.proofs.steps.Placing.{found_placed}
 use Rattle.address_space.proofs.steps.Steps.{page_map_of}
 use Rattle.address_space.proofs.Spaces.drop_region.Goals as goal
 
@@ -36,41 +35,21 @@ next_left-requires-clause-left c = grind (arith, c.loop-listed.invariant.left.wo
 pub overflow_sub-left : goal.overflow_sub-left
 overflow_sub-left c = omega (arith, c.in-Some.ensures.left)
 
-pub relief_at-used-requires-clause-mapped : goal.relief_at-used-requires-clause-mapped
-relief_at-used-requires-clause-mapped c =
-    let same : c.self-in-loop-listed.inside.memory ≡ c.loop-listed.self.bytes = ap (λ (v : View). v.bytes) c.self-in-loop-listed.view_is in
-    let home : directory_of c.loop-listed.self.directories c.args.pid ≡ Some c.args.directory = ap (λ (l : List (Option ℕ)). directory_of l c.args.pid) c.loop-listed.invariant.same ∙ c.requires.home in
-    let up = c.in-Some.ensures.within in
-    let found = listed_found c.loop-listed.self.directories c.loop-listed.self.bytes c.args.pid c.args.slot home (left_linked _ c.loop-listed.invariant.left c.in-Some.ensures.left) up.1
-    (subst (λ b. word_entry (word_in (frame_bytes b c.args.table) c.in-Some.listed.index) ≡ Some c.in-Some.listed.entry) same c.in-Some.ensures.entry) in
-    (found_placed c.loop-listed.self c.self-in-loop-listed.inside c.args.pid (1024 * c.args.slot + c.in-Some.listed.index) _ c.self-in-loop-listed.invariant c.self-in-loop-listed.view_is
-    (omega (arith, c.requires.low), omega (arith, c.requires.high, up.1)) found).0
+pub unmap_found-used-requires-clause-home : goal.unmap_found-used-requires-clause-home
+unmap_found-used-requires-clause-home c = ap (λ (l : List (Option ℕ)). directory_of l c.args.pid) c.loop-listed.invariant.same ∙ c.requires.home
 
-pub relief_at-used-requires-clause-place : goal.relief_at-used-requires-clause-place
-relief_at-used-requires-clause-place c =
-    let same : c.self-in-loop-listed.inside.memory ≡ c.loop-listed.self.bytes = ap (λ (v : View). v.bytes) c.self-in-loop-listed.view_is in
-    let home : directory_of c.loop-listed.self.directories c.args.pid ≡ Some c.args.directory = ap (λ (l : List (Option ℕ)). directory_of l c.args.pid) c.loop-listed.invariant.same ∙ c.requires.home in
-    let up = c.in-Some.ensures.within in
-    let found = listed_found c.loop-listed.self.directories c.loop-listed.self.bytes c.args.pid c.args.slot home (left_linked _ c.loop-listed.invariant.left c.in-Some.ensures.left) up.1
-    (subst (λ b. word_entry (word_in (frame_bytes b c.args.table) c.in-Some.listed.index) ≡ Some c.in-Some.listed.entry) same c.in-Some.ensures.entry) in
-    (found_placed c.loop-listed.self c.self-in-loop-listed.inside c.args.pid (1024 * c.args.slot + c.in-Some.listed.index) _ c.self-in-loop-listed.invariant c.self-in-loop-listed.view_is
-    (omega (arith, c.requires.low), omega (arith, c.requires.high, up.1)) found).1
+pub unmap_found-used-requires-clause-user : goal.unmap_found-used-requires-clause-user
+unmap_found-used-requires-clause-user c = let up = c.in-Some.ensures.within in (omega (arith, c.requires.low), omega (arith, c.requires.high, up.1))
 
-pub overflow_sub-used : goal.overflow_sub-used
-overflow_sub-used c = omega (arith, c.relief_at-used.ensures, c.loop-listed.invariant.used)
-
-pub unmap_found-requires-clause-home : goal.unmap_found-requires-clause-home
-unmap_found-requires-clause-home c = ap (λ (l : List (Option ℕ)). directory_of l c.args.pid) c.loop-listed.invariant.same ∙ c.requires.home
-
-pub unmap_found-requires-clause-user : goal.unmap_found-requires-clause-user
-unmap_found-requires-clause-user c = let up = c.in-Some.ensures.within in (omega (arith, c.requires.low), omega (arith, c.requires.high, up.1))
-
-pub unmap_found-requires-clause-found : goal.unmap_found-requires-clause-found
-unmap_found-requires-clause-found c =
+pub unmap_found-used-requires-clause-found : goal.unmap_found-used-requires-clause-found
+unmap_found-used-requires-clause-found c =
     let same : c.self-in-loop-listed.inside.memory ≡ c.loop-listed.self.bytes = ap (λ (v : View). v.bytes) c.self-in-loop-listed.view_is in
     let home : directory_of c.loop-listed.self.directories c.args.pid ≡ Some c.args.directory = ap (λ (l : List (Option ℕ)). directory_of l c.args.pid) c.loop-listed.invariant.same ∙ c.requires.home in
     listed_found c.loop-listed.self.directories c.loop-listed.self.bytes c.args.pid c.args.slot home (left_linked _ c.loop-listed.invariant.left c.in-Some.ensures.left) c.in-Some.ensures.within.1
     (subst (λ b. word_entry (word_in (frame_bytes b c.args.table) c.in-Some.listed.index) ≡ Some c.in-Some.listed.entry) same c.in-Some.ensures.entry)
+
+pub overflow_sub-used : goal.overflow_sub-used
+overflow_sub-used c = omega (arith, c.unmap_found-used.ensures.relief, c.loop-listed.invariant.used)
 
 pub loop-listed-preserved : goal.loop-listed-preserved
 loop-listed-preserved c =
@@ -85,15 +64,14 @@ loop-listed-preserved c =
           let here = subst (λ (w : View). DroppedBelow v c.args.pid (1024 * c.args.slot + c.loop-listed.index) w) (sym c.self-in-loop-listed.view_is) (c.loop-listed.invariant.so_far v begun) in
           let passed = region_passed c.self-in-loop-listed.inside c.in-Some.listed.index here home left c.requires.high up.0 (omega (arith, up.1)) c.in-Some.ensures.least in
           let next : 1024 * c.args.slot + c.in-Some.listed.index + 1 ≡ 1024 * c.args.slot + (c.in-Some.listed.index + 1) = omega arith in
-          subst (λ n. DroppedBelow v c.args.pid n c.unmap_found.new.self) next
-          (dropped_next v c.loop-listed.self c.unmap_found.new.self c.args.pid (1024 * c.args.slot + c.in-Some.listed.index) (subst (λ (w : View). DroppedBelow v c.args.pid (1024 * c.args.slot + c.in-Some.listed.index) w) c.self-in-loop-listed.view_is passed)
-          (omega (arith, c.requires.high, up.1)) c.unmap_found.ensures.spaces c.unmap_found.ensures.stay c.unmap_found.ensures.loose c.unmap_found.ensures.directories c.unmap_found.ensures.frames);
+          subst (λ n. DroppedBelow v c.args.pid n c.unmap_found-used.new.self) next
+          (dropped_next v c.loop-listed.self c.unmap_found-used.new.self c.args.pid (1024 * c.args.slot + c.in-Some.listed.index) (subst (λ (w : View). DroppedBelow v c.args.pid (1024 * c.args.slot + c.in-Some.listed.index) w) c.self-in-loop-listed.view_is passed)
+          (omega (arith, c.requires.high, up.1)) c.unmap_found-used.ensures.spaces c.unmap_found-used.ensures.stay c.unmap_found-used.ensures.loose c.unmap_found-used.ensures.directories c.unmap_found-used.ensures.frames);
       used =
-          (let gone = ap (λ S. cost S c.args.pid) c.unmap_found.ensures.spaces in
-          omega (arith, gone, c.relief_at-used.ensures, c.loop-listed.invariant.used));
-      same = c.unmap_found.ensures.directories ∙ c.loop-listed.invariant.same;
-      left = left_next c.loop-listed.invariant.left up.1 some c.unmap_found.ensures.words;
-      inside = subst (λ n. 4096 * c.args.table + 4096 ≤ n) (sym c.unmap_found.ensures.long) c.loop-listed.invariant.inside;
+          omega (arith, c.unmap_found-used.ensures.relief, c.loop-listed.invariant.used);
+      same = c.unmap_found-used.ensures.directories ∙ c.loop-listed.invariant.same;
+      left = left_next c.loop-listed.invariant.left up.1 some c.unmap_found-used.ensures.words;
+      inside = subst (λ n. 4096 * c.args.table + 4096 ≤ n) (sym c.unmap_found-used.ensures.long) c.loop-listed.invariant.inside;
       within = omega (arith, up.1);
     }
 

@@ -1,10 +1,13 @@
-use Rattle.address_space.proofs.Prelude.{ap, sym, ◌∙◌, is_some, option_map, second_page, place_in}
-use Rattle.address_space.proofs.steps.Neighbours.{second_there}
+use Rattle.address_space.proofs.Prelude.{second_page}
+use Rattle.address_space.proofs.steps.Neighbours.{second_none, second_is, second_there}
 use Rattle.address_space.proofs.Spaces.read_at.Goals as goal
 
-pub unwrap-second-requires : goal.unwrap-second-requires
-unwrap-second-requires c = ap is_some (c.requires.second ∙ ap (option_map (place_in c.args.self.now.directories c.args.self.now.bytes c.args.pid)) (sym c.second_page.ensures ∙ c.in-Some.is))
+pub load_at-requires-clause-within : goal.load_at-requires-clause-within
+load_at-requires-clause-within c = second_none c.args.self.now.directories c.args.self.now.bytes c.args.pid (second_page c.args.address c.args.size) c.args.second.now c.requires.second c.in-None.is
+
+pub page_behind-behind-requires : goal.page_behind-behind-requires
+page_behind-behind-requires c = second_is c.args.self.now.directories c.args.self.now.bytes c.args.pid (second_page c.args.address c.args.size) c.args.second.now c.requires.second c.in-Some.second c.in-Some.is
 
 pub load_over-requires-clause-second : goal.load_over-requires-clause-second
 load_over-requires-clause-second c =
-    second_there c.args.self.now.directories c.args.self.now.bytes c.args.pid c.in-Some.behind (second_page c.args.address c.args.size) c.args.second.now c.unwrap-second.result c.requires.second (sym c.second_page.ensures ∙ c.in-Some.is) c.unwrap-second.ensures
+    second_there c.args.self.now.directories c.args.self.now.bytes c.args.pid (second_page c.args.address c.args.size) c.args.second.now c.requires.second c.page_behind-behind.result c.in-Some.second c.page_behind-behind.ensures c.in-Some.is

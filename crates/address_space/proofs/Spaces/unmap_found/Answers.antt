@@ -1,6 +1,7 @@
-use Rattle.address_space.proofs.Prelude.{arith, frame_bytes, SlotRemoved}
+use Rattle.address_space.proofs.Prelude.{arith, frame_bytes, SlotRemoved, ap, ◌∙◌, ◌+◌, cost, without, is_slot}
+use Rattle.address_space.proofs.Insides.{spaces_at}
 use Rattle.address_space.proofs.steps.Steps.{page_map_of}
-use Rattle.address_space.proofs.steps.GonePages.{home_table, home_entry, home_count, home_positive, home_counts}
+use Rattle.address_space.proofs.steps.GonePages.{home_table, home_entry, home_count, home_positive, home_counts, home_relief}
 use Rattle.address_space.proofs.steps.GonePages.{home_in_use, gone_table, gone_page, gone_kept}
 use Rattle.address_space.proofs.steps.RegionDrops.{entry_gone}
 use Rattle.address_space.proofs.standing.FramesStand.{frames_stay}
@@ -36,13 +37,20 @@ leave-requires c =
 pub free_table-requires : goal.free_table-requires
 free_table-requires c = grind (arith, gone_table)
 
-gone : (c : goal.After-free_table) → SlotRemoved c.self.inside.directories c.args.pid c.args.page c.self.inside.memory c.self.inside.frames c.clear_found_entry-freed.new.memory c.free_table.new.frames
+gone : (c : goal.After-relief) → SlotRemoved c.self.inside.directories c.args.pid c.args.page c.self.inside.memory c.self.inside.frames c.clear_found_entry-freed.new.memory c.free_table.new.frames
 gone c =
     gone_page c.self.inside c.args.pid c.args.directory c.args.page c.args.found.now c.self.invariant c.requires.user (rw (← c.self.view_is) at c.requires.found) (rw (← c.self.view_is) at c.requires.home)
     c.clear_found_entry-freed.new.memory c.leave.new.frames c.clear_found_entry-freed.result c.clear_found_entry-freed.ensures.cleared c.leave.ensures c.free_table.new.frames c.clear_found_entry-freed.ensures.length c.free_table.ensures
 
 pub returns-clause-spaces : goal.returns-clause-spaces
 returns-clause-spaces c = rw (← c.self.view_is) ((gone c).spaces)
+
+pub returns-clause-relief : goal.returns-clause-relief
+returns-clause-relief c =
+    rw (← c.self.view_is)
+    (ap (λ S. cost S c.args.pid + c.relief.result) ((gone c).spaces)
+    ∙ ap (λ n. cost (without (spaces_at c.self.inside) (is_slot c.args.pid c.args.page)) c.args.pid + n) c.relief.ensures
+    ∙ home_relief c.self.inside c.args.pid c.args.directory c.args.page c.args.found.now c.self.invariant c.requires.user (rw (← c.self.view_is) at c.requires.found) (rw (← c.self.view_is) at c.requires.home) c.uncount_page-mapped.result c.uncount_page-mapped.ensures.mapped)
 
 pub invariant_of-self : goal.invariant_of-self
 invariant_of-self c =

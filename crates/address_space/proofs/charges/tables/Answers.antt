@@ -1,15 +1,17 @@
 use Rattle.address_space.proofs.Prelude.{◌≡◌, ap, ◌∙◌, arith, pages_of, regions_of, spaces_in}
 use Rattle.address_space.proofs.costs.ChargeLemmas.{regions_below, regions_at_first, regions_next, regions_at_last}
+use Rattle.page_map.proofs.PageLemmas.{bool_counted}
+use Rattle.page_map.specs.Pages.{counted}
 use Rattle.address_space.proofs.charges.tables.Goals as goal
 
 pub loop-slot-init : goal.loop-slot-init
 loop-slot-init c = record { so_far = λ D R p stands live. regions_at_first D c.args.memory.now R p c.args.directory stands live; few = omega arith }
 
 pub loop-slot-preserved : goal.loop-slot-preserved
-loop-slot-preserved c = record {
-  so_far = λ D R p stands live. regions_next D c.args.memory.now R p c.args.directory stands live c.loop-slot.slot c.loop-slot.tables c.table_count-tables.result
-      c.loop-slot.auto.slot c.loop-slot-test.true (c.loop-slot.invariant.so_far D R p stands live) c.table_count-tables.ensures.count;
-  few = omega (arith, c.loop-slot.invariant.few, c.table_count-tables.ensures.bound);
+loop-slot-preserved c = let bit = bool_counted c.has_table.result in record {
+  so_far = λ D R p stands live. regions_next D c.args.memory.now R p c.args.directory stands live c.loop-slot.slot c.loop-slot.tables _
+      c.loop-slot.auto.slot c.loop-slot-test.true (c.loop-slot.invariant.so_far D R p stands live) (bit.0 ∙ ap counted c.has_table.ensures);
+  few = omega (arith, c.loop-slot.invariant.few, bit.1);
 }
 
 pub returns : goal.returns

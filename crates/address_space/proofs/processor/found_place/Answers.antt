@@ -8,4 +8,4 @@ prove-unreachable-requires c =
 
 pub returns-clause-place : goal.returns-clause-place
 returns-clause-place c =
-    c.place_in.ensures ∙ ap (λ f. 4096 * f + offset_number c.args.address) (walk_named c.args.memory.now c.args.directory c.args.address c.unwrap-frame.result c.args.access (sym c.walk.ensures ∙ c.unwrap-frame.ensures))
+    c.place_of.ensures ∙ ap (λ o. 4096 * c.unwrap-frame.result + o) c.offset_of.ensures.value ∙ ap (λ f. 4096 * f + offset_number c.args.address) (walk_named c.args.memory.now c.args.directory c.args.address c.unwrap-frame.result c.args.access (sym c.walk.ensures ∙ c.unwrap-frame.ensures))

@@ -1,18 +1,7 @@
-use Rattle.kernel_calls.proofs.Prelude.{refl, ap, ◌∙◌, arith, if_allowed}
-use Rattle.kernel_calls.proofs.Allowed.{allowed, protect_ended, accept_ended, nothing_ended}
+use Rattle.kernel_calls.proofs.Prelude.{refl, ap, ◌∙◌, if_allowed}
+use Rattle.kernel_calls.proofs.Allowed.{accept_ended, nothing_ended}
 use Rattle.kernel_calls.specs.declared.calls.Call.TheVariants as call
 use Rattle.kernel_calls.proofs.translations.ended_by.Goals as goal
-
-pub returns-in-Unmap : goal.returns-in-Unmap
-returns-in-Unmap c = grind (arith, allowed, c.if_allowed.ensures, c.can_unmap.ensures, c.in-Unmap.is)
-
-pub returns-in-Exit : goal.returns-in-Exit
-returns-in-Exit c = grind (arith, allowed, c.if_allowed-in-Exit.ensures, c.can_exit.ensures, c.in-Exit.is)
-
-pub returns-in-Protect : goal.returns-in-Protect
-returns-in-Protect c =
-    c.if_allowed-in-Protect.ensures ∙ ap (λ t. if_allowed t c.by_protect.result) c.can_protect.ensures
-    ∙ protect_ended c.args.processes.now c.args.event.now c.in-Protect.page c.in-Protect.write c.by_protect.result c.in-Protect.is c.by_protect.ensures
 
 pub returns-in-Accept : goal.returns-in-Accept
 returns-in-Accept c =

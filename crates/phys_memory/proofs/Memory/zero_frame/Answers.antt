@@ -9,8 +9,8 @@ returns-clause-bytes c =
     let f = c.args.frame in
     let place : c.frame.inside.0 * 4096 ≡ 4096 * f = omega (arith, c.frame.view_is) in
     let size : 4096 * f + 4096 - 4096 * f ≡ 4096 = omega arith in
-    let zeros = rw (c.deref_mut.ensures.value, c.self.view_is, place, size) at c.fill_with_zeros.ensures in
+    let zeros = rw (c.deref_mut.ensures.value, c.self.view_is, place, size) at c.fill.ensures.after (λ y same. same) in
     let whole = rw c.self.view_is at c.self.invariant.0 in
     let long = rw (c.deref_mut.ensures.value, c.self.view_is) at c.deref_mut.ensures.len in
     rw (c.deref_mut.ensures.value, c.self.view_is, place, size)
-    (part_zeroed c.args.self.now c.fill_with_zeros.new.part (4096 * f) 4096 c.self.inside.bytes.len (omega (arith, long)) (omega (arith, whole, c.requires)) zeros)
+    (part_zeroed c.args.self.now c.fill.new.self (4096 * f) 4096 c.self.inside.bytes.len (omega (arith, long)) (omega (arith, whole, c.requires)) zeros)

@@ -5,23 +5,23 @@ use Rattle.quota_tree.proofs.Writes.{quotas-charged, seen_as-charged}
 use Rattle.page_words.specs.FiniteMap as map
 use Rattle.quota_tree.proofs.Quotas.charge.Goals as goal
 
-pub live-container-requires : goal.live-container-requires
-live-container-requires c = is_some-live c.self.inside.containers c.args.pid (ap (λ view. map.contains_key view.book c.args.pid) c.self.view_is ∙ c.requires.live)
+pub live-requires : goal.live-requires
+live-requires c = is_some-live c.self.inside.containers c.args.pid (ap (λ view. map.contains_key view.book c.args.pid) c.self.view_is ∙ c.requires.live)
 
-pub charged-requires : goal.charged-requires
-charged-requires c =
-    let room = ap (λ view. room_of view c.args.pid) (sym c.self.view_is) ∙ room_of-container c.self.inside.containers c.self.invariant c.args.pid c.live-container.result c.live-container.ensures.container in
+pub overflow_add-used : goal.overflow_add-used
+overflow_add-used c =
+    let room = ap (λ view. room_of view c.args.pid) (sym c.self.view_is) ∙ room_of-container c.self.inside.containers c.self.invariant c.args.pid c.live.result c.live.ensures.container in
     grind arith
 
 pub invariant_of-self : goal.invariant_of-self
 invariant_of-self c =
-    let at = c.live-container.ensures.container in
-    let room = ap (λ view. room_of view c.args.pid) (sym c.self.view_is) ∙ room_of-container c.self.inside.containers c.self.invariant c.args.pid c.live-container.result at in
-    let old = c.self.invariant.each c.args.pid c.live-container.result at in
+    let at = c.live.ensures.container in
+    let room = ap (λ view. room_of view c.args.pid) (sym c.self.view_is) ∙ room_of-container c.self.inside.containers c.self.invariant c.args.pid c.live.result at in
+    let old = c.self.invariant.each c.args.pid c.live.result at in
     let used = old.used in
     let within = old.within in
-    rw (c.put.ensures, c.charged.ensures) (quotas-charged c.self.inside.containers c.self.invariant c.args.pid (within_places c.self.inside.containers c.self.invariant c.args.pid c.live-container.result at)
-    c.live-container.result (charged_with c.live-container.result (c.live-container.result.used + c.args.frames)) at refl
+    rw (c.set_used.ensures c.live.result at) (quotas-charged c.self.inside.containers c.self.invariant c.args.pid (within_places c.self.inside.containers c.self.invariant c.args.pid c.live.result at)
+    c.live.result (charged_with c.live.result (c.live.result.used + c.args.frames)) at refl
     (record {
       parent = old.parent;
       given = old.given;
@@ -31,4 +31,4 @@ invariant_of-self c =
     }))
 
 pub returns : goal.returns
-returns c = grind (arith, used_of-container, seen_as-charged, within_places)
+returns c = grind (arith, used_of-container, seen_as-charged, within_places, (c.set_used.ensures c.live.result c.live.ensures.container))

@@ -1,9 +1,9 @@
 use Rattle.std.proofs.Common.{◌≡◌, ◌≤◌, ◌+◌, ◌++◌, ◌-◌, ◌∙◌, ℕ, List, length, map, take, refl, sym, subst, arith}
 use Rattle.address_space.specs.Spaces.{Slot, at_page}
 use Rattle.process_table.specs.View.{View}
-use Rattle.kernel_calls.specs.TakenBack.{Taking}
-use Rattle.kernel_calls.specs.declared.taking.Holder.{Holder}
-use Rattle.kernel_calls.proofs.TakenTwice.{taking_none, taking_then, info_later}
+use Rattle.kernel_acts.specs.TakenBack.{Taking}
+use Rattle.kernel_acts.specs.declared.taking.Holder.{Holder}
+use Rattle.kernel_acts.proofs.TakenTwice.{taking_none, taking_then, info_later}
 use Rattle.std.proofs.lemmas.List.{map-append}
 use Rattle.tower_c.specs.Holders.{holder_of}
 use Rattle.tower_c.specs.declared.holders.TowerHolder.{TowerHolder}

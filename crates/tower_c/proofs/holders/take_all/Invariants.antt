@@ -1,7 +1,8 @@
 use Rattle.std.proofs.Common.{◌≡◌, ◌≤◌, ◌-◌, true, length, map, take, drop}
 use Rattle.address_space.specs.Spaces.{at_page}
 use Rattle.kernel_calls.specs.Machine.{answer, completes}
-use Rattle.kernel_calls.specs.TakenBack.{info_of_page, Taking}
+use Rattle.kernel_calls.specs.Cleaned.{info_of_page}
+use Rattle.kernel_acts.specs.TakenBack.{Taking}
 use Rattle.tower_c.specs.Holders.{holder_of}
 use Rattle.tower_c.proofs.holders.take_all.Given as goal
 

@@ -66,11 +66,12 @@ invariant_of-self-2 c =
     let giver : Slot = at_page from from_page in
     let slot : Slot = at_page p page in
     let right = c.in-Ok.right in
-    let used = used_of q p + c.need_at-need.result in
+    let used = used_of q p + c.args.frames in
+    let need_is = c.requires.need ∙ ap (λ (x : View). need x.state.spaces p page) (sym c.self.view_is) in
     let spaces : c.join_at.new.self.spaces ≡ joined v.spaces giver slot right = c.join_at.ensures.spaces ∙ ap (λ S. joined S giver slot right) c.fill_at-given.ensures.spaces in
     let kept = subst (IsProcesses c.join_at.new.self) (sym c.take_room.ensures.quotas)
     (charged-one v c.join_at.new.self q p used c.self.invariant.kept (c.join_at.ensures.directories ∙ c.fill_at-given.ensures.directories) (c.join_at.ensures.frames ∙ c.fill_at-given.ensures.frames)
-    ((λ i. c.self.invariant.kept.charged p free.0 i + c.need_at-need.ensures.value i) ∙ sym (cost-joined v.spaces giver slot right (may_accept s p from from_page page free.1).none) ∙ sym (ap (λ S. cost S p) spaces))
+    ((λ i. c.self.invariant.kept.charged p free.0 i + need_is i) ∙ sym (cost-joined v.spaces giver slot right (may_accept s p from from_page page free.1).none) ∙ sym (ap (λ S. cost S p) spaces))
     (λ other n. ap (λ S. cost S other) spaces ∙ cost-joined_other v.spaces giver slot right other n)) in
     whole c.join_at.new.self c.take_room.new.quotas c.take.new.self (after_accept s p from from_page page) kept (spaces ∙ ap (joined v.spaces giver slot) (search rules)) (search rules) (search rules)
     (keeps-accept s p from from_page page c.self.invariant.well_formed ok)
@@ -88,4 +89,5 @@ take_room-requires-clause-room c =
     let none = subst (λ (x : View). is_mapped x.state (at_page p page) ≡ false) back c.requires.unmapped in
     let room = subst (λ (x : View). overdrawn x.state p (page ∷ []) ≡ false) back c.requires.room in
     let fits = new_fits s p page (no_value (map.get s.spaces (at_page p page)) none) room in
-    omega (arith, fits, c.self.invariant.kept.charged p live, c.need_at-need.ensures.value)
+    let need_is = c.requires.need ∙ ap (λ (x : View). need x.state.spaces p page) back in
+    omega (arith, fits, c.self.invariant.kept.charged p live, need_is)

@@ -1,7 +1,6 @@
 use Rattle.process_table.proofs.Prelude.{arith}
-use Rattle.process_table.proofs.Keeping.{whole, keeps-offer}
+use Rattle.process_table.proofs.Refusals.{is_done}
 use Rattle.process_table.proofs.processes.Processes.offer.Goals as goal
 
-pub invariant_of-self : goal.invariant_of-self
-invariant_of-self c =
-    grind (arith, whole, keeps-offer, c.requires, c.self.invariant.kept, c.offer.ensures, c.self.invariant.well_formed)
+pub returns-clause-state : goal.returns-clause-state
+returns-clause-state c = grind (arith, is_done, c.try_offer.ensures.state, c.try_offer.ensures.result, c.requires)

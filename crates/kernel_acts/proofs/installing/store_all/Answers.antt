@@ -1,0 +1,35 @@
+use Rattle.kernel_acts.proofs.Prelude.{◌∙◌, ℕ, ap, sym, subst, length, FramesStay, memory_of, State, end_of, AreStored}
+use Rattle.kernel_acts.proofs.Prelude.{of_lazy_pages}
+use Rattle.kernel_acts.proofs.Installs.{all_stored_there}
+use Rattle.kernel_calls.proofs.Leaving.{standing}
+use Rattle.kernel_acts.proofs.TransferLemmas.{length-stores}
+use Rattle.kernel_acts.proofs.StoresEnd.{stores_end}
+use Rattle.kernel_acts.proofs.installing.store_all.Goals as goal
+
+pub returns-clause-state : goal.returns-clause-state
+returns-clause-state c =
+    let s = c.args.core.now.state in
+    let r = all_stored_there s c.args.pid c.args.address c.args.part.now c.stands.ensures.well_formed c.requires.mapped c.requires.write c.requires.within c.requires.some (λ i. (c.type_inv.part i).fits) in
+    c.write_bytes.ensures.state ∙ ap (end_of s) r.all ∙ r.after
+
+pub returns-clause-stored : goal.returns-clause-stored
+returns-clause-stored c =
+    let s = c.args.core.now.state in
+    let r = all_stored_there s c.args.pid c.args.address c.args.part.now c.stands.ensures.well_formed c.requires.mapped c.requires.write c.requires.within c.requires.some (λ i. (c.type_inv.part i).fits) in
+    subst (λ (t : State). AreStored s c.args.pid c.args.address c.args.part.now t) (sym (c.write_bytes.ensures.state ∙ ap (end_of s) r.all ∙ r.after)) r
+
+pub returns-clause-marks : goal.returns-clause-marks
+returns-clause-marks c =
+    let s = c.args.core.now.state in
+    let p = c.args.pid in
+    let a = c.args.address in
+    let part = c.args.part.now in
+    let now = c.stands.ensures in
+    let later = c.stands-2.ensures in
+    let r = all_stored_there s p a part now.well_formed c.requires.mapped c.requires.write c.requires.within c.requires.some (λ i. (c.type_inv.part i).fits) in
+    let after = c.write_bytes.ensures.state ∙ ap (end_of s) r.all ∙ r.after in
+    let count = c.write_bytes.ensures.count ∙ ap length r.all ∙ length-stores p a part in
+    stores_end c.args.core.now c.write_bytes.new.core p a part
+    (standing now.image now.walks now.ways now.well_formed) (standing later.image later.walks later.ways later.well_formed)
+    c.requires.within c.requires.some (ap (λ (t : State). t.spaces) after)
+    (subst (λ (n : ℕ). FramesStay (of_lazy_pages p a n) (memory_of c.args.core.now) (memory_of c.write_bytes.new.core)) count c.write_bytes.ensures.stay)

@@ -1,0 +1,8 @@
+-- An event of a process.
+use Rattle.std.specs.Prelude.{ℕ}
+use Rattle.kernel_calls.specs.declared.calls.Call.{Call}
+use Rattle.kernel_calls.specs.declared.calls.Event.{Event}
+
+-- a process makes a call; on which processor makes no difference
+abbrev pub event_of : ℕ → Call → Event
+event_of p c = record { cpu = 0; pid = p; call = c }

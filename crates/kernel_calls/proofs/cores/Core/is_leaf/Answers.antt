@@ -1,6 +1,0 @@
-use Rattle.kernel_calls.proofs.Prelude.{arith, eqb-true}
-use Rattle.kernel_calls.proofs.Members.{counted, no_children_of}
-use Rattle.kernel_calls.proofs.cores.Core.is_leaf.Goals as goal
-
-pub returns-in-Some : goal.returns-in-Some
-returns-in-Some c = grind (arith, no_children_of, counted, eqb-true, c.in-Some.ensures)

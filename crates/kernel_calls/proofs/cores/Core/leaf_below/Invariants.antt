@@ -1,9 +1,0 @@
-use Rattle.kernel_calls.proofs.Prelude.{quota_of, Descends}
-use Rattle.kernel_calls.proofs.cores.Core.leaf_below.Given as goal
-
-abbrev pub invariant-loop-child : goal.invariant-loop-child
-invariant-loop-child l = Descends l.self.state l.fn.pid l.at
-
--- a child has less than its parent
-abbrev pub decreases-loop-child : goal.decreases-loop-child
-decreases-loop-child l = quota_of l.self.state.book l.at

@@ -1,0 +1,16 @@
+pub mod Availability
+pub mod Causes
+pub mod Cleanings
+pub mod Commuting
+pub mod CommutingForks
+pub mod CommutingGone
+pub mod CommutingJoins
+pub mod CommutingStores
+pub mod Discreet
+pub mod Effects
+pub mod EitherOrder
+pub mod FlagChanges
+pub mod GivenUp
+pub mod Newborns
+pub mod OwnViews
+pub mod Prelude

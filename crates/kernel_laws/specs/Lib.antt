@@ -1,0 +1,9 @@
+pub mod Beside
+pub mod Causes
+pub mod WorkedAccesses
+pub mod WorkedAuthority
+pub mod WorkedForks
+pub mod WorkedIsolation
+pub mod WorkedProcesses
+pub mod WorkedRuns
+pub mod WorkedSharing
