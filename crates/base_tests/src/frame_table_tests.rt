@@ -1,4 +1,7 @@
 //! Roles of frames.
+
+ghost use Rattle.std.specs.Prelude.{◌≡◌, ◌<◌, length, Some, slice_get};
+
 use alloc_table::{FrameTable, Role, weights_add_up};
 use page_words::{Frame, MachineFault, Pid, WideFault};
 use std::process::Abort;
@@ -12,17 +15,25 @@ fn take_page(rt: &impl Abort, table: &mut FrameTable) {
     assert_eq!(rt; table.role(frame), PAGE);
 }
 
+/// A frame has this role.
+fn check_role(rt: &impl Abort, table: &FrameTable, frame: Frame, role: Role)
+    requires { frame < length table.now }
+    ensures { slice_get table.now frame ≡ Some role }
+{
+    assert!(rt; table.role(frame) == role);
+}
+
 #[test]
 fn frees_a_page_with_its_last_holder(rt: HostRuntime) -> Result<(), Fail> {
     let mut table = FrameTable::new(rt.alloc(), 16)?;
     let frame = table.take(PAGE).ok_or("a frame is free")?;
-    assert_eq!(rt; table.role(frame), PAGE);
+    check_role(&rt, &table, frame, PAGE);
     table.hold(frame);
-    assert_eq!(rt; table.role(frame), Role::Page { count: 2 });
+    check_role(&rt, &table, frame, Role::Page { count: 2 });
     assert!(rt; !table.release(frame));
-    assert_eq!(rt; table.role(frame), PAGE);
+    check_role(&rt, &table, frame, PAGE);
     assert!(rt; table.release(frame));
-    assert_eq!(rt; table.role(frame), Role::Free);
+    check_role(&rt, &table, frame, Role::Free);
     assert_eq!(rt; table.free_count(), 15);
     Ok(())
 }

@@ -1,5 +1,5 @@
 //! Page maps by their calls.
-ghost use Rattle.std.specs.Prelude.{◌≡◌, IfOk, length};
+ghost use Rattle.std.specs.Prelude.{◌≡◌, ◌+◌, ◌<◌, ◌^◌, IfOk, length};
 ghost use Rattle.phys_memory.specs.Bytes.{frame_bytes};
 ghost use Rattle.page_map.specs.Entries.{IsPageMap, IsFreshTable};
 
@@ -10,6 +10,7 @@ use page_map::{
 use page_words::{Frame, Page};
 use phys_memory::{Memory, MemoryFault};
 use std::alloc::Global;
+use std::process::Abort;
 use std::test::Fail;
 
 /// A memory of 16 blank frames, of which frame 1 is a directory that maps no page.
@@ -63,6 +64,16 @@ fn maps_a_page(rt: HostRuntime) -> Result<(), Fail> {
     Ok(())
 }
 
+/// A directory maps only this page.
+fn check_only_page(rt: &impl Abort, memory: &Memory, directory: Frame, page: Page)
+    requires map { IsPageMap memory.now directory }
+    requires page { page + 1 < 2 ^ 32 }
+{
+    assert!(rt; pages(memory, directory) == 1);
+    assert!(rt; next_page(memory, directory, Page(0)) == Some(page));
+    assert!(rt; next_page(memory, directory, Page(page.0 + 1)).is_none());
+}
+
 #[test]
 fn clears_a_page(rt: HostRuntime) -> Result<(), Fail> {
     let mut memory = empty_map(rt.alloc())?;
@@ -70,12 +81,10 @@ fn clears_a_page(rt: HostRuntime) -> Result<(), Fail> {
     link_table(&mut memory, directory, 256, Frame(2));
     assert!(rt; has_table(&memory, directory, 256));
     set_entry(&mut memory, directory, PAGE, MAPPED);
-    assert_eq!(rt; pages(&memory, directory), 1);
-    assert_eq!(rt; next_page(&memory, directory, Page(0)), Some(PAGE));
-    assert_eq!(rt; next_page(&memory, directory, Page(0x40001)), None);
+    check_only_page(&rt, &memory, directory, PAGE);
     assert!(rt; has_table(&memory, directory, 256));
-    assert_eq!(rt; clear_entry(&mut memory, directory, PAGE), Some(Frame(2)));
-    assert_eq!(rt; pages(&memory, directory), 0);
+    assert!(rt; clear_entry(&mut memory, directory, PAGE) == Some(Frame(2)));
+    assert!(rt; pages(&memory, directory) == 0);
     Ok(())
 }
 

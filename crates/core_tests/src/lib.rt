@@ -1,6 +1,6 @@
-//! Tests of the crates from address spaces to scripts: an example of each call, and readers, writers and allocators
-//! that fail. They have a crate of their own, so that each of those crates is proved once. The scripts of `checks/`
-//! compare the replies of long runs.
+//! Tests of the crates from address spaces to scripts and guests: an example of each call, and readers, writers and
+//! allocators that fail. They have a crate of their own, so that each of those crates is proved once. The scripts of
+//! `checks/` compare the replies of long runs.
 #![tactic(auto)]
 
 #[cfg(test)]
@@ -9,6 +9,8 @@ mod act_tests;
 mod common;
 #[cfg(test)]
 mod frame_tests;
+#[cfg(test)]
+mod guest_tests;
 #[cfg(test)]
 mod kernel_tests;
 #[cfg(test)]

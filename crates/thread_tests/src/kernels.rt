@@ -4,7 +4,7 @@
 ghost use Rattle.std.specs.Prelude.{◌≡◌};
 
 use guest_cpu::{End, Guest, Instruction, run};
-use kernel_calls::{Call, Core, Reply};
+use kernel_calls::{Call, Reply};
 use locked_core::{
     Blank, Boot, Cpu, CpuPort, Fault, Gate, History, Kernel, Monitor, Name, OpenGate, Seen,
 };
@@ -105,16 +105,6 @@ pub(crate) fn ended<N: Name, R: Wait + Abort>(
         turns,
         &mut CpuPort::new(rt, cpu, kernel),
     )
-}
-
-/// Runs a guest on a core for so many turns.
-pub(crate) fn run_on(
-    core: &mut Core,
-    guest: &mut Guest,
-    program: &[Instruction],
-    turns: u32,
-) -> End {
-    run(guest, program, turns, core)
 }
 
 /// Gives a monitor what a CPU has seen.

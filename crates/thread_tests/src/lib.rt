@@ -1,9 +1,7 @@
-//! Tests of the crates of guests, kernels and races, by their public calls. They have a crate of their own, so that
-//! each of those crates is proved once.
+//! Tests of kernels in threads, by their public calls. They have a crate of their own, so that the crates that they use
+//! are proved once.
 #![tactic(auto)]
 
-#[cfg(test)]
-mod alone_tests;
 #[cfg(test)]
 mod audit_gate_tests;
 #[cfg(test)]
@@ -17,15 +15,11 @@ mod fork_tests;
 #[cfg(test)]
 mod gate_tests;
 #[cfg(test)]
-mod guest_tests;
-#[cfg(test)]
 mod kernel_tests;
 #[cfg(test)]
 mod kernels;
 #[cfg(test)]
 mod memory_tests;
-#[cfg(test)]
-mod round_tests;
 #[cfg(test)]
 mod snapshot_tests;
 #[cfg(test)]

@@ -1,6 +1,6 @@
 //! Rounds on the smallest and the largest memory, sizes that no kernel has, and who is asked in a round.
 
-use crate::kernels::same;
+use crate::comparing::same;
 use guest_race::{Referee, RoundFault, round, round_by};
 use integrity_checker::{Audit, AuditFault, Helper, Verdict};
 use locked_core::{Monitor, Name, Seen};

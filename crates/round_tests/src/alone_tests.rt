@@ -2,11 +2,12 @@
 
 ghost use Rattle.std.specs.Prelude.{◌≡◌};
 
-use crate::kernels::{booted, closed, ended, opened, process, put, run_on, same, taken};
-use guest_cpu::{End, Guest, Instruction};
+use crate::comparing::same;
+use guest_cpu::{End, Guest, Instruction, run};
 use guest_race::{opening, program_of};
 use kernel_calls::{Core, Reply};
-use locked_core::{Blank, Boot, Cpu, Kernel, Name, OpenGate};
+use locked_core::{Blank, Boot, Cpu, CpuPort, Kernel, Name, OpenGate};
+use page_words::Pid;
 use std::marker::Brand;
 use std::process::Abort;
 use std::sync::Wait;
@@ -14,6 +15,10 @@ use std::test::Fail;
 
 /// How many turns each guest has: one that is alone has nothing to do after the first of them.
 const TURNS: u32 = 30_000;
+
+fn process<R: Abort>(rt: &R, number: u8) -> Pid {
+    Pid::new(number).expect(rt, "a process")
+}
 
 /// The program of the guest of a process: that of process 0 begins with 0, the other with 1.
 fn program(number: u8) -> [Instruction; 13] {
@@ -40,7 +45,7 @@ fn check_end<R: Abort>(rt: &R, end: End, number: u8) {
 /// A guest of a process that runs alone on the core runs out of turns.
 fn check_on_core<R: Abort>(rt: &R, core: &mut Core, number: u8) {
     let mut guest = Guest::new(number, process(rt, number));
-    let end = run_on(core, &mut guest, &program(number), TURNS);
+    let end = run(&mut guest, &program(number), TURNS, core);
     check_end(rt, end, number);
 }
 
@@ -67,9 +72,23 @@ fn check_on_kernel<N: Name, R: Wait + Abort>(
     cpu: &mut Cpu<N>,
     number: u8,
 ) {
-    let pid = process(rt, number);
-    let end = ended(rt, kernel, cpu, pid, &program(number), TURNS);
+    let mut guest = Guest::new(cpu.number(), process(rt, number));
+    let mut port = CpuPort::new(rt, cpu, kernel);
+    let end = run(&mut guest, &program(number), TURNS, &mut port);
     check_end(rt, end, number);
+}
+
+/// The kernel closes with these CPUs.
+fn check_closed<N: Name, R: Wait + Abort>(
+    rt: &R,
+    kernel: Kernel<N, OpenGate>,
+    mut cpus: Vec<Cpu<N>>,
+    first: Cpu<N>,
+    second: Cpu<N>,
+) {
+    cpus.push(first).expect(rt, "a place");
+    cpus.push(second).expect(rt, "a place");
+    assert!(rt; kernel.close(rt, cpus).is_ok());
 }
 
 /// The calls before the guests run, and then one guest behind the other, each on its CPU.
@@ -80,16 +99,21 @@ fn one_by_one<N: Name, R: Wait + Abort>(rt: &R, blank: Blank<OpenGate>)
         kernel,
         mut cpus,
         monitors: _,
-    } = opened::<N, OpenGate, R>(rt, blank);
-    let mut second = taken(rt, &mut cpus);
-    let mut first = taken(rt, &mut cpus);
+    } = blank.open::<N, R>(rt).expect(rt, "no memory");
+    let mut second = cpus.pop().expect(rt, "a CPU");
+    let mut first = cpus.pop().expect(rt, "a CPU");
     open_kernel(rt, &kernel, &mut first);
     check_on_kernel(rt, &kernel, &mut first, 0);
     check_on_kernel(rt, &kernel, &mut second, 1);
-    closed(rt, kernel, put(rt, put(rt, cpus, first), second));
+    check_closed(rt, kernel, cpus, first, second);
+}
+
+/// Boots a kernel of 16 frames and two CPUs.
+fn booted<R: AllocGlobal + Wait + Abort>(rt: &R) -> Blank<OpenGate> {
+    Kernel::<Brand, OpenGate>::boot(rt, rt.alloc(), 16, 2, 0, OpenGate).expect(rt, "not booted")
 }
 
 #[test]
 fn guests_of_a_kernel_one_after_the_other_run_out_of_turns(rt: HostRuntime) {
-    one_by_one::<Brand, HostRuntime>(&rt, booted(&rt, 16, 2, 0, OpenGate));
+    one_by_one::<Brand, HostRuntime>(&rt, booted(&rt));
 }

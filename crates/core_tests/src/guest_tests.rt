@@ -3,7 +3,7 @@
 ghost use Rattle.std.specs.Prelude.{◌≡◌, true, if◌then◌else◌, Ok, Err};
 ghost use Rattle.kernel_calls.specs.declared.calls.Reply.TheVariants.{Value};
 
-use crate::kernels::{run_on, same};
+use crate::common::same;
 use guest_cpu::{End, Guest, Instruction, Port, PortFault, Reg, run};
 use kernel_calls::{Call, Cause, Core, Event, Reply};
 use page_words::{Pid, Size, Vaddr};
@@ -55,6 +55,11 @@ fn registers<R: Abort>(rt: &R) -> [Reg; 8] {
 
 fn booted<R: AllocGlobal + Abort>(rt: &R) -> Core {
     Core::boot(rt.alloc(), 16).ok().expect(rt, "memory")
+}
+
+/// Runs a guest on a core for so many turns.
+fn run_on(core: &mut Core, guest: &mut Guest, program: &[Instruction], turns: u32) -> End {
+    run(guest, program, turns, core)
 }
 
 /// Stores 7 at an address and loads it again, in five instructions.
