@@ -9,8 +9,6 @@ mod contention_tests;
 #[cfg(test)]
 mod ending_tests;
 #[cfg(test)]
-mod fault_tests;
-#[cfg(test)]
 mod fork_tests;
 #[cfg(test)]
 mod gate_tests;
