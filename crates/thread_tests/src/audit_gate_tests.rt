@@ -1,4 +1,4 @@
-//! A call that is held under the lock, while two helpers in two threads audit an earlier snapshot.
+//! Two helpers in two threads that audit an image: by themselves, and while a call is held under the lock.
 
 ghost use Rattle.std.specs.Prelude.{◌≡◌, All};
 ghost use Rattle.integrity_checker.specs.Steps.{IsOf};
@@ -9,7 +9,7 @@ use crate::kernels::{
 use crate::two_helpers::{begun, check_sound, put, stepped};
 use crate::{kernels, two_helpers};
 use integrity_checker::{Audit, Helper};
-use kernel_calls::Reply;
+use kernel_calls::{Core, Reply};
 use locked_core::{Blank, Boot, Cpu, Gate, Kernel, Name, Point};
 use memory_image::Image;
 use std::alloc::{AllocError, Global};
@@ -39,7 +39,7 @@ fn is_reached(number: &AtomicU64, height: u64) -> bool {
 struct Flags {
     /// 1 where calls are to be held.
     armed: AtomicU64,
-    /// 1 where a call is held at Locked.
+    /// 1 where a call is held at Locked, so that the helpers may begin.
     held: AtomicU64,
     /// How many helpers have ended.
     ended: AtomicU64,
@@ -145,11 +145,36 @@ fn judge_beside<N: Name + Send + Sync, R: Threads + Wait + Abort + Sync>(
     )
 }
 
-/// Both helpers saw the held call, checked all 64 numbers together, and the call went on because they had ended.
-fn check_judged<R: Abort>(rt: &R, held: (bool, bool), checked: (u64, u64), flags: &Flags) {
-    let let_go = flags.let_go.load(Ordering::SeqCst);
-    let found = (held, checked.0.wrapping_add(checked.1), let_go);
-    same(rt, &found, &((true, true), 64, 1));
+/// Both helpers saw that they may begin, and checked all 64 numbers together.
+fn check_judged<R: Abort>(rt: &R, held: (bool, bool), checked: (u64, u64)) {
+    let found = (held, checked.0.wrapping_add(checked.1));
+    same(rt, &found, &((true, true), 64));
+}
+
+/// The held call went on because both helpers had ended.
+fn check_let_go<R: Abort>(rt: &R, flags: &Flags) {
+    same(rt, &flags.let_go.load(Ordering::SeqCst), &1);
+}
+
+/// Audits an image by two helpers in two threads.
+fn audit_in_threads<R: AllocGlobal + Threads + Abort + Sync>(rt: &R, image: Image, flags: &Flags) {
+    let (audit, mut helpers) = begun(rt, image);
+    let two = two_helpers::taken(rt, &audit, &mut helpers);
+    let one = two_helpers::taken(rt, &audit, &mut helpers);
+    let (first, second) = judge_both(rt, &audit, one, two, flags);
+    check_judged(rt, (first.1, second.1), (first.2, second.2));
+    let helpers = put(rt, &audit, helpers, first.0);
+    let helpers = put(rt, &audit, helpers, second.0);
+    check_sound(rt, audit, helpers);
+}
+
+#[test]
+fn two_helpers_audit_in_two_threads(rt: HostRuntime) -> Result<(), Fail> {
+    let core = Core::boot(rt.alloc(), 16)?;
+    let flags = Flags::new();
+    flags.held.store(1, Ordering::SeqCst);
+    audit_in_threads(&rt, Image::of(rt.alloc(), &core)?, &flags);
+    Ok(())
 }
 
 /// The helpers of an audit, one after the other, after they checked in two threads during a held call.
@@ -167,7 +192,8 @@ fn judged<N: Name + Send + Sync, R: Threads + Wait + Abort + Sync>(
     let two = two_helpers::taken(rt, audit, &mut helpers);
     let one = two_helpers::taken(rt, audit, &mut helpers);
     let (cpu, (first, second)) = judge_beside(rt, kernel, cpu, audit, one, two, flags);
-    check_judged(rt, (first.1, second.1), (first.2, second.2), flags);
+    check_judged(rt, (first.1, second.1), (first.2, second.2));
+    check_let_go(rt, flags);
     let helpers = put(rt, audit, helpers, first.0);
     (cpu, put(rt, audit, helpers, second.0))
 }
