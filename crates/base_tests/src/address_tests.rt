@@ -1,4 +1,5 @@
 //! Addresses and their parts.
+use crate::comparing::same;
 use page_words::{
     Page, Pid, Size, Vaddr, in_user_range, index_of, offset_of, page_of, second_page, slot_of,
     start_of,
@@ -8,12 +9,13 @@ use page_words::{
 fn splits_the_last_user_address(rt: HostRuntime) {
     let last = Vaddr(0xefff_ffff);
     let page = page_of(last);
-    assert_eq!(rt; page, Page(0xeffff));
-    assert_eq!(rt;
-        (slot_of(page), index_of(page), offset_of(last)),
-        (959, 1023, 4095)
+    same(&rt, &page, &Page(0xeffff));
+    same(
+        &rt,
+        &(slot_of(page), index_of(page), offset_of(last)),
+        &(959, 1023, 4095),
     );
-    assert_eq!(rt; start_of(page), Vaddr(0xefff_f000));
+    same(&rt, &start_of(page), &Vaddr(0xefff_f000));
     assert!(rt; in_user_range(page));
     assert!(rt; !in_user_range(Page(0xf0000)));
 }
@@ -28,24 +30,27 @@ fn second(address: u32, size: Size) -> u32 {
 
 #[test]
 fn an_access_may_lie_in_two_pages(rt: HostRuntime) {
-    assert_eq!(rt;
-        [
+    same(
+        &rt,
+        &[
             second(0x4000_0ffc, Size::Four),
             second(0x4000_0ffd, Size::Four),
-            second(u32::MAX, Size::Two)
+            second(u32::MAX, Size::Two),
         ],
-        [0, 0x40001, 0x100000]
+        &[0, 0x40001, 0x100000],
     );
-    assert_eq!(rt;
-        [Size::One, Size::Two, Size::Four].map(|size| size.bytes()),
-        [1, 2, 4]
+    same(
+        &rt,
+        &[Size::One, Size::Two, Size::Four].map(|size| size.bytes()),
+        &[1, 2, 4],
     );
 }
 
 #[test]
 fn numbers_processes_below_64(rt: HostRuntime) {
-    assert_eq!(rt;
-        [0, 63, 64].map(|number| Pid::new(number).map(|pid| pid.number())),
-        [Some(0), Some(63), None]
+    same(
+        &rt,
+        &[0, 63, 64].map(|number| Pid::new(number).map(|pid| pid.number())),
+        &[Some(0), Some(63), None],
     );
 }

@@ -2,6 +2,7 @@
 
 ghost use Rattle.std.specs.Prelude.{◌≡◌, ◌<◌, length, Some, slice_get};
 
+use crate::comparing::same;
 use alloc_table::{FrameTable, Role, weights_add_up};
 use page_words::{Frame, MachineFault, Pid, WideFault};
 use std::process::Abort;
@@ -12,7 +13,7 @@ const PAGE: Role = Role::Page { count: 1 };
 /// Takes a frame for a page of one holder.
 fn take_page(rt: &impl Abort, table: &mut FrameTable) {
     let frame = table.take(PAGE).expect(rt, "a frame is free");
-    assert_eq!(rt; table.role(frame), PAGE);
+    same(rt, &table.role(frame), &PAGE);
 }
 
 /// A frame has this role.
@@ -34,7 +35,7 @@ fn frees_a_page_with_its_last_holder(rt: HostRuntime) -> Result<(), Fail> {
     check_role(&rt, &table, frame, PAGE);
     assert!(rt; table.release(frame));
     check_role(&rt, &table, frame, Role::Free);
-    assert_eq!(rt; table.free_count(), 15);
+    same(&rt, &table.free_count(), &15);
     Ok(())
 }
 
@@ -49,7 +50,7 @@ fn take_all(rt: &impl Abort, table: &mut FrameTable) {
 fn gives_each_frame_once(rt: HostRuntime) -> Result<(), Fail> {
     let mut table = FrameTable::new(rt.alloc(), 16)?;
     take_all(&rt, &mut table);
-    assert_eq!(rt; (table.free_count(), table.take(PAGE)), (0, None));
+    same(&rt, &(table.free_count(), table.take(PAGE)), &(0, None));
     table.within();
     Ok(())
 }
@@ -77,10 +78,14 @@ fn has_the_roles_that_it_is_given(rt: HostRuntime) -> Result<(), Fail> {
     roles[0] = Role::Reserved;
     roles[3] = PAGE;
     let mut table = FrameTable::of_roles(rt.alloc(), roles)?;
-    assert_eq!(rt; (table.role(Frame(3)), table.free_count()), (PAGE, 14));
+    same(
+        &rt,
+        &(table.role(Frame(3)), table.free_count()),
+        &(PAGE, 14),
+    );
     assert!(rt; table.role(Frame(3)) == PAGE);
     assert!(rt; table.release(Frame(3)));
-    assert_eq!(rt; table.free_count(), 15);
+    same(&rt, &table.free_count(), &15);
     Ok(())
 }
 
@@ -89,14 +94,15 @@ fn takes_more_frames_where_it_is_wide(rt: HostRuntime) {
     let sizes = [15, 4097, 1048576, 1048577].map(|frames| FrameTable::wide(rt.alloc(), frames).map(
         |table| table.free_count(),
     ));
-    assert_eq!(rt;
-        sizes,
-        [
+    same(
+        &rt,
+        &sizes,
+        &[
             Err(WideFault::BadSize),
             Ok(4096),
             Ok(1048575),
-            Err(WideFault::BadSize)
-        ]
+            Err(WideFault::BadSize),
+        ],
     );
 }
 
@@ -105,14 +111,15 @@ fn takes_16_to_4096_frames(rt: HostRuntime) {
     let sizes = [15, 16, 4096, 4097].map(|frames| FrameTable::new(rt.alloc(), frames).map(
         |table| table.free_count(),
     ));
-    assert_eq!(rt;
-        sizes,
-        [
+    same(
+        &rt,
+        &sizes,
+        &[
             Err(MachineFault::BadSize),
             Ok(15),
             Ok(4095),
-            Err(MachineFault::BadSize)
-        ]
+            Err(MachineFault::BadSize),
+        ],
     );
 }
 
@@ -123,9 +130,9 @@ fn takes_16_to_4096_frames(rt: HostRuntime) {
 fn goes_on_after_want_of_memory(rt: HostRuntime) -> Result<(), Fail> {
     let first = FrameTable::new(rt.alloc(), 16).map(|table| table.free_count());
     if first.is_err() {
-        assert_eq!(rt; first, Err(MachineFault::NoMemory));
+        same(&rt, &first, &Err(MachineFault::NoMemory));
         let again = FrameTable::new(rt.alloc(), 16).map(|table| table.free_count());
-        assert_eq!(rt; again, Ok(15));
+        same(&rt, &again, &Ok(15));
         println!(rt; "NoMemory, and then a table")?;
     }
     Ok(())

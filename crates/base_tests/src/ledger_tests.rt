@@ -2,6 +2,7 @@
 
 ghost use Rattle.std.specs.Prelude.{◌≡◌, length};
 
+use crate::comparing::same;
 use frame_ledger::Ledger;
 use page_words::{Frame, MachineFault, WideFault};
 use std::process::Abort;
@@ -19,7 +20,7 @@ fn take_all(rt: &impl Abort, ledger: &mut Ledger) {
 fn takes_each_frame_once(rt: HostRuntime) -> Result<(), Fail> {
     let mut ledger = Ledger::new(rt.alloc(), 16)?;
     take_all(&rt, &mut ledger);
-    assert_eq!(rt; (ledger.free_count(), ledger.take()), (0, None));
+    same(&rt, &(ledger.free_count(), ledger.take()), &(0, None));
     Ok(())
 }
 
@@ -29,7 +30,7 @@ fn takes_again_what_was_put_back(rt: HostRuntime) -> Result<(), Fail> {
     let frame = ledger.take().ok_or("a frame is free")?;
     ledger.put_back(frame);
     assert!(rt; ledger.is_free(frame));
-    assert_eq!(rt; ledger.free_count(), 15);
+    same(&rt, &ledger.free_count(), &15);
     ledger.within();
     Ok(())
 }
@@ -37,11 +38,15 @@ fn takes_again_what_was_put_back(rt: HostRuntime) -> Result<(), Fail> {
 #[test]
 fn a_full_ledger_has_only_what_is_put_back(rt: HostRuntime) -> Result<(), Fail> {
     let mut ledger = Ledger::full(rt.alloc(), 16)?;
-    assert_eq!(rt; (ledger.free_count(), ledger.take()), (0, None));
+    same(&rt, &(ledger.free_count(), ledger.take()), &(0, None));
     assert!(rt; !ledger.is_free(Frame(3)));
     ledger.put_back(Frame(3));
-    assert_eq!(rt; ledger.free_count(), 1);
-    assert_eq!(rt; (ledger.take(), ledger.take()), (Some(Frame(3)), None));
+    same(&rt, &ledger.free_count(), &1);
+    same(
+        &rt,
+        &(ledger.take(), ledger.take()),
+        &(Some(Frame(3)), None),
+    );
     Ok(())
 }
 
@@ -50,14 +55,15 @@ fn takes_more_frames_where_it_is_wide(rt: HostRuntime) {
     let sizes = [15, 4097, 1048576, 1048577].map(|frames| Ledger::wide(rt.alloc(), frames).map(
         |ledger| ledger.free_count(),
     ));
-    assert_eq!(rt;
-        sizes,
-        [
+    same(
+        &rt,
+        &sizes,
+        &[
             Err(WideFault::BadSize),
             Ok(4096),
             Ok(1048575),
-            Err(WideFault::BadSize)
-        ]
+            Err(WideFault::BadSize),
+        ],
     );
 }
 
@@ -66,14 +72,15 @@ fn takes_16_to_4096_frames(rt: HostRuntime) {
     let sizes = [15, 16, 4096, 4097].map(|frames| Ledger::new(rt.alloc(), frames).map(
         |ledger| ledger.free_count(),
     ));
-    assert_eq!(rt;
-        sizes,
-        [
+    same(
+        &rt,
+        &sizes,
+        &[
             Err(MachineFault::BadSize),
             Ok(15),
             Ok(4095),
-            Err(MachineFault::BadSize)
-        ]
+            Err(MachineFault::BadSize),
+        ],
     );
 }
 
@@ -93,7 +100,7 @@ fn take_one(rt: &impl Abort, ledger: &mut Ledger, marks: &mut [bool]) -> Option<
     ensures { ledger.new.frames ≡ ledger.old.frames }
 {
     let found = ledger.take();
-    assert_eq!(rt; found.is_some(), marks.iter().any(|mark| *mark));
+    same(rt, &found.is_some(), &marks.iter().any(|mark| *mark));
     let frame = found?;
     let place = frame.0 as usize;
     assert!(rt; place < marks.len());
@@ -143,7 +150,7 @@ fn take_or_return(
 }
 
 fn check_count(rt: &impl Abort, ledger: &Ledger, marks: &[bool]) {
-    assert_eq!(rt; ledger.free_count() as usize, count_free(marks));
+    same(rt, &(ledger.free_count() as usize), &count_free(marks));
 }
 
 /// Takes and returns many frames at random, in phases of mostly takes and mostly returns.
@@ -182,9 +189,9 @@ fn agrees_with_a_scan_of_4096_frames(rt: HostRuntime) -> Result<(), Fail> {
 fn goes_on_after_want_of_memory(rt: HostRuntime) -> Result<(), Fail> {
     let first = Ledger::new(rt.alloc(), 16).map(|ledger| ledger.free_count());
     if first.is_err() {
-        assert_eq!(rt; first, Err(MachineFault::NoMemory));
+        same(&rt, &first, &Err(MachineFault::NoMemory));
         let again = Ledger::new(rt.alloc(), 16).map(|ledger| ledger.free_count());
-        assert_eq!(rt; again, Ok(15));
+        same(&rt, &again, &Ok(15));
         println!(rt; "NoMemory, and then a ledger")?;
     }
     Ok(())

@@ -6,6 +6,8 @@
 #[cfg(test)]
 mod address_tests;
 #[cfg(test)]
+mod comparing;
+#[cfg(test)]
 mod fault_tests;
 #[cfg(test)]
 mod frame_table_tests;

@@ -1,4 +1,5 @@
 //! Physical memory, byte by byte.
+use crate::comparing::same;
 use page_words::{Frame, WideFault};
 use phys_memory::{FRAME_BYTES, Memory, MemoryFault};
 use std::alloc::Global;
@@ -9,16 +10,18 @@ fn writes_and_copies(rt: HostRuntime) -> Result<(), Fail> {
     let mut memory = Memory::new(rt.alloc(), 16)?;
     memory.write_word(0x3ffe, 0x3267);
     memory.write_byte(0x4000, 0xab);
-    assert_eq!(rt; memory.read_word(0x3ffe), 0x00ab_3267);
+    same(&rt, &memory.read_word(0x3ffe), &0x00ab_3267);
     memory.copy_frame(Frame(4), Frame(15));
     memory.zero_frame(Frame(4));
-    assert_eq!(rt;
-        [memory.read_byte(0x3ffe), memory.read_byte(0x3fff)],
-        [0x67, 0x32]
+    same(
+        &rt,
+        &[memory.read_byte(0x3ffe), memory.read_byte(0x3fff)],
+        &[0x67, 0x32],
     );
-    assert_eq!(rt;
-        [memory.read_byte(0x4000), memory.read_byte(0xf000)],
-        [0x00, 0xab]
+    same(
+        &rt,
+        &[memory.read_byte(0x4000), memory.read_byte(0xf000)],
+        &[0x00, 0xab],
     );
     Ok(())
 }
@@ -28,10 +31,11 @@ fn holds_the_bytes_that_it_is_given(rt: HostRuntime) -> Result<(), Fail> {
     let mut bytes = vec![in rt.alloc(); 0u8; 65536]?;
     bytes[0x4000] = 0xab;
     let memory = Memory::of_bytes(bytes, 16);
-    assert_eq!(rt; memory.frames(), 16);
-    assert_eq!(rt;
-        [memory.read_byte(0x3fff), memory.read_byte(0x4000)],
-        [0x00, 0xab]
+    same(&rt, &memory.frames(), &16);
+    same(
+        &rt,
+        &[memory.read_byte(0x3fff), memory.read_byte(0x4000)],
+        &[0x00, 0xab],
     );
     Ok(())
 }
@@ -48,15 +52,16 @@ fn blank(alloc: Global, frames: u32) -> Result<u32, MemoryFault> {
 #[test]
 fn has_16_to_4096_frames(rt: HostRuntime) {
     let sizes = [0, 15, 16, 4096, 4097].map(|frames| blank(rt.alloc(), frames));
-    assert_eq!(rt;
-        sizes,
-        [
+    same(
+        &rt,
+        &sizes,
+        &[
             Err(MemoryFault::BadSize),
             Err(MemoryFault::BadSize),
             Ok(16),
             Ok(4096),
-            Err(MemoryFault::BadSize)
-        ]
+            Err(MemoryFault::BadSize),
+        ],
     );
 }
 
@@ -65,9 +70,10 @@ fn has_more_frames_where_it_is_wide(rt: HostRuntime) {
     let sizes = [15, 5000, 1048577].map(|frames| Memory::wide(rt.alloc(), frames).map(
         |memory| memory.frames(),
     ));
-    assert_eq!(rt;
-        sizes,
-        [Err(WideFault::BadSize), Ok(5000), Err(WideFault::BadSize)]
+    same(
+        &rt,
+        &sizes,
+        &[Err(WideFault::BadSize), Ok(5000), Err(WideFault::BadSize)],
     );
 }
 
@@ -78,9 +84,9 @@ fn has_more_frames_where_it_is_wide(rt: HostRuntime) {
 fn goes_on_after_want_of_memory(rt: HostRuntime) -> Result<(), Fail> {
     let first = Memory::new(rt.alloc(), 16).map(|memory| memory.frames());
     if first.is_err() {
-        assert_eq!(rt; first, Err(MemoryFault::NoMemory));
+        same(&rt, &first, &Err(MemoryFault::NoMemory));
         let again = Memory::new(rt.alloc(), 16).map(|memory| memory.frames());
-        assert_eq!(rt; again, Ok(16));
+        same(&rt, &again, &Ok(16));
         println!(rt; "NoMemory, and then a memory")?;
     }
     Ok(())

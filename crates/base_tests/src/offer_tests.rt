@@ -1,4 +1,5 @@
 //! Offers, and which of them go.
+use crate::comparing::same;
 use page_sharing::{OfferFault, Offers};
 use page_words::{Page, Pid};
 use std::process::Abort;
@@ -26,7 +27,7 @@ fn check_right(
     target: Pid,
     right: Option<bool>,
 ) {
-    assert_eq!(rt; offers.get(giver, page, target), right);
+    same(rt, &offers.get(giver, page, target), &right);
 }
 
 /// Why an offer can't be made.
@@ -38,7 +39,7 @@ fn check_fault(
     target: Pid,
     fault: OfferFault,
 ) {
-    assert_eq!(rt; offers.can_offer(giver, page, target), Err(fault));
+    same(rt, &offers.can_offer(giver, page, target), &Err(fault));
 }
 
 #[test]
@@ -51,7 +52,7 @@ fn gives_each_right_once(rt: HostRuntime) {
     check_fault(&rt, &offers, giver, LOW, target, OfferFault::OfferPending);
     let first = offers.take(giver, LOW, target);
     let again = offers.take(giver, LOW, target);
-    assert_eq!(rt; (first, again), (Ok(true), Err(OfferFault::NoOffer)));
+    same(&rt, &(first, again), &(Ok(true), Err(OfferFault::NoOffer)));
 }
 
 #[test]
@@ -61,7 +62,7 @@ fn withdraws_an_offer_once(rt: HostRuntime) {
     offer(&rt, &mut offers, giver, LOW, target, false);
     let first = offers.withdraw(giver, LOW, target);
     let again = offers.withdraw(giver, LOW, target);
-    assert_eq!(rt; (first, again), (Ok(()), Err(OfferFault::NoOffer)));
+    same(&rt, &(first, again), &(Ok(()), Err(OfferFault::NoOffer)));
 }
 
 #[test]

@@ -3,6 +3,7 @@ ghost use Rattle.std.specs.Prelude.{◌≡◌, ◌+◌, ◌<◌, ◌^◌, IfOk, 
 ghost use Rattle.phys_memory.specs.Bytes.{frame_bytes};
 ghost use Rattle.page_map.specs.Entries.{IsPageMap, IsFreshTable};
 
+use crate::comparing::same;
 use page_map::{
     PageEntry, clear_entry, entry, has_table, link_table, next_page, pages, set_entry,
     words_present,
@@ -41,7 +42,7 @@ fn links_a_table(rt: HostRuntime) -> Result<(), Fail> {
     let directory = Frame(1);
     assert!(rt; !has_table(&memory, directory, 256));
     link_table(&mut memory, directory, 256, Frame(2));
-    assert_eq!(rt; memory.read_word(0x1400), 0x2007);
+    same(&rt, &memory.read_word(0x1400), &0x2007);
     assert!(rt; has_table(&memory, directory, 256));
     Ok(())
 }
@@ -53,10 +54,10 @@ fn maps_a_page(rt: HostRuntime) -> Result<(), Fail> {
     link_table(&mut memory, directory, 256, Frame(2));
     assert!(rt; has_table(&memory, directory, 256));
     set_entry(&mut memory, directory, PAGE, MAPPED);
-    assert_eq!(rt; memory.read_word(0x2000), 0x3a07);
+    same(&rt, &memory.read_word(0x2000), &0x3a07);
     match entry(&memory, directory, PAGE) {
         Some(PageEntry { frame, write, .. }) => {
-            assert_eq!(rt; frame, Frame(3));
+            same(&rt, &frame, &Frame(3));
             assert!(rt; write);
         }
         None => assert!(rt; false, "the page is mapped"),
@@ -92,11 +93,11 @@ fn clears_a_page(rt: HostRuntime) -> Result<(), Fail> {
 #[test]
 fn counts_the_present_words_of_a_table(rt: HostRuntime) -> Result<(), Fail> {
     let mut memory = Memory::new(rt.alloc(), 16)?;
-    assert_eq!(rt; words_present(&memory, Frame(2)), 0);
+    same(&rt, &words_present(&memory, Frame(2)), &0);
     memory.write_word(0x2000, 0x3a67);
     memory.write_word(0x2004, 0x3a66);
     memory.write_word(0x2ffc, 0x0605);
     memory.write_word(0x3000, 0x3a67);
-    assert_eq!(rt; words_present(&memory, Frame(2)), 2);
+    same(&rt, &words_present(&memory, Frame(2)), &2);
     Ok(())
 }

@@ -1,5 +1,6 @@
 //! Lines built from words and numbers, and a writer that fails after so many bytes.
 
+use crate::comparing::same;
 use crate::streams::{BrokenWriter, Pieces};
 use arrayvec::ArrayVec;
 use std::process::Abort;
@@ -12,9 +13,10 @@ fn lines_are_words_and_numbers(rt: HostRuntime) {
     push_number(&mut line, "from ", 0);
     push_word(&mut line, " to ");
     push_decimal(&mut line, u64::MAX);
-    assert_eq!(rt;
-        line.as_slice(),
-        b"from 0 to 18446744073709551615".as_slice()
+    same(
+        &rt,
+        &line.as_slice(),
+        &b"from 0 to 18446744073709551615".as_slice(),
     );
 }
 
@@ -27,8 +29,8 @@ fn check(rt: &impl Abort, text: &[u8], left: usize, written: &[u8]) {
     } else {
         Err(WriteFailed)
     };
-    assert_eq!(rt; ended, expected);
-    assert_eq!(rt; writer.written.as_slice(), written);
+    same(rt, &ended, &expected);
+    same(rt, &writer.written.as_slice(), &written);
 }
 
 #[test]

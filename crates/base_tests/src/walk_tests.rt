@@ -1,4 +1,5 @@
 //! The walk and the mark on words in memory.
+use crate::comparing::same;
 use page_words::{DirWord, Frame, Vaddr};
 use phys_memory::Memory;
 use std::alloc::Global;
@@ -23,7 +24,7 @@ fn fault(code: u8) -> End {
 /// A memory of 16 frames, with a word of the directory in frame 1 and one of the table in frame 2.
 fn memory_of(rt: &impl Abort, alloc: Global, dir_word: u32, table_word: u32) -> Memory {
     let mut memory = Memory::new(alloc, 16).ok().expect(rt, "a memory");
-    assert_eq!(rt; memory.frames(), 16);
+    same(rt, &memory.frames(), &16);
     memory.write_word(5120, dir_word);
     memory.write_word(8192, table_word);
     memory
@@ -32,9 +33,10 @@ fn memory_of(rt: &impl Abort, alloc: Global, dir_word: u32, table_word: u32) -> 
 /// With these two words a walk for a read ends so, and one for a write so.
 fn check<R: AllocGlobal + Abort>(rt: &R, dir_word: u32, table_word: u32, read: End, write: End) {
     let memory = memory_of(rt, rt.alloc(), dir_word, table_word);
-    assert_eq!(rt;
-        [Access::Read, Access::Write].map(|access| walk(&memory, Frame(1), ADDRESS, access)),
-        [read, write]
+    same(
+        rt,
+        &[Access::Read, Access::Write].map(|access| walk(&memory, Frame(1), ADDRESS, access)),
+        &[read, write],
     );
 }
 
@@ -50,7 +52,7 @@ fn walks_sixteen_frames(rt: HostRuntime) {
 
 /// Marks an access whose walk finds a frame that is none of the tables.
 fn mark_one(rt: &impl Abort, memory: &mut Memory, access: Access) {
-    assert_eq!(rt; memory.frames(), 16);
+    same(rt, &memory.frames(), &16);
     let table = DirWord::read(memory.read_word(5120)).frame();
     let end = walk(memory, Frame(1), ADDRESS, access);
     assert!(rt; matches!(end, Ok(frame) if frame != Frame(1) && frame != table));
@@ -61,12 +63,12 @@ fn mark_one(rt: &impl Abort, memory: &mut Memory, access: Access) {
 fn marked<R: AllocGlobal + Abort>(rt: &R, access: Access) -> [u32; 2] {
     let mut memory = memory_of(rt, rt.alloc(), 0x2007, 0x3207);
     mark_one(rt, &mut memory, access);
-    assert_eq!(rt; memory.frames(), 16);
+    same(rt, &memory.frames(), &16);
     [memory.read_word(5120), memory.read_word(8192)]
 }
 
 #[test]
 fn marks_accesses(rt: HostRuntime) {
-    assert_eq!(rt; marked(&rt, Access::Read), [0x2027, 0x3227]);
-    assert_eq!(rt; marked(&rt, Access::Write), [0x2027, 0x3267]);
+    same(&rt, &marked(&rt, Access::Read), &[0x2027, 0x3227]);
+    same(&rt, &marked(&rt, Access::Write), &[0x2027, 0x3267]);
 }

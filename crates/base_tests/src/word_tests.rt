@@ -1,4 +1,5 @@
 //! Page words, field by field.
+use crate::comparing::same;
 use page_words::{DirWord, Frame, TableWord};
 
 /// The fields of a table word: present, writable, the user's, `may`, accessed, dirty, and the frame.
@@ -17,14 +18,15 @@ fn fields(word: u32) -> [u32; 7] {
 
 #[test]
 fn reads_the_examples(rt: HostRuntime) {
-    assert_eq!(rt;
-        [0x3207, 0x3227, 0x3267, 0x3005].map(fields),
-        [
+    same(
+        &rt,
+        &[0x3207, 0x3227, 0x3267, 0x3005].map(fields),
+        &[
             [1, 1, 1, 1, 0, 0, 3],
             [1, 1, 1, 1, 1, 0, 3],
             [1, 1, 1, 1, 1, 1, 3],
-            [1, 0, 1, 0, 0, 0, 3]
-        ]
+            [1, 0, 1, 0, 0, 0, 3],
+        ],
     );
 }
 
@@ -54,8 +56,9 @@ fn link_word() -> u32 {
 fn sets_each_field(rt: HostRuntime) {
     let mut stored = TableWord::read(0x3a27);
     stored.set_dirty(true);
-    assert_eq!(rt;
-        [lazy_word(), link_word(), stored.word()],
-        [0xe25, 0x2007, 0x3a67]
+    same(
+        &rt,
+        &[lazy_word(), link_word(), stored.word()],
+        &[0xe25, 0x2007, 0x3a67],
     );
 }
