@@ -2,7 +2,9 @@
 
 ghost use Rattle.std.specs.Prelude.{◌≡◌};
 
-use crate::kernels::{booted, check_length, closed, opened, process, put, store, taken, watcher};
+use crate::kernels::{
+    booted, check_length, closed, opened, process, put, same, store, taken, watcher,
+};
 use kernel_calls::Call;
 use locked_core::{
     Blank, Boot, Cpu, Ended, Gate, Invalidate, Kernel, Monitor, Name, OpenGate, Point,
@@ -55,8 +57,8 @@ fn check_ends<N: Name, R: Wait + Abort>(
     ended: &Ended,
 ) {
     let told = cpu.call_ending(rt, kernel, process(rt, 0), call, listener);
-    assert_eq!(rt; told.map(|told| told.1), Ok(*ended));
-    assert_eq!(rt; listener.last, number_of(ended));
+    same(rt, &told.map(|told| told.1), &Ok(*ended));
+    same(rt, &listener.last, &number_of(ended));
 }
 
 /// A store fills a mapped page, and an Unmap unmaps it: both make its translation stale.
@@ -77,7 +79,7 @@ fn told<N: Name, R: Wait + Abort>(rt: &R, blank: Blank<OpenGate>, listener: &mut
     check_ends(rt, &kernel, &mut cpu, listener, store(8), &none);
     let unmap = Call::Unmap { page };
     check_ends(rt, &kernel, &mut cpu, listener, unmap, &own);
-    assert_eq!(rt; listener.count, 4);
+    same(rt, &listener.count, &4);
     check_length(rt, &closed(rt, kernel, put(rt, cpus, cpu)), 4);
 }
 
@@ -139,8 +141,8 @@ fn check_told<N: Name, R: Wait + Abort>(
     ended: &Ended,
 ) {
     let told = cpu.call_ending(rt, kernel, process(rt, by), call, watcher);
-    assert_eq!(rt; told.map(|told| told.1), Ok(*ended));
-    assert_eq!(rt; watcher.last, number_of(ended));
+    same(rt, &told.map(|told| told.1), &Ok(*ended));
+    same(rt, &watcher.last, &number_of(ended));
     assert!(rt; watcher.in_order);
 }
 
@@ -236,7 +238,7 @@ fn watched<N: Name, R: Wait + Abort>(
         pid: process(rt, 1),
     };
     check_told(rt, &kernel, &mut cpu, &mut listener, 1, Call::Exit, &gone);
-    assert_eq!(rt; listener.count, 8);
+    same(rt, &listener.count, &8);
     check_length(rt, &closed(rt, kernel, put(rt, cpus, cpu)), 8);
 }
 
