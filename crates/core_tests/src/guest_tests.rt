@@ -99,7 +99,7 @@ fn ran<R: AllocGlobal + Abort>(
 ) -> Outcome {
     let mut core = booted(rt);
     let mut guest = root_guest(rt);
-    let end = run_on(&mut core, &mut guest, program, turns);
+    let end = run(&mut guest, program, turns, &mut core);
     came_to(&guest, end, looked_at)
 }
 

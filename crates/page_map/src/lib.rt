@@ -216,13 +216,15 @@ fn copied_word(word: u32, frame: Frame) -> u32
     word.word()
 }
 
-/// Writes the entry that a table has for the copy of a page, by the page's word: with this frame, and untouched.
+/// Writes the entry that a table has for the copy of a page, by the page's word: with this frame, and untouched. Other
+/// frames keep their bytes, whatever the word.
 pub fn put_copy(memory: &mut Memory, table: Frame, page: Page, word: u32, frame: Frame)
     requires inside { 4096 * table + 4096 ≤ length memory.old }
     requires frame { frame < 2 ^ 20 }
     ensures frames { (e : PageEntry) → word ≡ entry_word e
         → frame_bytes memory.new ≡ with_entry (frame_bytes memory.old) table page
         (record e { frame = frame; accessed = false; dirty = false }) }
+    ensures others { (other : ℕ) → other ≢ table → frame_bytes memory.new other ≡ frame_bytes memory.old other }
     ensures length { length memory.new ≡ length memory.old }
 {
     set_word(memory, table, index_of(page), copied_word(word, frame));
