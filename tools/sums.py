@@ -5,7 +5,7 @@ that these name. So a verdict rests on the mutant, the functions that it changes
 the functions that they name, of their crate and public ones of those below, and the types and definitions that all of
 these reach by name. A name stands for every function that has it, in whatever file of its crate that is. A field's name
 counts where it is used as one, and a module's in no path. No other body counts, and no lemma. A mutant that changes
-text outside of any function rests on its whole crate instead, and on all that the crates below show to it.
+text outside of any function rests on its whole crate instead, and on the contracts below that its crate names.
 
 Comments count for nothing, nor do where a line ends and what is to be inlined.
 """
@@ -321,12 +321,13 @@ def own_texts(crate):
 
 
 def checksum_of(crate, below):
-    """The checksum of a crate's files, and of what the crates below it show to it."""
+    """The checksum of a crate's files, and of the types below it and the contracts there that it names."""
     texts = own_texts(crate)
+    named = set().union(*map(words_of, texts.values()))
     for it in below:
         for file in sources(it):
             imports, parts = source(file)
-            heads = " ".join(part.head for part in parts)
+            heads = " ".join(part.head for part in parts if not part.is_function or part.name in named)
             texts[file] = " ".join([heads, *sorted(used_imports(imports, words_of(heads)))])
     return sum_of(texts)
 
