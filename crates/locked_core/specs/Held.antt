@@ -19,9 +19,10 @@ pub record Unnamed : Type 0 where
   pub monitors : ℕ
   pub book : Names
 
--- a kernel that was closed: the entries of all its calls, and the core that they left
+-- a kernel that was closed: the entries of all its calls, those that were kept, and the core that they left
 pub record Closed : Type 0 where
   pub entries : List LogEntry
+  pub kept : List LogEntry
   pub core : View
 
 -- a kernel that its threads share: how many CPUs it has

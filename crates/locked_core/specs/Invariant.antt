@@ -1,11 +1,11 @@
 -- The invariant of a kernel under its lock, and of one that has no name yet, one fact a line.
-use Rattle.std.specs.Prelude.{◌≡◌, ℕ, ◌<◌, ◌≤◌, Bool, true, List, [], length}
+use Rattle.std.specs.Prelude.{◌≡◌, ℕ, ◌+◌, ◌<◌, ◌≤◌, Bool, true, List, [], length}
 use Rattle.logbook.specs.Pages.{Book}
 use Rattle.memory_report.specs.Histories.{Legal, state_after}
 use Rattle.memory_report.specs.declared.entries.LogEntry.{LogEntry}
 use Rattle.process_table.specs.State.{State, open_with}
 use Rattle.process_table.specs.View.{View}
-use Rattle.locked_core.specs.Counts.{counts_of}
+use Rattle.locked_core.specs.Counts.{Log, counts_of}
 use Rattle.locked_core.specs.Moments.{Follows, core_after, entries_in}
 use Rattle.locked_core.specs.declared.moment.Moment.{Moment}
 use Rattle.locked_core.specs.Pages.{Page, LagsBehind, page}
@@ -15,7 +15,7 @@ use Rattle.locked_core.specs.declared.rule.WhichKernel.{WhichKernel}
 -- What a kernel with so many frames and this book has under its lock: the core, its log and what it adds to the
 -- history. Also the total of the calls that its CPUs count as theirs, the number of each CPU's, and the two sides of what is published, of which
 -- readers see one.
-pub record IsUnderLock (frames : ℕ) (book : Book) (opening core : View) (log : List LogEntry) (added : List Moment) (total : ℕ) (tally : List ℕ) (is_watched : Bool) (side other : Page) (seat : WhichKernel) : Type 0 where
+pub record IsUnderLock (frames keeps : ℕ) (book : Book) (opening core : View) (log : List LogEntry) (held : ℕ) (added : List Moment) (total : ℕ) (tally : List ℕ) (is_watched : Bool) (side other : Page) (seat : WhichKernel) : Type 0 where
   pub legal : Legal frames log
   pub stands : core.state ≡ state_after frames log
   pub told : entries_in added ≡ log
@@ -32,9 +32,13 @@ pub record IsUnderLock (frames : ℕ) (book : Book) (opening core : View) (log :
   pub shown : is_watched ≡ true → side ≡ page frames book log
   pub lags : LagsBehind side (page frames book log)
   pub spare : LagsBehind other (page frames book log)
+  -- and the other side lacks only the last entry, which the log keeps
+  pub near : is_watched ≡ true → length log ≤ length other.log + 1
+  pub keeps_named : held ≡ keeps
+  pub keeps_two : 2 ≤ keeps
 
 -- a kernel that was made and has no name yet
-pub record IsMade (frames cpus : ℕ) (book : Book) (parts : ℕ) (core : State) (side other : Page) (seat : WhichKernel) : Type 0 where
+pub record IsMade (frames cpus : ℕ) (book : Book) (log : Log) (parts : ℕ) (core : State) (side other : Page) (seat : WhichKernel) : Type 0 where
   pub some : 0 < cpus
   pub few : cpus ≤ 8
   -- one part of the count for each CPU
@@ -42,6 +46,8 @@ pub record IsMade (frames cpus : ℕ) (book : Book) (parts : ℕ) (core : State)
   pub least : 16 ≤ frames
   pub most : frames ≤ 4096
   pub opening : core ≡ open_with frames
+  pub none : log.entries ≡ []
+  pub keeps_two : 2 ≤ log.keeps
   pub mine : seat ≡ view_of frames book
   pub shown : side ≡ page frames book []
   pub spare : other ≡ page frames book []

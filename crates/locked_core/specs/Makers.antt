@@ -1,5 +1,5 @@
 -- What a contract sees of a CPU, what a call that is made leaves, and when one is refused.
-use Rattle.std.specs.Prelude.{◌≡◌, ◌↔◌, ℕ, zero, suc, List, [], ◌∷◌, ◌++◌, length, take, sum_by, All, Any, Result, IsOk, IfErr}
+use Rattle.std.specs.Prelude.{◌≡◌, ◌↔◌, ◌<◌, ◌≤◌, ◌^◌, ℕ, zero, suc, List, [], ◌∷◌, ◌++◌, length, take, sum_by, All, Any, Result, IsOk, IfErr}
 use Rattle.kernel_calls.specs.declared.calls.Call.{Call}
 use Rattle.kernel_calls.specs.declared.calls.Reply.{Reply}
 use Rattle.locked_core.specs.declared.faults.Fault.{Fault}
@@ -66,6 +66,13 @@ abbrev pub IsRefused : ℕ → List LogEntry → Maker → Fault → Type 0
 IsRefused frames log cpu Unread = Unit {0}
 IsRefused frames log cpu NoMemory = Legal frames log × StartsWith log cpu.seen × (calls_of cpu.number log ≡ calls_of cpu.number cpu.seen)
 IsRefused frames log cpu Disagree = ⊥
+
+-- A kernel that keeps only so many of its last entries refuses a call for memory only if its log, of all calls that were
+-- made, has 2 ^ 62 entries.
+abbrev pub IsSpent : ℕ → List LogEntry → Fault → Type 0
+IsSpent keeps log NoMemory = keeps < 2 ^ 62 → 2 ^ 62 ≤ length log
+IsSpent keeps log Unread = Unit {0}
+IsSpent keeps log Disagree = Unit {0}
 
 -- the fault that can stop a call after it was checked: out of memory
 abbrev pub Prevents : Fault → Type 0

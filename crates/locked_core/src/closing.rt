@@ -1,11 +1,11 @@
 //! What a closed kernel returns, and whether the CPUs that came back are all of its log's.
 
-ghost use Rattle.std.specs.Prelude.{◌≡◌, ◌+◌, ◌↔◌, All, Any, IsTrue, vec_len};
+ghost use Rattle.std.specs.Prelude.{◌≡◌, ◌+◌, ◌<◌, ◌↔◌, All, Any, IsTrue, vec_len};
 ghost use Rattle.locked_core.specs.Makers.{AreAll, IsFit, IsOneOf, calls_of_all};
 ghost use Rattle.locked_core.specs.Moments.{Begins, entries_in};
 ghost use Rattle.memory_report.specs.Histories.{calls_of};
 
-use crate::book::{Calls, Front, Name};
+use crate::book::{Beginning, Calls, Front, Name};
 use crate::call_log::CallLog;
 use crate::cpu::Cpu;
 use kernel_calls::Core;
@@ -13,33 +13,38 @@ use memory_report::LogEntry;
 use std::marker::Model;
 use std::sync::ledger::Share;
 
-/// All calls of a kernel that was closed, and the core that they left. Contracts see the entries and the core.
+/// All calls of a kernel that was closed, and the core that they left. Contracts see the entries of all calls, those of
+/// the last ones that were kept, and the core.
 #[derive(Drop)]
 pub struct History {
-    entries: Vec<LogEntry>,
+    kept: Vec<LogEntry>,
     core: Core,
+    /// All entries, of which nothing is stored.
+    all: Beginning,
 }
 
 impl Model for History {
     ghost use Rattle.locked_core.specs.Held.{Closed};
+    ghost use Rattle.locked_core.specs.Moments.{entries_in};
 
     ghost Value = { Closed };
 
-    ghost view = { λ h. record { entries = h.entries.items; core = h.core } };
+    ghost view = { λ h. record { entries = entries_in h.all.log; kept = h.kept.items; core = h.core } };
 }
 
 impl History {
-    pub(crate) fn new(entries: Vec<LogEntry>, core: Core) -> History
-        ensures { result ≡ record { entries = entries.items; core = core } }
+    pub(crate) fn new(kept: Vec<LogEntry>, core: Core, all: Beginning) -> History
+        ensures { result ≡ record { entries = entries_in all.log; kept = kept.items; core = core } }
     {
-        History { entries, core }
+        History { kept, core, all }
     }
 
-    /// The entries of all calls, in the order in which they were carried out.
+    /// The entries that were kept, in the order in which their calls were carried out: those of all calls, unless the
+    /// kernel keeps only the last ones.
     pub fn entries(&self) -> &[LogEntry]
-        ensures { result.now ≡ self.now.entries }
+        ensures { result.now ≡ self.now.kept }
     {
-        self.entries.as_slice()
+        self.kept.as_slice()
     }
 
     /// The core, as the last call left it.
@@ -68,11 +73,25 @@ fn is_one_of<N: Name>(cpus: &[Cpu<N>], number: u8) -> bool
     cpus.iter().any(|c| c.number() == number)
 }
 
-/// Whether each entry is of one of these CPUs.
-fn all_known<N: Name>(cpus: &[Cpu<N>], log: &[LogEntry]) -> bool
-    ensures { IsTrue result ↔ All (λ e. IsOneOf cpus.now e.cpu) log.now }
+/// Whether the number is of one of these CPUs, or of none that has an entry.
+fn is_known<N: Name>(cpus: &[Cpu<N>], log: &CallLog, number: u8) -> bool
+    requires { number < 8 }
+    ensures { IsTrue result ↔ (0 < calls_of number log.now.entries → IsOneOf cpus.now number) }
 {
-    log.iter().all(|e| is_one_of(cpus, e.cpu))
+    log.calls_of(number) == 0 || is_one_of(cpus, number)
+}
+
+/// Whether each entry is of one of these CPUs. It reads no entry, since the log knows how many each CPU has.
+fn all_known<N: Name>(cpus: &[Cpu<N>], log: &CallLog) -> bool
+    ensures { IsTrue result ↔ All (λ e. IsOneOf cpus.now e.cpu) log.now.entries }
+{
+    log.small_numbers();
+    for number in 0..8 {
+        if !is_known(cpus, log, number) {
+            return false;
+        }
+    }
+    true
 }
 
 /// Whether these are all of so many CPUs, whose calls are the log.
@@ -87,7 +106,7 @@ pub fn are_all<N: Name>(cpus: &[Cpu<N>], count: u8, log: &CallLog, front: &Front
     if !agree(cpus, log, front) {
         return false;
     }
-    all_known(cpus, log.entries())
+    all_known(cpus, log)
 }
 
 /// The shares of these CPUs as one, which counts all their calls.

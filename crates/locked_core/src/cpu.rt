@@ -2,7 +2,7 @@
 
 ghost use Rattle.std.specs.Prelude.{◌≡◌, ◌≢◌, ◌+◌, ◌<◌, ◌^◌, ◌⊎◌, ◌↔◌, [], false, IfOk, IfErr, OnErr, IsTrue, MatchBool, length, slice_index_or, slice_set, List};
 ghost use Rattle.locked_core.specs.Endings.{EndsAtLast};
-ghost use Rattle.locked_core.specs.Makers.{Maker, maker, maker_of, Makes, IsFit, IsFollowed, IsRefused};
+ghost use Rattle.locked_core.specs.Makers.{Maker, maker, maker_of, Makes, IsFit, IsFollowed, IsRefused, IsSpent};
 ghost use Rattle.locked_core.specs.Moments.{Begins, entries_in};
 ghost use Rattle.memory_report.specs.Histories.{AreIsolated, StartsWith, calls_of};
 ghost use Rattle.memory_report.specs.Histories.{AreGuarded};
@@ -224,8 +224,8 @@ impl<N: Name> Cpu<N> {
     /// Makes a call of a process: waits for the lock, decides, carries out, logs and publishes it.
     ///
     /// The faults come in this order. Unread: the turn to add the next entry can't be taken, since the kernel's history
-    /// is longer than the log or another has this turn. NoMemory: the log can't grow. After each of them nothing has
-    /// changed: the call added no entry to the history.
+    /// is longer than the log or another has this turn. NoMemory: the log can't grow, since there is no memory for it
+    /// or it has 2 ^ 62 entries. After each of them nothing has changed: the call added no entry to the history.
     pub fn call<G: Gate + Drop, R: Wait>(
         &mut self,
         rt: &R,
@@ -243,6 +243,8 @@ impl<N: Name> Cpu<N> {
         ensures calls { IfOk result (λ _. calls_of self.new.number self.new.seen
             ≡ calls_of self.old.number self.old.seen + 1) }
         ensures refused { IfErr result (λ f. (log : List LogEntry) × IsRefused N.frames log self.old f) }
+        ensures lasts { IfErr result (λ f. (log : List LogEntry) × IsRefused N.frames log self.old f
+            × IsSpent N.book.keeps log f) }
         ensures err { OnErr result (self.new ≡ self.old) }
     {
         let ends = false;
@@ -282,6 +284,8 @@ impl<N: Name> Cpu<N> {
         ensures calls { IfOk result (λ _. calls_of self.new.number self.new.seen
             ≡ calls_of self.old.number self.old.seen + 1) }
         ensures refused { IfErr result (λ f. (log : List LogEntry) × IsRefused N.frames log self.old f) }
+        ensures lasts { IfErr result (λ f. (log : List LogEntry) × IsRefused N.frames log self.old f
+            × IsSpent N.book.keeps log f) }
         ensures err { OnErr result (self.new ≡ self.old) }
     {
         let ends = true;

@@ -1,7 +1,8 @@
 //! The kernel: how it boots, is opened under a name, and is closed.
 
-ghost use Rattle.std.specs.Prelude.{◌≡◌, ◌≤◌, ◌↔◌, [], IfErr, IfOk, IsErrOf, All, Any, length, take, replicate, List};
+ghost use Rattle.std.specs.Prelude.{◌≡◌, ◌-◌, ◌≤◌, ◌^◌, ◌↔◌, [], IfErr, IfOk, IsErrOf, All, Any, length, take, replicate, List};
 ghost use Rattle.left_right.specs.Sides.{view};
+ghost use Rattle.locked_core.specs.Counts.{last_of};
 ghost use Rattle.locked_core.specs.Makers.{Closes, IsLeft, IsRefused, IsShown, IsSnapshot, calls_of_all, new_makers};
 ghost use Rattle.locked_core.specs.declared.moment.Moment.{Moment};
 ghost use Rattle.locked_core.specs.Pages.{page};
@@ -42,6 +43,7 @@ pub struct Blank<G: Gate + Drop> {
     gate: G,
     core: Core,
     opened: Opened,
+    log: CallLog,
     writer: LogWriter,
     calls: ledger::Blank,
     tallies: Blanks,
@@ -62,12 +64,13 @@ impl<G: Gate + Drop> Model for Blank<G> {
         ledger = b.calls.name;
         parts = b.calls.parts;
         ledgers = b.tallies;
-        opening =
-            b.core;
+        opening = b.core;
+        keeps =
+            b.log.keeps;
       };
     } };
 
-    ghost invariant = { λ b. IsMade b.frames b.cpus b.opened.seen.book b.calls.parts b.core.state
+    ghost invariant = { λ b. IsMade b.frames b.cpus b.opened.seen.book b.log b.calls.parts b.core.state
         b.writer.desk.shown.value b.writer.desk.spare.value b.writer.desk.place.me.0.client };
 }
 
@@ -99,7 +102,7 @@ pub struct Boot<N: Name, G: Gate + Drop> {
 
 impl<N: Name, G: Gate + Drop> Kernel<N, G> {
     /// Boots a kernel with a memory of that many frames, for so many CPUs and monitors. The gate is what
-    /// each call reaches under the lock.
+    /// each call reaches under the lock. The kernel keeps the entries of all its calls.
     ///
     /// BadSize where the frames are not 16 to 4,096, else BadCount where the CPUs are not 1 to 8 or the
     /// monitors more than 8, else NoMemory where there is none for them.
@@ -112,6 +115,30 @@ impl<N: Name, G: Gate + Drop> Kernel<N, G> {
         gate: G,
     ) -> Result<Blank<G>, BootFault>
         ensures made { IfOk result (λ b. (b.frames ≡ frames) × (b.cpus ≡ cpus) × (b.monitors ≡ monitors)) }
+        ensures keeps { IfOk result (λ b. b.book.keeps ≡ 2 ^ 64 - 1) }
+        ensures size { IsErrOf result BootFault.BadSize ↔ (16 ≤ frames → frames ≤ 4096 → ⊥) }
+        ensures count { IsErrOf result BootFault.BadCount ↔ (16 ≤ frames) × (frames ≤ 4096)
+            × (1 ≤ cpus → cpus ≤ 8 → monitors ≤ 8 → ⊥) }
+        ensures counted { IfOk result (λ _. (1 ≤ cpus) × (cpus ≤ 8) × (monitors ≤ 8)) }
+    {
+        Kernel::<N, G>::boot_keeping(rt, alloc, frames, cpus, monitors, gate, usize::MAX)
+    }
+
+    /// Boots a kernel as `boot` does, which keeps only so many of the last entries, and has their memory from now on.
+    /// Its calls need no more memory, so that it can run for good: no call is refused for memory before 2 ^ 62 calls
+    /// were made (`lasts` of `Cpu::call`). What is promised of its calls and reports is the same.
+    pub fn boot_keeping<R: Wait>(
+        rt: &R,
+        alloc: Global,
+        frames: u32,
+        cpus: u8,
+        monitors: u8,
+        gate: G,
+        keeps: usize,
+    ) -> Result<Blank<G>, BootFault>
+        requires { 2 ≤ keeps }
+        ensures made { IfOk result (λ b. (b.frames ≡ frames) × (b.cpus ≡ cpus) × (b.monitors ≡ monitors)) }
+        ensures keeps { IfOk result (λ b. b.book.keeps ≡ keeps) }
         ensures size { IsErrOf result BootFault.BadSize ↔ (16 ≤ frames → frames ≤ 4096 → ⊥) }
         ensures count { IsErrOf result BootFault.BadCount ↔ (16 ≤ frames) × (frames ≤ 4096)
             × (1 ≤ cpus → cpus ≤ 8 → monitors ≤ 8 → ⊥) }
@@ -127,6 +154,9 @@ impl<N: Name, G: Gate + Drop> Kernel<N, G> {
             return Err(BootFault::NoMemory);
         };
         let opened = Opened::new();
+        let Ok(log) = CallLog::new(alloc, keeps, &opened.seen) else {
+            return Err(BootFault::NoMemory);
+        };
         let readers = usize::from(monitors) + 1;
         let Ok(writer) = writer_of(rt, alloc, frames, &opened.seen, readers) else {
             return Err(BootFault::NoMemory);
@@ -139,6 +169,7 @@ impl<N: Name, G: Gate + Drop> Kernel<N, G> {
             gate,
             core,
             opened,
+            log,
             writer,
             calls: ledger::Blank::new(u64::from(cpus)),
             tallies: Blanks::new(),
@@ -193,6 +224,8 @@ impl<N: Name, G: Gate + Drop> Kernel<N, G> {
         ensures isolated { IfOk result (λ h. AreIsolated N.frames h.entries) }
         ensures guarded { IfOk result (λ h. AreGuarded N.frames h.entries) }
         ensures closes { (log : List LogEntry) × Legal N.frames log × Closes self.cpus log cpus.items result }
+        ensures kept { IfOk result (λ h. h.kept ≡ last_of N.book.keeps h.entries) }
+        ensures whole { IfOk result (λ h. 2 ^ 62 ≤ N.book.keeps → h.kept ≡ h.entries) }
     {
         let Kernel {
             state,
@@ -222,6 +255,7 @@ impl<G: Gate + Drop> Blank<G> {
             gate,
             core,
             opened,
+            log,
             mut writer,
             calls,
             tallies,
@@ -233,15 +267,7 @@ impl<G: Gate + Drop> Blank<G> {
             writer.take(rt);
             return Err(BootFault::NoMemory);
         };
-        let locked = Locked::new(
-            core,
-            CallLog::new(alloc),
-            opened,
-            writer,
-            watchers > 0,
-            counted,
-            tally,
-        );
+        let locked = Locked::new(core, log, opened, writer, watchers > 0, counted, tally);
         Ok(Boot {
             kernel: Kernel {
                 state: Mutex::new(locked),

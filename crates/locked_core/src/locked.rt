@@ -3,8 +3,9 @@
 ghost use Rattle.std.specs.Prelude.{◌≡◌, ◌≤◌, ◌<◌, ◌+◌, ◌==◌, ◌^◌, ◌++◌, [], ◌∷◌, replicate, IfOk, IfErr, IfSome, OnErr, List, length, true};
 ghost use Rattle.kernel_calls.specs.Translations.{ended_by, Ends};
 ghost use Rattle.left_right.specs.Sides.{view};
+ghost use Rattle.locked_core.specs.Counts.{last_of};
 ghost use Rattle.locked_core.specs.Endings.{EndsAtLast};
-ghost use Rattle.locked_core.specs.Makers.{AreAll, Closes, IsFollowed, IsLeft, IsRefused, Makes, Prevents, calls_of_all, maker_of};
+ghost use Rattle.locked_core.specs.Makers.{AreAll, Closes, IsFollowed, IsLeft, IsRefused, IsSpent, Makes, Prevents, calls_of_all, maker_of};
 ghost use Rattle.locked_core.specs.Moments.{Begins, Follows, core_after, entries_in, moment};
 ghost use Rattle.locked_core.specs.Pages.{page};
 ghost use Rattle.locked_core.specs.Published.{view_of};
@@ -80,7 +81,8 @@ impl<N: Name> Model for Locked<N> {
       is_watched = l.is_watched;
     } };
 
-    ghost invariant = { λ l. IsUnderLock N.frames N.book.history N.book.opening l.core l.log.entries l.head
+    ghost invariant = { λ l. IsUnderLock N.frames N.book.keeps N.book.history N.book.opening l.core l.log.entries
+        l.log.keeps l.head
         l.counted.total l.tally l.is_watched l.writer.desk.shown.value l.writer.desk.spare.value
         l.writer.desk.place.me.0.client };
 }
@@ -97,7 +99,8 @@ impl<N: Name> Locked<N> {
         tally: Tally<N>,
     ) -> Locked<N>
         requires size { (16 ≤ N.frames) × (N.frames ≤ 4096) }
-        requires log { log.entries ≡ [] }
+        requires log { (log.entries ≡ []) × (log.keeps ≡ N.book.keeps) }
+        requires keeps { 2 ≤ N.book.keeps }
         requires counted { (counted.total ≡ 0) × (tally ≡ replicate 8 0) }
         requires core { core.state ≡ open_with N.frames }
         requires opening { core ≡ N.book.opening }
@@ -157,7 +160,7 @@ impl<N: Name> Locked<N> {
             return Err(Fault::Unread);
         };
         self.head.give_back(turn);
-        match Image::of(*self.log.entries.allocator(), &self.core) {
+        match Image::of(self.log.allocator(), &self.core) {
             Ok(image) => Ok(image),
             Err(_) => Err(Fault::NoMemory),
         }
@@ -182,6 +185,7 @@ impl<N: Name> Locked<N> {
         ensures told { IfOk result (λ _. Begins self.old.moments cpu.old.told) }
         ensures opened { N.book.opening.state ≡ open_with N.frames }
         ensures refused { IfErr result (IsRefused N.frames self.old.log cpu.old) }
+        ensures unread { IfErr result (λ f. f ≡ Fault.Unread) }
         ensures same { (self.new ≡ self.old) × (cpu.new ≡ cpu.old) }
     {
         let Some(turn) = self.fit(cpu) else {
@@ -201,7 +205,8 @@ impl<N: Name> Locked<N> {
     /// counts and publishes it. Returns its reply; the CPU has then seen the log with its entry. It may wait only to
     /// publish.
     ///
-    /// NoMemory where the log can't grow; nothing has changed then.
+    /// NoMemory where the log can't grow; nothing has changed then. A log that keeps only its last entries can't grow
+    /// once it has 2 ^ 62.
     pub(crate) fn carry_out<R: Wait>(
         &mut self,
         rt: &R,
@@ -232,6 +237,7 @@ impl<N: Name> Locked<N> {
         ensures ends { IfOk result (λ _. Ends (ended_by self.old.core ready.event) self.old.core self.new.core) }
         ensures watched { self.new.is_watched ≡ self.old.is_watched }
         ensures prevented { IfErr result Prevents }
+        ensures spent { IfErr result (IsSpent N.book.keeps self.old.log) }
         ensures err { OnErr result ((self.new ≡ self.old) × (cpu.new ≡ cpu.old)) }
     {
         let Locked {
@@ -252,8 +258,9 @@ impl<N: Name> Locked<N> {
         core.stands();
         let entry = entry_of(&event, nth, &outcome);
         head.add(turn, log, &entry, core);
-        log.push(&entry);
-        keep_up(rt, writer, *is_watched, log.entries(), &head.all());
+        let all = head.all();
+        log.push(&entry, &all);
+        keep_up(rt, writer, *is_watched, log, &all);
         cpu.made(front_of(log, head), counted, tally);
         Ok(entry.reply)
     }
@@ -295,6 +302,7 @@ impl<N: Name> Locked<N> {
         ensures all { IfOk result (λ _. cpu.new.moments ≡ self.new.moments) }
         ensures watched { self.new.is_watched ≡ self.old.is_watched }
         ensures refused { IfErr result (IsRefused N.frames self.old.log cpu.old) }
+        ensures spent { IfErr result (IsSpent N.book.keeps self.old.log) }
         ensures err { OnErr result ((self.new ≡ self.old) × (cpu.new ≡ cpu.old)) }
     {
         let ready = self.judge(cpu, asked.pid, asked.call)?;
@@ -317,6 +325,8 @@ impl<N: Name> Locked<N> {
         ensures log { Legal N.frames self.log }
         ensures closes { Closes count self.log cpus.items result }
         ensures entries { IfOk result (λ h. h.entries ≡ self.log) }
+        ensures kept { IfOk result (λ h. h.kept ≡ last_of N.book.keeps h.entries) }
+        ensures few { IfOk result (λ h. length h.entries ≤ 2 ^ 62) }
         ensures legal { IfOk result (λ h. Legal N.frames h.entries × (h.core.state ≡ state_after N.frames h.entries)) }
         ensures all { IfOk result (λ h. AreAll count h.entries cpus.items) }
         ensures left { IfOk result (λ h. IsLeft N.book.opening cpus.items h.entries h.core self.moments) }
@@ -339,7 +349,8 @@ impl<N: Name> Locked<N> {
         let mut others = cpus;
         let first = others.pop().unwrap();
         counted.audit(&mut merged(first, others));
-        Ok(History::new(log.into_entries(), core))
+        let (kept, all) = log.into_entries();
+        Ok(History::new(kept, core, all))
     }
 }
 

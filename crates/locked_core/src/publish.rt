@@ -2,7 +2,7 @@
 //!
 //! The side that no reader reads is brought up to the log, in place, and is shown then. So no page is copied, and the
 //! writer's queue of operations stays empty.
-ghost use Rattle.std.specs.Prelude.{◌≡◌, ◌<◌, ◌≤◌, ◌^◌, [], true, false, IfOk, IfSome};
+ghost use Rattle.std.specs.Prelude.{◌≡◌, ◌+◌, ◌<◌, ◌≤◌, ◌^◌, [], true, false, IfOk, IfSome, length};
 ghost use Rattle.crossbeam_utils.specs.Register.{TurnsAt};
 ghost use Rattle.left_right.specs.Sides.{view};
 ghost use Rattle.locked_core.specs.Moments.{entries_in};
@@ -11,11 +11,11 @@ ghost use Rattle.locked_core.specs.Published.{view_of, IsOf, Keeps, Opens, Stays
 ghost use Rattle.memory_report.specs.Histories.{Legal};
 
 use crate::book::Beginning;
+use crate::call_log::CallLog;
 use crate::published_report::Shown;
 use crate::rule::{Later, LogReader, LogWriter, Look, Notes, Opening};
 use core::mem::replace_with;
 use left_right::writer::Writer;
-use memory_report::LogEntry;
 use std::alloc::{AllocError, Global};
 use std::sync::Wait;
 
@@ -87,26 +87,28 @@ pub fn writer_of<R: Wait>(
 }
 
 /// Publishes the report on the log, of which this is the prefix that was seen. The side that no reader reads takes in
-/// what it lacks. It allocates nothing.
-pub fn publish<R: Wait>(rt: &R, writer: &mut LogWriter, log: &[LogEntry], seen: &Beginning)
+/// what it lacks, which the log still keeps. It allocates nothing.
+pub fn publish<R: Wait>(rt: &R, writer: &mut LogWriter, log: &CallLog, seen: &Beginning)
     requires kernel { view writer.old.desk.place ≡ view_of writer.old.desk.spare.value.frames seen.now.book }
-    requires seen { entries_in seen.now.log ≡ log.now }
+    requires seen { entries_in seen.now.log ≡ log.now.entries }
     requires behind { LagsBehind writer.old.desk.spare.value
-        (page writer.old.desk.spare.value.frames seen.now.book log.now) }
-    requires legal { Legal writer.old.desk.spare.value.frames log.now }
+        (page writer.old.desk.spare.value.frames seen.now.book log.now.entries) }
+    requires kept { length log.now.entries ≤ length writer.old.desk.spare.value.log + log.now.keeps }
+    requires legal { Legal writer.old.desk.spare.value.frames log.now.entries }
     ensures view { view writer.new.desk.place ≡ view writer.old.desk.place }
-    ensures shown { writer.new.desk.shown.value ≡ page writer.old.desk.spare.value.frames seen.now.book log.now }
+    ensures shown { writer.new.desk.shown.value ≡ page writer.old.desk.spare.value.frames seen.now.book log.now.entries }
     ensures spare { writer.new.desk.spare.value ≡ writer.old.desk.shown.value }
 {
     replace_with(
         &mut writer.desk,
         (log, seen),
         |desk, news|
-            requires { (entries_in news.1.now.log ≡ news.0.now)
-                × LagsBehind desk.spare.value (page desk.spare.value.frames news.1.now.book news.0.now)
-                × Legal desk.spare.value.frames news.0.now
+            requires { (entries_in news.1.now.log ≡ news.0.now.entries)
+                × LagsBehind desk.spare.value (page desk.spare.value.frames news.1.now.book news.0.now.entries)
+                × (length news.0.now.entries ≤ length desk.spare.value.log + news.0.now.keeps)
+                × Legal desk.spare.value.frames news.0.now.entries
                 × TurnsAt Keeps desk.place.id (view desk.place) desk.shown.value
-                (page desk.spare.value.frames news.1.now.book news.0.now) Stays }
+                (page desk.spare.value.frames news.1.now.book news.0.now.entries) Stays }
         {
             let (open, mut spare) = desk.open(rt);
             spare.catch_up(news.0, news.1);
@@ -120,24 +122,27 @@ pub fn keep_up<R: Wait>(
     rt: &R,
     writer: &mut LogWriter,
     is_watched: bool,
-    log: &[LogEntry],
+    log: &CallLog,
     seen: &Beginning,
 )
     requires kernel { view writer.old.desk.place ≡ view_of writer.old.desk.spare.value.frames seen.now.book }
-    requires seen { entries_in seen.now.log ≡ log.now }
+    requires seen { entries_in seen.now.log ≡ log.now.entries }
     requires behind { LagsBehind writer.old.desk.spare.value
-        (page writer.old.desk.spare.value.frames seen.now.book log.now) }
+        (page writer.old.desk.spare.value.frames seen.now.book log.now.entries) }
     requires shown { LagsBehind writer.old.desk.shown.value
-        (page writer.old.desk.spare.value.frames seen.now.book log.now) }
-    requires legal { Legal writer.old.desk.spare.value.frames log.now }
+        (page writer.old.desk.spare.value.frames seen.now.book log.now.entries) }
+    requires kept { is_watched ≡ true
+        → length log.now.entries ≤ length writer.old.desk.spare.value.log + log.now.keeps }
+    requires legal { Legal writer.old.desk.spare.value.frames log.now.entries }
     ensures view { view writer.new.desk.place ≡ view writer.old.desk.place }
     ensures unwatched { is_watched ≡ false → writer.new ≡ writer.old }
     ensures watched { is_watched ≡ true → writer.new.desk.shown.value
-        ≡ page writer.old.desk.spare.value.frames seen.now.book log.now }
+        ≡ page writer.old.desk.spare.value.frames seen.now.book log.now.entries }
+    ensures behind { is_watched ≡ true → writer.new.desk.spare.value ≡ writer.old.desk.shown.value }
     ensures shown { LagsBehind writer.new.desk.shown.value
-        (page writer.old.desk.spare.value.frames seen.now.book log.now) }
+        (page writer.old.desk.spare.value.frames seen.now.book log.now.entries) }
     ensures spare { LagsBehind writer.new.desk.spare.value
-        (page writer.old.desk.spare.value.frames seen.now.book log.now) }
+        (page writer.old.desk.spare.value.frames seen.now.book log.now.entries) }
 {
     if !is_watched {
         return;

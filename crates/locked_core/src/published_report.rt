@@ -1,13 +1,14 @@
 //! What is published: a report, with the prefix of the history that it reports on.
-ghost use Rattle.std.specs.Prelude.{◌≡◌, ◌≤◌, [], length};
+ghost use Rattle.std.specs.Prelude.{◌≡◌, ◌+◌, ◌≤◌, [], length};
 ghost use Rattle.memory_report.specs.Histories.{Legal, state_after};
 ghost use Rattle.memory_report.specs.Reports.{report_of};
 ghost use Rattle.locked_core.specs.Moments.{entries_in};
 ghost use Rattle.locked_core.specs.Pages.{CatchesUp, LagsBehind, page};
 
 use crate::book::{Beginning, Front, Law, Name};
+use crate::call_log::CallLog;
 use left_right::Absorb;
-use memory_report::{LogEntry, Report};
+use memory_report::Report;
 use std::alloc::AllocError;
 use std::marker::Model;
 
@@ -90,12 +91,13 @@ impl Shown {
         self.seen.again()
     }
 
-    /// Takes in all that the log has behind the entries that it reports on.
-    pub fn catch_up(&mut self, log: &[LogEntry], seen: &Beginning)
-        requires seen { entries_in seen.now.log ≡ log.now }
-        requires behind { LagsBehind self.old (page self.old.frames seen.now.book log.now) }
-        requires legal { Legal self.old.frames log.now }
-        ensures { self.new ≡ page self.old.frames seen.now.book log.now }
+    /// Takes in all that the log has behind the entries that it reports on. The log still keeps those.
+    pub fn catch_up(&mut self, log: &CallLog, seen: &Beginning)
+        requires seen { entries_in seen.now.log ≡ log.now.entries }
+        requires behind { LagsBehind self.old (page self.old.frames seen.now.book log.now.entries) }
+        requires kept { length log.now.entries ≤ length self.old.log + log.now.keeps }
+        requires legal { Legal self.old.frames log.now.entries }
+        ensures { self.new ≡ page self.old.frames seen.now.book log.now.entries }
     {
         absorb_from(&mut self.report, log, self.count);
         self.count = log.len();
@@ -104,12 +106,13 @@ impl Shown {
 }
 
 /// Absorbs the entries of the log from this place on, in their order.
-fn absorb_from(report: &mut Report, log: &[LogEntry], first: usize)
-    requires { first ≤ length log.now }
-    ensures { CatchesUp report.old first log.now report.new }
+fn absorb_from(report: &mut Report, log: &CallLog, first: usize)
+    requires within { first ≤ length log.now.entries }
+    requires kept { length log.now.entries ≤ first + log.now.keeps }
+    ensures { CatchesUp report.old first log.now.entries report.new }
 {
     for place in first..log.len() {
-        report.absorb(&log[place]);
+        report.absorb(log.at(place));
     }
 }
 

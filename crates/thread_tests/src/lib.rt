@@ -9,6 +9,8 @@ mod contention_tests;
 #[cfg(test)]
 mod ending_tests;
 #[cfg(test)]
+mod forever_tests;
+#[cfg(test)]
 mod fork_tests;
 #[cfg(test)]
 mod gate_tests;

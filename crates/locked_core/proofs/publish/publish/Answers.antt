@@ -6,6 +6,7 @@ pub replace_with-requires : goal.replace_with-requires
 replace_with-requires g c = (
   c.requires.seen,
   c.requires.behind,
+  c.requires.kept,
   c.requires.legal,
-  stays _ _ c.args.writer.now.desk.shown.value (page c.args.writer.now.desk.spare.value.frames c.args.seen.now.book c.args.log.now) c.requires.kernel,
+  stays _ _ c.args.writer.now.desk.shown.value (page c.args.writer.now.desk.spare.value.frames c.args.seen.now.book c.args.log.now.entries) c.requires.kernel,
 )

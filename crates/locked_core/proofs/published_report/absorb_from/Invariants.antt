@@ -6,5 +6,5 @@ use Rattle.locked_core.proofs.published_report.absorb_from.Given as goal
 -- it is the report on all entries before the place
 abbrev pub invariant-loop-place : goal.invariant-loop-place
 invariant-loop-place l =
-    (l.place ≤ length l.log)
-    × ((frames : ℕ) → Legal frames l.log → l.fn.report ≡ report_of (state_after frames (take l.first l.log)) → l.report ≡ report_of (state_after frames (take l.place l.log)))
+    (l.place ≤ length l.log.entries)
+    × ((frames : ℕ) → Legal frames l.log.entries → l.fn.report ≡ report_of (state_after frames (take l.first l.log.entries)) → l.report ≡ report_of (state_after frames (take l.place l.log.entries)))

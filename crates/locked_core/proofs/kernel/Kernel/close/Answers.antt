@@ -1,6 +1,7 @@
-use Rattle.std.proofs.Common.{◌≡◌, List, Result, Ok, Err, length, take, subst}
+use Rattle.std.proofs.Common.{◌≡◌, List, Result, Ok, Err, length, take, arith}
 use Rattle.std.specs.Prelude.{IfOk}
 use Rattle.std.proofs.lemmas.List.Elements.{All-weaker}
+use Rattle.locked_core.proofs.Keeping.{keeps_all}
 use Rattle.locked_core.specs.Makers.{Maker, AreAll, IsFit, IsOneOf}
 use Rattle.locked_core.specs.declared.faults.Fault.{Fault}
 use Rattle.locked_core.proofs.kernel.Kernel.close.Goals as goal
@@ -12,6 +13,15 @@ use Rattle.memory_report.proofs.IsolatedHistories.{histories_isolated}
 ok_weaker : {X : Type 0} {P Q : X → Type 0} (r : Result X Fault) → IfOk r P → ((x : X) → P x → Q x) → IfOk r Q
 ok_weaker (Ok x) p f = f x p
 ok_weaker (Err e) p f = tt
+
+ok_both : {X : Type 0} {P Q R : X → Type 0} (r : Result X Fault) → IfOk r P → IfOk r Q → ((x : X) → P x → Q x → R x) → IfOk r R
+ok_both (Ok x) p q f = f x p q
+ok_both (Err e) p q f = tt
+
+-- no more entries were made than all that can be kept
+pub returns-clause-whole : goal.returns-clause-whole
+returns-clause-whole g c =
+    ok_both c.close.result c.close.ensures.kept c.close.ensures.few (λ h kept few all. keeps_all g.N.Name.book.keeps h.entries h.kept kept (omega arith))
 
 pub returns-clause-isolated : goal.returns-clause-isolated
 returns-clause-isolated g c = ok_weaker c.close.result c.close.ensures.legal (λ h legal. histories_isolated g.N.Name.frames h.entries legal.0)

@@ -14,7 +14,7 @@ use Rattle.locked_core.specs.declared.moment.Moment.{Moment}
 use Rattle.kernel_calls.proofs.TurnSteps.{is_core}
 use Rattle.shootdowns.specs.Windows.{Begins}
 use Rattle.process_table.specs.View.{View}
-use Rattle.locked_core.specs.Pages.{LagsBehind, page}
+use Rattle.locked_core.specs.Pages.{LagsBehind, Page, page}
 use Rattle.memory_report.specs.Histories.{Legal, event_of}
 use Rattle.memory_report.specs.declared.entries.LogEntry.{LogEntry}
 use Rattle.locked_core.proofs.locked.Locked.carry_out.Goals as goal
@@ -27,8 +27,8 @@ keep_up-requires-clause-legal g c =
     let e : LogEntry = c.entry_of-entry.result in
     let stands = subst (Stands g.N.Name.frames) c.self.view_is (c.self.invariant.legal, c.self.invariant.stands) in
     let ends = judged g.N.Name.frames h c.args.ready.nth event c.perform-outcome.result.reply c.perform-outcome.result.used_after e stands c.requires.nth.1 (c.perform-outcome.ensures.reply ∙ ap (λ (k : UnderLock). answer k.core.state event) c.self.view_is) (c.perform-outcome.ensures.charge ∙ ap (λ (k : UnderLock). charge_after k.core.state event) c.self.view_is) c.entry_of-entry.ensures in
-    let grown : c.entries.result.now ≡ h.log ++ e ∷ [] = c.entries.ensures ∙ (c.push.ensures.entries ∙ ap (λ l. l ++ e ∷ []) (c.reserve.ensures.entries ∙ ap (λ (k : UnderLock). k.log) c.self.view_is)) in
-    let legal : Legal g.N.Name.frames c.entries.result.now = subst (Legal g.N.Name.frames) (sym grown) ends.1 in
+    let grown : c.push.new.self.entries ≡ h.log ++ e ∷ [] = c.push.ensures.entries ∙ ap (λ l. l ++ e ∷ []) (c.reserve.ensures.entries ∙ ap (λ (k : UnderLock). k.log) c.self.view_is) in
+    let legal : Legal g.N.Name.frames c.push.new.self.entries = subst (Legal g.N.Name.frames) (sym grown) ends.1 in
     rw (c.self.invariant.spare.frames) legal
 
 -- and the side that is published, as a page that lags behind one entry more
@@ -37,8 +37,8 @@ keep_up-requires-clause-shown g c =
     let e : LogEntry = c.entry_of-entry.result in
     let new : List LogEntry = c.push.new.self.entries in
     let longer : new ≡ c.self.inside.log.entries ++ e ∷ [] = c.push.ensures.entries ∙ ap (λ l. l ++ e ∷ []) c.reserve.ensures.entries in
-    let book_is : c.all.result.book ≡ g.N.Name.book.history = c.all.ensures.1 in
-    let page_is : page c.self.inside.writer.desk.spare.value.frames c.all.result.book c.entries.result.now ≡ page g.N.Name.frames g.N.Name.book.history new = λ i. page (c.self.invariant.spare.frames i) (book_is i) (c.entries.ensures i) in
+    let book_is : c.all-all.result.book ≡ g.N.Name.book.history = c.all-all.ensures.1 in
+    let page_is : page c.self.inside.writer.desk.spare.value.frames c.all-all.result.book new ≡ page g.N.Name.frames g.N.Name.book.history new = λ i. page (c.self.invariant.spare.frames i) (book_is i) new in
     subst (LagsBehind c.self.inside.writer.desk.shown.value) (sym page_is) (lags_more g.N.Name.frames g.N.Name.book.history c.self.inside.log.entries new e c.self.inside.writer.desk.shown.value c.self.invariant.lags longer)
 
 pub invariant_of-self-2 : goal.invariant_of-self-2
@@ -53,8 +53,8 @@ invariant_of-self-2 g c =
     let grown : new ≡ h.log ++ e ∷ [] = longer ∙ ap (λ (k : UnderLock). k.log ++ e ∷ []) c.self.view_is in
     let moved : c.perform-outcome.new.self.state ≡ next h.core.state event = c.perform-outcome.ensures.state ∙ ap (λ (k : UnderLock). next k.core.state event) c.self.view_is in
     let all = logged g.N.Name.frames h.log new h.core.state c.perform-outcome.new.self.state event.cpu event.pid event.call e stands.0 stands.1 ends.0 grown moved in
-    let book_is : c.all.result.book ≡ g.N.Name.book.history = c.all.ensures.1 in
-    let page_is : page c.self.inside.writer.desk.spare.value.frames c.all.result.book c.entries.result.now ≡ page g.N.Name.frames g.N.Name.book.history new = λ i. page (c.self.invariant.spare.frames i) (book_is i) (c.entries.ensures i) in
+    let book_is : c.all-all.result.book ≡ g.N.Name.book.history = c.all-all.ensures.1 in
+    let page_is : page c.self.inside.writer.desk.spare.value.frames c.all-all.result.book new ≡ page g.N.Name.frames g.N.Name.book.history new = λ i. page (c.self.invariant.spare.frames i) (book_is i) new in
     let core : View = c.perform-outcome.new.self in
     let had : List Moment = c.self.inside.head in
     let longer2 : c.push.new.self.entries ≡ c.self.inside.log.entries ++ e ∷ [] = c.push.ensures.entries ∙ ap (λ l. l ++ e ∷ []) c.reserve.ensures.entries in
@@ -94,6 +94,13 @@ invariant_of-self-2 g c =
       shown = λ watched. c.keep_up.ensures.watched watched ∙ page_is;
       lags = subst (LagsBehind c.keep_up.new.writer.desk.shown.value) page_is c.keep_up.ensures.shown;
       spare = subst (LagsBehind c.keep_up.new.writer.desk.spare.value) page_is c.keep_up.ensures.spare;
+      near =
+          λ watched.
+          (let more : length new ≡ length (c.self.inside.log.entries ++ e ∷ []) = ap length longer in
+          let behind = ap (λ (p : Page). length p.log) (c.keep_up.ensures.behind watched ∙ c.self.invariant.shown watched) in
+          omega (arith, length-append c.self.inside.log.entries (e ∷ [])));
+      keeps_named = c.push.ensures.keeps ∙ (c.reserve.ensures.keeps ∙ c.self.invariant.keeps_named);
+      keeps_two = c.self.invariant.keeps_two;
     }
 
 -- what the history has is the log
@@ -104,7 +111,26 @@ keep_up-requires-clause-seen g c =
     let had : List Moment = c.self.inside.head in
     let longer : c.push.new.self.entries ≡ c.self.inside.log.entries ++ e ∷ [] = c.push.ensures.entries ∙ ap (λ l. l ++ e ∷ []) c.reserve.ensures.entries in
     let told : entries_in c.add.new.self ≡ c.push.new.self.entries = ap entries_in c.add.ensures ∙ (entries_append had (moment e core ∷ []) ∙ (ap (λ l. l ++ e ∷ []) c.self.invariant.told ∙ sym longer)) in
-    ap entries_in c.all.ensures.0 ∙ (told ∙ sym c.entries.ensures)
+    ap entries_in c.all-all.ensures.0 ∙ told
+
+-- the side that is not published lacks the last two entries, which the log keeps
+pub keep_up-requires-clause-kept : goal.keep_up-requires-clause-kept
+keep_up-requires-clause-kept g c = λ watched.
+    let e : LogEntry = c.entry_of-entry.result in
+    let longer : c.push.new.self.entries ≡ c.self.inside.log.entries ++ e ∷ [] = c.push.ensures.entries ∙ ap (λ l. l ++ e ∷ []) c.reserve.ensures.entries in
+    let more = ap length longer ∙ length-append c.self.inside.log.entries (e ∷ []) in
+    let near = c.self.invariant.near watched in
+    let keeps = c.push.ensures.keeps ∙ (c.reserve.ensures.keeps ∙ c.self.invariant.keeps_named) in
+    let two = c.self.invariant.keeps_two in
+    omega arith
+
+-- what is logged is what was added to the history
+pub push-requires-clause-all : goal.push-requires-clause-all
+push-requires-clause-all g c =
+    let e : LogEntry = c.entry_of-entry.result in
+    let core : View = c.perform-outcome.new.self in
+    let had : List Moment = c.self.inside.head in
+    ap entries_in c.all-all.ensures.0 ∙ (ap entries_in c.add.ensures ∙ (entries_append had (moment e core ∷ []) ∙ ap (λ l. l ++ e ∷ []) (c.self.invariant.told ∙ sym c.reserve.ensures.entries)))
 
 pub front_of-requires-clause-all : goal.front_of-requires-clause-all
 front_of-requires-clause-all g c =

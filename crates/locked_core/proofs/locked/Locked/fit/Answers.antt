@@ -1,4 +1,4 @@
-use Rattle.std.proofs.Common.{rules, ◌≡◌, ◌∙◌, ◌<◌, ℕ, List, ap, sym, subst}
+use Rattle.std.proofs.Common.{◌≡◌, ◌∙◌, ◌<◌, ℕ, List, ap, sym, subst}
 use Rattle.std.proofs.Math.ListN.{get_or}
 use Rattle.locked_core.proofs.Counting.{at_counts}
 use Rattle.locked_core.proofs.Moments.{begins_trans, starts_of}

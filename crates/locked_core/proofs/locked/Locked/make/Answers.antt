@@ -1,4 +1,4 @@
-use Rattle.std.proofs.Common.{◌≡◌, ◌∙◌, refl, ap, sym, subst, List, true}
+use Rattle.std.proofs.Common.{◌≡◌, ◌∙◌, refl, ap, sym, subst, List}
 use Rattle.kernel_calls.specs.Translations.{ended_by, Ends}
 use Rattle.kernel_calls.specs.declared.calls.Event.{Event}
 use Rattle.kernel_calls.specs.declared.translations.Ended.{Ended}
@@ -6,7 +6,7 @@ use Rattle.locked_core.proofs.Entries.{makes}
 use Rattle.locked_core.proofs.Moments.{begins_push}
 use Rattle.locked_core.specs.Held.{UnderLock}
 use Rattle.locked_core.specs.Makers.{Maker}
-use Rattle.locked_core.specs.Moments.{Begins, Follows, core_after, entries_in, moment}
+use Rattle.locked_core.specs.Moments.{Begins, Follows, entries_in, moment}
 use Rattle.locked_core.specs.declared.moment.Moment.{Moment}
 use Rattle.process_table.specs.View.{View}
 use Rattle.memory_report.proofs.GuardedHistories.{histories_guarded}

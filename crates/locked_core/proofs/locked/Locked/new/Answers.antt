@@ -1,4 +1,4 @@
-use Rattle.std.proofs.Common.{[], length, refl, sym, ap, ◌∙◌, subst}
+use Rattle.std.proofs.Common.{[], length, refl, sym, ap, ◌∙◌, subst, arith}
 use Rattle.kernel_calls.proofs.TurnSteps.{is_core}
 use Rattle.kernel_calls.specs.Processors.{IsCore}
 use Rattle.locked_core.proofs.Entries.{legal_opening}
@@ -11,7 +11,7 @@ use Rattle.locked_core.proofs.locked.Locked.new.Goals as goal
 
 pub invariant_of-result : goal.invariant_of-result
 invariant_of-result g c =
-    let none = c.requires.log in
+    let none = c.requires.log.0 in
     let begun = legal_opening g.N.Name.frames c.args.log.entries c.args.core.state c.requires.size.0 c.requires.size.1 none c.requires.core in
     let w = c.requires.writer in
     let stands = c.stands.ensures in
@@ -31,4 +31,7 @@ invariant_of-result g c =
       shown = λ watched. w.0 ∙ ap (page g.N.Name.frames g.N.Name.book.history) (sym none);
       lags = subst (λ (p : Page). LagsBehind p whole) (sym w.0) empty;
       spare = subst (λ (p : Page). LagsBehind p whole) (sym c.requires.spare) empty;
+      near = λ watched. (let long = ap length none in omega arith);
+      keeps_named = c.requires.log.1;
+      keeps_two = c.requires.keeps;
     }
