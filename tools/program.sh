@@ -1,8 +1,19 @@
 # The functions that ./tower and ./memory_map share. $name is the name of the program and of its crate, $root the
-# repository's folder.
-program=$root/crates/$name/out/$name
-# The sums of what the program was built from, as `prove` noted them.
-made_of=$root/crates/$name/out/$name.sources
+# repository's folder. The same functions serve what is made of the other crates in prebuilt/: $made is its name, $others
+# what the page of scripts is made of besides its crate.
+made=$name others=
+case $name in
+tower_c | tower_images) made=lib$name.a ;;
+tower_film)
+    made=tower.html
+    others="web/module web/page web/heap.c web/editor.* examples/*.script crates/map_jobs/src/film_page.rt"
+    ;;
+esac
+program=$root/crates/$name/out/$made
+# The sums of what it was built from, as `prove` noted them.
+made_of=$program.sources
+# The same program, as it was proved and built before (prebuilt/README.md), with the same sums.
+prebuilt=$root/prebuilt/$made
 
 # Prints a note on standard error, unless TOWER_QUIET is set to something other than 0.
 say() {
@@ -14,36 +25,68 @@ refuse() {
     exit 2
 }
 
-# Prints the sums of all sources and definitions that the program depends on, and of the program.
+# Prints the sums of all sources and definitions that the program depends on.
 sources() {
     crates=$("$root/c/below" "$name")
     folders=$(echo "$crates" | sed 's,.*,crates/&/src crates/&/specs,')
     # Of crates.txt the lines of these crates. Each folder is a word; a crate may have no specs.
     (cd "$root" && echo "$crates" | sed 's,.*,^&[: ],' | grep -f - crates.txt | sha256sum | sed 's,-$,crates.txt,' &&
-        sha256sum "crates/$name/out/$name" &&
-        { find $folders -type f -exec sha256sum {} + 2>/dev/null || true; } | sort -k 2)
+        { find $folders $others -type f -exec sha256sum {} + 2>/dev/null || true; } | LC_ALL=C sort -k 2)
+}
+
+# Prints such sums, and behind them that of a program.
+sums_with() {
+    echo "$1"
+    sha256sum <"$2" | sed "s,-\$,$made,"
+}
+
+# Returns whether a program is there, and was built from what has these sums.
+is_of() {
+    [ -e "$2" ] && [ -e "$2.sources" ] && sums_with "$1" "$2" | cmp -s - "$2.sources"
 }
 
 is_proved() {
-    [ -x "$program" ] && [ -e "$made_of" ] && sources | cmp -s - "$made_of"
+    [ -x "$program" ] && is_of "$(sources)" "$program"
 }
 
-# Prints why the sources are run and not the program.
+# Returns whether a program runs on this machine: without arguments it writes its help, and ends with 2.
+runs_here() {
+    ended=0
+    "$1" </dev/null >/dev/null 2>&1 || ended=$?
+    [ "$ended" -eq 2 ]
+}
+
+# Runs the program that was proved here, or else the one of prebuilt/, if it is of today's sources. If neither is, or
+# that of prebuilt/ doesn't run on this machine, it returns.
+run_proved() {
+    today=$(sources)
+    if [ -x "$program" ] && is_of "$today" "$program"; then
+        say "this is the proved program"
+        exec "$program" "$@"
+    fi
+    if is_of "$today" "$prebuilt" && runs_here "$prebuilt"; then
+        say "this is the proved program, from prebuilt/"
+        exec "$prebuilt" "$@"
+    fi
+}
+
+# Prints why no proved program is run, or nothing if none is there.
 why_unproved() {
-    changed=
-    if [ -x "$program" ] && [ -e "$made_of" ]; then
-        changed=$(sources | diff "$made_of" - | sed -n '/^[<>]/{s/^..[0-9a-f]*  //p;q;}')
-    fi
-    if [ -n "$changed" ]; then
-        echo ", since $changed has changed since the program was proved"
-    else
-        echo ", which takes about a minute to start"
-    fi
+    for built in "$program" "$prebuilt"; do
+        [ -e "$built.sources" ] && [ -e "$built" ] || continue
+        changed=$(sums_with "$today" "$built" | diff "$built.sources" - | sed -n '/^[<>]/{s/^..[0-9a-f]*  //p;q;}')
+        if [ -n "$changed" ]; then
+            echo "$changed has changed since the program was proved"
+        else
+            echo "prebuilt/$made runs only on Linux on x86-64 with glibc 2.34 or later"
+        fi
+        return
+    done
 }
 
 # Notes what the program was built from. Call it only after a proof of exactly these sources.
 note_sources() {
-    sources >"$made_of.new"
+    sums_with "$(sources)" "$program" >"$made_of.new"
     mv "$made_of.new" "$made_of"
 }
 
@@ -74,8 +117,11 @@ not_proved() {
 
 # Makes a folder for what an unproved run reads and writes. The run's end removes it.
 begin_unproved() {
-    command -v rt >/dev/null || refuse "there is no proved program, and no 'rt' is on PATH (README.md says what it is)"
-    say "this is an unproved run$(why_unproved); './$name prove' makes the proved program"
+    why=$(why_unproved)
+    command -v rt >/dev/null ||
+        refuse "there is no proved program${why:+, since $why}, and no 'rt' is on PATH (README.md says what it is)"
+    why=${why:+since $why}
+    say "this is an unproved run, ${why:-which takes about a minute to start}; './$name prove' makes the proved program"
     work=$(mktemp -d)
     child=
     trap 'rm -rf "$work"' EXIT

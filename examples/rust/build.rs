@@ -1,8 +1,8 @@
 //! Links the archive of `crates/tower_c`, and with the feature `images` that of `crates/tower_images`.
 //!
 //! If `TOWER_LIB` names a folder, they are that folder's. Otherwise, in a release, they are those in its `lib/`.
-//! Otherwise they are the repository's, which `make -C c` proves and builds if one is missing or older than
-//! its sources. That takes minutes and needs the kit's `rt`; a warning says so before it begins.
+//! Otherwise they are the repository's, which `make -C c` makes if one is missing or older than its sources. If
+//! `prebuilt/` doesn't have it, that takes minutes and needs the kit's `rt`; a warning says so before it begins.
 use std::path::{Path, PathBuf};
 use std::process::Command;
 use std::{env, fs};
@@ -62,7 +62,7 @@ fn built(root: &Path, name: &str) -> PathBuf {
     if !makes(root, name, &["-q"]) {
         let (archive, advice) = (archive(name), advice(name));
         println!(
-            "cargo::warning=`make -C c` proves and builds {archive}, which takes minutes; {advice}"
+            "cargo::warning=`make -C c` makes {archive}, which takes minutes if it has to be proved; {advice}"
         );
         assert!(
             makes(root, name, &[]),
