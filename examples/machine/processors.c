@@ -3,12 +3,13 @@
 
 #include <stdatomic.h>
 
+#include "place.h"
+
 enum { APIC_ID = 0x20, APIC_EOI = 0xb0, APIC_SPURIOUS = 0xf0, APIC_COMMAND = 0x300, APIC_TARGET = 0x310 };
 enum { APIC_TIMER = 0x320, APIC_LINT0 = 0x350, APIC_FIRST = 0x380, APIC_NOW = 0x390, APIC_DIVIDE = 0x3e0 };
 enum { ASSERT = 0x4000, TO_OTHERS = 0xc0000, INIT = 0x500, STARTUP = 0x600, MASKED = 0x10000, DIVIDE_BY_16 = 3 };
 /* Of the timer, which counts a billion in a second before it divides: 10 ms, and 0.1 ms. */
 enum { SLICE_COUNT = 625000, REST_COUNT = 6250 };
-enum { VECTOR_TIMER = 0x40, VECTOR_STOP = 0x41, VECTOR_SPURIOUS = 0xff, EXCEPTIONS = 32, VECTORS = 256 };
 /* Where the other processors begin, below 1 MiB; the number of its page is the vector of SIPI. */
 enum { TRAMPOLINE_AT = 0x8000, MSR_GS_BASE = 0xc0000101 };
 
@@ -17,7 +18,7 @@ enum { TRAMPOLINE_AT = 0x8000, MSR_GS_BASE = 0xc0000101 };
 #define WAIT_BOUND 30000000000u
 #define LOOKS_BOUND 200000u
 
-/* A processor's own data; GS points to it. start.S has the places of the first three fields. */
+/* A processor's own data; GS points to it. The assembly of each example has the places of the first three fields. */
 static struct processor {
     struct processor *self;
     uint32_t number;
@@ -39,7 +40,7 @@ static uint32_t stop_count;
 void (*before_stop)(void);
 void (*on_call)(void);
 
-extern const uint8_t trampoline[], trampoline_end[], on_exception[], on_timer[], on_stop[], on_spurious[];
+extern const uint8_t trampoline[], trampoline_end[]; /* at their physical places */
 
 static struct processor *me(void) {
     struct processor *it;
@@ -56,7 +57,7 @@ uint32_t processors(void) {
 }
 
 static volatile uint32_t *apic(uint32_t at) {
-    return (volatile uint32_t *)(uintptr_t)(0xfee00000u + at);
+    return at_physical(0xfee00000u + at);
 }
 
 static uint64_t moment(void) {
@@ -99,7 +100,7 @@ void rest(void) {
     rest_for(REST_COUNT);
 }
 
-void wait_until(bool (*holds)(const void *of), const void *of, const char *what) {
+bool comes_in_time(bool (*holds)(const void *of), const void *of) {
     struct processor *it = me();
     uint64_t since = moment();
     while (!holds(of)) {
@@ -108,7 +109,7 @@ void wait_until(bool (*holds)(const void *of), const void *of, const char *what)
             continue;
         }
         if (moment() - since > WAIT_BOUND) {
-            fail(what);
+            return false;
         }
         atomic_store(&it->rests, 1);
         if (!holds(of) && atomic_load(&it->asked) == atomic_load(&it->answered) &&
@@ -117,40 +118,28 @@ void wait_until(bool (*holds)(const void *of), const void *of, const char *what)
         }
         atomic_store(&it->rests, 0);
     }
+    return true;
 }
 
-/* ---- Interrupts. None is taken except in take_interrupts, and while a processor rests. */
-
-static struct gate {
-    uint16_t low, selector, kind, middle;
-    uint32_t high, zero;
-} gates[VECTORS];
-
-static void set_gate(uint32_t vector, const uint8_t *handler) {
-    enum { CODE = 8, INTERRUPT = 0x8e00 };
-    uint64_t at = (uint64_t)handler;
-    gates[vector] = (struct gate){(uint16_t)at, CODE, INTERRUPT, (uint16_t)(at >> 16), (uint32_t)(at >> 32), 0};
-}
-
-static void set_gates(void) {
-    enum { HANDLER_BYTES = 16 };
-    for (uint32_t vector = 0; vector < EXCEPTIONS; vector++) {
-        set_gate(vector, on_exception + vector * HANDLER_BYTES);
+void wait_until(bool (*holds)(const void *of), const void *of, const char *what) {
+    if (!comes_in_time(holds, of)) {
+        fail(what);
     }
-    set_gate(VECTOR_TIMER, on_timer);
-    set_gate(VECTOR_STOP, on_stop);
-    set_gate(VECTOR_SPURIOUS, on_spurious);
 }
 
-/* Ends the run at an exception of the program's own; start.S passes the number and what the processor pushed. */
-_Noreturn void exception(uint64_t number, const uint64_t *pushed) {
-    say("exception %u of processor %u: %x %x\n", (uint32_t)number, this_processor(), (uint32_t)pushed[0],
-        (uint32_t)pushed[1]);
-    fail("the program makes no exception");
-}
+/* ---- Interrupts. In the program itself none is taken except in take_interrupts, and while a processor rests. */
 
 void take_interrupts(void) {
     __asm__ volatile("sti; nop; nop; cli" : : : "memory");
+}
+
+void interrupted(uint32_t vector) {
+    if (vector == VECTOR_TIMER) {
+        me()->slice_over = 1;
+    }
+    if (vector != VECTOR_SPURIOUS) {
+        *apic(APIC_EOI) = 0;
+    }
 }
 
 /* An interrupt of an earlier countdown is taken once the new one counts, so that none is left. */
@@ -175,14 +164,10 @@ void let_slice_pass(void) {
 
 static void begin_processor(uint32_t number) {
     struct processor *it = &all[number];
-    struct __attribute__((packed)) {
-        uint16_t limit;
-        uint64_t begins;
-    } table = {sizeof gates - 1, (uint64_t)gates};
     it->self = it;
     it->number = number;
     write_msr(MSR_GS_BASE, (uint64_t)it);
-    __asm__ volatile("lidt %0" : : "m"(table));
+    begin_gates(number);
     it->apic = *apic(APIC_ID) >> 24;
     *apic(APIC_SPURIOUS) = 0x100 | VECTOR_SPURIOUS;
     *apic(APIC_LINT0) = MASKED;
@@ -194,11 +179,10 @@ static void begin_processor(uint32_t number) {
 void begin_first_processor(void) {
     out8(0x21, 0xff);
     out8(0xa1, 0xff);
-    set_gates();
     begin_processor(0);
 }
 
-/* Runs another processor; start.S gives it its number. */
+/* Runs another processor; the assembly gives it its number. */
 _Noreturn void begin_other(uint32_t number) {
     begin_processor(number);
     first_job();
@@ -225,7 +209,7 @@ void start_processors(void (*first)(void)) {
     uint32_t there = processors_there();
     need(there >= 1 && there <= MOST_PROCESSORS, "there are one to eight processors");
     first_job = first;
-    memmove((void *)TRAMPOLINE_AT, trampoline, (size_t)(trampoline_end - trampoline));
+    memmove(at_physical(TRAMPOLINE_AT), at_physical((uint64_t)trampoline), (size_t)(trampoline_end - trampoline));
     *apic(APIC_COMMAND) = TO_OTHERS | ASSERT | INIT;
     pass(50000000);
     for (uint32_t i = 0; i < 2; i++) {

@@ -6,6 +6,8 @@
 #include "machine.h"
 
 enum { MOST_PROCESSORS = 8, NO_PROCESSOR = 255 };
+/* The vectors of interrupts. */
+enum { VECTOR_TIMER = 0x40, VECTOR_STOP = 0x41, VECTOR_SPURIOUS = 0xff };
 
 /* Sets this processor up as number 0, the one that began the program. Call it before anything else. */
 void begin_first_processor(void);
@@ -15,6 +17,13 @@ uint32_t processors(void);
 uint32_t this_processor(void);
 /* Runs `work` on each processor, this one among them. Returns when all have finished. */
 void on_all(void (*work)(void));
+
+/* Sets up a processor's gates. An example has this function of its own, and its handlers. A handler of an interrupt
+ * that came in the program itself acknowledges it at the processor's APIC. That of the timer notes it, as a 1 in the
+ * four bytes at GS:12. */
+void begin_gates(uint32_t number);
+/* Does both for an interrupt that came while a process or a guest ran. */
+void interrupted(uint32_t vector);
 
 /* The timer interrupts 10 ms from now, and not before. The interrupt ends a guest's run. */
 void start_slice(void);
@@ -61,6 +70,8 @@ uint32_t stops(void);
 /* Waits until something holds. It polls for a while, and then rests between polls, so that a processor in QEMU leaves
  * the host's to others. It answers stops meanwhile. */
 void wait_until(bool (*holds)(const void *of), const void *of, const char *what);
+/* Waits likewise, and returns false at the bound. */
+bool comes_in_time(bool (*holds)(const void *of), const void *of);
 /* Makes each processor that rests poll again. Call it after a change that one may wait for. */
 void wake_others(void);
 /* Rests for a tenth of a millisecond, or until an interrupt. */

@@ -1,0 +1,33 @@
+/* The processes' address spaces: events of the core, and the shadow tables, which follow them. An event returns once
+ * what it ended is forgotten in the tables, and invalidated on each processor that may cache it. All functions are
+ * called with the lock. */
+#ifndef SPACES_H
+#define SPACES_H
+
+#include "core.h"
+
+/* Opens the shadow tables, once the core is booted. */
+void open_spaces(void);
+
+/* Makes an event of a process. Other threads of it may run meanwhile, except as docs/THEOREMS.md says. */
+struct tower_reply make_event(struct tower_event event);
+
+/* Ends a process with all that descend from it, and lists them. */
+struct tower_reply end_family(uint32_t pid, struct tower_processes *exited);
+
+/* Writes bytes into the memory of a process that never ran. Its pages have that right afterwards. */
+struct tower_reply load_bytes(uint32_t pid, uint32_t address, const uint8_t *bytes, size_t count, bool write);
+
+/* Fills a page's shadow entry with what the core's walk gives, for the process that runs here. The page may be written
+ * to if `write`. */
+void fill_page(uint32_t pid, uint32_t page, bool write);
+
+struct spaces_counts {
+    uint32_t fills;                 /* entries filled */
+    uint32_t pages, processes, all; /* entries forgotten: of pages, of processes, and of all */
+};
+struct spaces_counts spaces_counts(void);
+/* How often anything was forgotten. */
+uint32_t forgets(void);
+
+#endif
