@@ -21,6 +21,8 @@ mod offer_tests;
 mod page_map_tests;
 #[cfg(test)]
 mod quota_tests;
+#[cfg(test)]
+mod shadow_tests;
 pub mod streams;
 #[cfg(test)]
 mod text_tests;

@@ -28,6 +28,8 @@ mod report_tests;
 #[cfg(test)]
 mod script_tests;
 #[cfg(test)]
+mod shadow_tests;
+#[cfg(test)]
 mod space_tests;
 #[cfg(test)]
 mod stream_tests;

@@ -1,0 +1,10 @@
+pub mod HoldingLemmas
+pub mod LongWordLemmas
+pub mod WayLemmas
+pub mod TableLemmas
+pub mod StepLemmas
+pub mod RootLemmas
+pub mod ChangeLemmas
+pub mod SlotLemmas
+pub mod WalkLemmas
+pub mod OpeningLemmas

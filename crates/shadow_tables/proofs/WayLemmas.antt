@@ -1,0 +1,181 @@
+-- The way from a root to the table of a page: where its tables have their places, and which changes leave it.
+use Rattle.std.proofs.Common.{◌≡◌, ℕ, zero, suc, ◌+◌, ◌*◌, ◌/◌, ◌^◌, ◌<◌, ◌≤◌, ◌⊎◌, true, Option, Some, None, refl, sym, ap, subst, ◌∙◌, arith, inl, inr}
+use Rattle.std.proofs.lemmas.Bool.{cases_eq, cases_lt}
+use Rattle.std.proofs.lemmas.List.{get_or_past}
+use Rattle.std.proofs.lemmas.Bool.Decides.{nat_tests}
+use Rattle.std.specs.Option.{option_and_then}
+use Rattle.page_words.specs.Addresses.{IsUserPage}
+use Rattle.shadow_tables.specs.declared.tables.Tables.{Tables}
+use Rattle.shadow_tables.specs.LongWords.{entry_word}
+use Rattle.shadow_tables.specs.Shadow.{frame_address}
+use Rattle.shadow_tables.specs.Holdings.{Places}
+use Rattle.shadow_tables.specs.Tables.{frames_of, word_of, named_by, index_at, prefix_at, way, translation_in, translation_at, AreBlocks, AreTables, LinksTo, IsTable, SameBlocks}
+use Rattle.shadow_tables.proofs.LongWordLemmas.{SaysEntry, says_entry}
+
+-- ---- Steps of an option
+
+pub then_some : {X : Type 0} (f : ℕ → Option X) (o : Option ℕ) (v : X) → option_and_then f o ≡ Some v → (g : ℕ) × (o ≡ Some g) × (f g ≡ Some v)
+then_some f None v e = absurd (cc)
+then_some f (Some g) v e = (g, refl, e)
+
+pub same_then : {X : Type 0} (f f' : ℕ → Option X) (o o' : Option ℕ) → o' ≡ o → ((g : ℕ) → o ≡ Some g → f' g ≡ f g) → option_and_then f' o' ≡ option_and_then f o
+same_then f f' None o' e h = ap (option_and_then f') e
+same_then f f' (Some g) o' e h = ap (option_and_then f') e ∙ h g refl
+
+-- ---- The parts of a page's number
+
+pub prefix_at-next : (d page : ℕ) → d < 3 → prefix_at (suc d) page ≡ 512 * prefix_at d page + index_at d page
+prefix_at-next zero page h = omega arith
+prefix_at-next (suc zero) page h = omega arith
+prefix_at-next (suc (suc zero)) page h = omega arith
+prefix_at-next (suc (suc (suc d))) page h = absurd (omega arith)
+
+pub prefix_at-root : (page : ℕ) → page < 2 ^ 35 → prefix_at 0 page ≡ 0
+prefix_at-root page h = omega arith
+
+pub prefix_at-last : (page : ℕ) → 512 * prefix_at 3 page + index_at 3 page ≡ page
+prefix_at-last page = omega arith
+
+pub index_at-below : (d page : ℕ) → index_at d page < 512
+index_at-below d page = omega arith
+
+pub index_at-root : (page : ℕ) → page < 2 ^ 35 → index_at 0 page < 256
+index_at-root page h = omega arith
+
+-- ---- What a word names
+
+pub named_by-link : (t : Tables) (g : ℕ) → AreBlocks t → g < frames_of t → named_by t (entry_word (frame_address t.pool g) true) ≡ Some g
+named_by-link t g b l =
+    let pool = b.pool in
+    let whole : frame_address t.pool g ≡ 4096 * (t.pool / 4096 + g) = omega arith in
+    let says : SaysEntry (entry_word (frame_address t.pool g) true) (4096 * (t.pool / 4096 + g)) true =
+    subst (λ (a : ℕ). SaysEntry (entry_word a true) (4096 * (t.pool / 4096 + g)) true) (sym whole) (says_entry (t.pool / 4096 + g) true (omega (arith, b.pool_end, pool))) in
+    let present = says.present in
+    let number : entry_word (frame_address t.pool g) true / 4096 ≡ t.pool / 4096 + g = omega (arith, says.target_is) in
+    grind (arith, nat_tests)
+
+-- ---- The places of tables on the way
+
+-- a table for a page, of this depth
+pub record IsAt (places : Places) (t : Tables) (p page d frame : ℕ) : Type 0 where
+  pub inside : frame < frames_of t
+  pub owner : (places frame).owner ≡ p
+  pub depth : (places frame).depth ≡ d
+  pub prefix : (places frame).prefix ≡ prefix_at d page
+
+-- a word on the way is 0, or leads on
+pub next_at : (places : Places) (t : Tables) (p page d frame : ℕ) → AreTables places t → p < 64 → page < 2 ^ 35 → d < 3 → IsAt places t p page d frame
+    → (word_of t frame (index_at d page) ≡ 0) ⊎ ((below : ℕ) × LinksTo places t frame (index_at d page) below)
+next_at places t p page d frame are process lower deep at =
+    let table : IsTable places t frame = are.tables frame at.inside (omega (arith, at.owner)) in
+    (table.words (index_at d page) (index_at-below d page)).link (omega (arith, at.depth)) (λ none. let e = ap (λ d. index_at d page) (sym at.depth ∙ none) in omega (arith, e, index_at-root page lower))
+
+pub linked_at : (places : Places) (t : Tables) (p page d frame below : ℕ) → d < 3 → IsAt places t p page d frame → LinksTo places t frame (index_at d page) below → IsAt places t p page (suc d) below
+linked_at places t p page d frame below deep at link = record {
+  inside = link.inside;
+  owner = link.owner ∙ at.owner;
+  depth = link.depth ∙ ap suc at.depth;
+  prefix = link.prefix ∙ (let e = at.prefix in omega (arith, e, prefix_at-next d page deep));
+}
+
+pub some_same : (g h : ℕ) → ◌≡◌ {A = Option ℕ} (Some g) (Some h) → g ≡ h
+some_same g h e = cc
+
+pub none_some : (g : ℕ) → ◌≡◌ {A = Option ℕ} None (Some g) → ⊥
+none_some g e = cc
+
+module _ (places : Places) (t : Tables) (are : AreTables places t) (p page : ℕ) (process : p < 64) (lower : page < 2 ^ 35) where
+  pub place_of_way : (d frame : ℕ) → d ≤ 3 → way t p page d ≡ Some frame → IsAt places t p page d frame
+  place_of_way zero frame deep is =
+      let root = are.roots p frame process is in
+      record { inside = root.inside; owner = root.owner; depth = root.depth; prefix = root.prefix ∙ sym (prefix_at-root page lower) }
+  place_of_way (suc d) frame deep is =
+      let step = then_some (λ f. named_by t (word_of t f (index_at d page))) (way t p page d) frame is in
+      let at = place_of_way d step.0 (omega arith) step.1 in
+      elim (next_at places t p page d step.0 are process lower (omega arith) at) [
+        | inl none ↦ absurd (none_some frame (sym (ap (named_by t) none) ∙ step.2))
+        | inr more ↦
+            let e : more.0 ≡ frame = some_same more.0 frame (sym (ap (named_by t) more.1.word ∙ named_by-link t more.0 are.blocks more.1.inside) ∙ step.2) in
+            subst (IsAt places t p page (suc d)) e (linked_at places t p page d step.0 more.0 (omega arith) at more.1)
+      ]
+
+-- ---- Changes off the way
+
+-- the words on the way to a page are as before
+pub record SamePath (t t' : Tables) (p page depth : ℕ) : Type 0 where
+  pub blocks : SameBlocks t t'
+  pub root : way t' p 0 0 ≡ way t p 0 0
+  pub words : (k frame : ℕ) → k < depth → way t p page k ≡ Some frame → word_of t' frame (index_at k page) ≡ word_of t frame (index_at k page)
+
+named_by-same : (t t' : Tables) (word word' : ℕ) → SameBlocks t t' → word' ≡ word → named_by t' word' ≡ named_by t word
+named_by-same t t' word word' same e = let a = same.pool in let b = same.frames in rw (a, b, e) refl
+
+shorter : (t t' : Tables) (p page d : ℕ) → SamePath t t' p page (suc d) → SamePath t t' p page d
+shorter t t' p page d same = record { blocks = same.blocks; root = same.root; words = λ k frame h. same.words k frame (omega arith) }
+
+pub same_way : (t t' : Tables) (p page d : ℕ) → SamePath t t' p page d → way t' p page d ≡ way t p page d
+same_way t t' p page zero same = same.root
+same_way t t' p page (suc d) same =
+    same_then (λ f. named_by t (word_of t f (index_at d page))) (λ f. named_by t' (word_of t' f (index_at d page))) (way t p page d) (way t' p page d)
+    (same_way t t' p page d (shorter t t' p page d same))
+    (λ g is. named_by-same t t' _ _ same.blocks (same.words d g (omega arith) is))
+
+translation_in-same : (block block' word word' : ℕ) → block' ≡ block → word' ≡ word → translation_in block' word' ≡ translation_in block word
+translation_in-same block block' word word' e f = rw (e, f) refl
+
+pub same_translation : (t t' : Tables) (p page : ℕ) → SamePath t t' p page 4 → translation_at t' p page ≡ translation_at t p page
+same_translation t t' p page same =
+    same_then (λ f. translation_in t.block (word_of t f (index_at 3 page))) (λ f. translation_in t'.block (word_of t' f (index_at 3 page))) (way t p page 3) (way t' p page 3)
+    (same_way t t' p page 3 (shorter t t' p page 3 same))
+    (λ g is. translation_in-same t.block t'.block _ _ same.blocks.block (same.words 3 g (omega arith) is))
+
+-- ---- Ways that end
+
+pub no_next : (t : Tables) (p page d : ℕ) → way t p page d ≡ None → way t p page (suc d) ≡ None
+no_next t p page d e = ap (option_and_then (λ f. named_by t (word_of t f (index_at d page)))) e
+
+-- a way that ends leads to no translation
+pub nothing_after : (t : Tables) (p page d : ℕ) → d ≤ 3 → way t p page d ≡ None → translation_at t p page ≡ None
+nothing_after t p page zero h e = ap (option_and_then (λ f. translation_in t.block (word_of t f (index_at 3 page)))) (no_next t p page 2 (no_next t p page 1 (no_next t p page 0 e)))
+nothing_after t p page (suc zero) h e = ap (option_and_then (λ f. translation_in t.block (word_of t f (index_at 3 page)))) (no_next t p page 2 (no_next t p page 1 e))
+nothing_after t p page (suc (suc zero)) h e = ap (option_and_then (λ f. translation_in t.block (word_of t f (index_at 3 page)))) (no_next t p page 2 e)
+nothing_after t p page (suc (suc (suc zero))) h e = ap (option_and_then (λ f. translation_in t.block (word_of t f (index_at 3 page)))) e
+nothing_after t p page (suc (suc (suc (suc d)))) h e = absurd (omega arith)
+
+-- neither does a word that is 0
+pub nothing_at : (t : Tables) (p page d frame : ℕ) → d ≤ 3 → way t p page d ≡ Some frame → word_of t frame (index_at d page) ≡ 0 → translation_at t p page ≡ None
+nothing_at t p page d frame h is none = elim (cases_eq d 3) [
+  | inl e ↦
+      let three : way t p page 3 ≡ Some frame = ap (way t p page) (sym e) ∙ is in
+      let word : word_of t frame (index_at 3 page) ≡ 0 = ap (λ d. word_of t frame (index_at d page)) (sym e) ∙ none in
+      ap (option_and_then (λ f. translation_in t.block (word_of t f (index_at 3 page)))) three ∙ ap (translation_in t.block) word
+  | inr n ↦
+      nothing_after t p page (suc d) (omega arith) (ap (option_and_then (λ f. named_by t (word_of t f (index_at d page)))) is ∙ ap (named_by t) none)
+]
+
+-- a process with a table has a root
+pub rooted_way : (t : Tables) (p page d frame : ℕ) → way t p page d ≡ Some frame → way t p 0 0 ≡ None → ⊥
+rooted_way t p page zero frame is none = none_some frame (sym none ∙ is)
+rooted_way t p page (suc d) frame is none =
+    let step = then_some (λ f. named_by t (word_of t f (index_at d page))) (way t p page d) frame is in
+    rooted_way t p page d step.0 step.1 none
+
+-- an option is that number, or isn't
+pub some_or_not : (o : Option ℕ) (f : ℕ) → (o ≡ Some f) ⊎ (o ≡ Some f → ⊥)
+some_or_not None f = inr (λ e. none_some f e)
+some_or_not (Some g) f = elim (cases_eq g f) [ inl e ↦ inl (ap Some e) | inr n ↦ inr (λ e. n (some_same g f e)) ]
+
+pub user_lower : (page : ℕ) → IsUserPage page → page < 2 ^ 35
+user_lower page h = omega (arith, h.1)
+
+-- a process with a table is one of the 64
+pub process_of_way : (t : Tables) (p page d frame : ℕ) → AreBlocks t → way t p page d ≡ Some frame → p < 64
+process_of_way t p page d frame are is = elim (cases_lt p 64) [
+  | inl less ↦ less
+  | inr more ↦ absurd (rooted_way t p page d frame is (get_or_past t.roots p None (omega (arith, are.roots, more))))
+]
+
+-- a table on a way lies in the pool
+pub way_inside : (t : Tables) (p page d frame : ℕ) → (places : Places) × AreTables places t → page < 2 ^ 35 → d ≤ 3 → way t p page d ≡ Some frame → frame < frames_of t
+way_inside t p page d frame stands lower deep is =
+    (place_of_way stands.0 t stands.1 p page (process_of_way t p page d frame stands.1.blocks is) lower d frame deep is).inside

@@ -1,0 +1,22 @@
+-- The laws of shadow tables: what the walk of a processor over the pool gives.
+use Rattle.std.specs.Prelude.{◌≡◌, ℕ, ◌+◌, ◌*◌, ◌^◌, ◌<◌, true, is_some, Some}
+use Rattle.std.specs.List.{slice_range}
+use Rattle.page_words.specs.Addresses.{page_number, IsUserPage}
+use Rattle.page_words.specs.FiniteMap as map
+use Rattle.table_walk.specs.declared.Access.{Access}
+use Rattle.shadow_tables.specs.LongWalk.{long_walk}
+use Rattle.shadow_tables.specs.Shadow.{Shadow, at_page, frame_address, root_frame, shadow_end}
+
+-- the walk of each address of the lower half, from each root, ends as the translation of its page says
+abbrev pub WalksAgree : Shadow → Type 0
+WalksAgree s = (p root address : ℕ) (access : Access) → root_frame s p ≡ Some root → address < 2 ^ 47
+    → long_walk s.bytes s.pool (frame_address s.pool root) address access
+    ≡ shadow_end s.block (map.get s.translations (at_page p (page_number address))) address access
+
+-- the upper half of each root is the kernel's, in the entries 256 to 511
+abbrev pub KernelHalves : Shadow → Type 0
+KernelHalves s = (p root : ℕ) → root_frame s p ≡ Some root → slice_range s.bytes (4096 * root + 2048) (4096 * root + 4096) ≡ s.kernel
+
+-- only user pages of the 64 processes have translations
+abbrev pub UserPagesOnly : Shadow → Type 0
+UserPagesOnly s = (p page : ℕ) → is_some (map.get s.translations (at_page p page)) ≡ true → (p < 64) × IsUserPage page

@@ -1,0 +1,6 @@
+pub mod LongWords
+pub mod LongWalk
+pub mod Shadow
+pub mod Holdings
+pub mod Tables
+pub mod Laws
