@@ -94,27 +94,8 @@ impl Spaces {
     }
 
     /// Copies each page of a process to the same page of another, whose space is as `fresh` leaves it: equal bytes and
-    /// rights, untouched, in groups of their own. The copy of a lazy page is lazy. It counts first what the first process
-    /// is charged for.
-    pub fn copy_space(&mut self, from: Pid, to: Pid)
-        requires from { is_some (directory_of self.old.directories from) ≡ true }
-        requires live { is_some (directory_of self.old.directories to) ≡ true }
-        requires empty { (page : ℕ) → map.get self.old.spaces (at_page to page) ≡ None }
-        requires room { cost self.old.spaces from + total_cost self.old.directories self.old.spaces
-            ≤ length self.old.roles }
-        ensures spaces { self.new.spaces ≡ copied self.old.spaces from to }
-        ensures stay { FramesStay none_goes (image_of self.old) (image_of self.new) }
-        ensures lazy { (page : ℕ) → is_lazy_at (image_of self.new) (at_page to page)
-            ≡ is_lazy_at (image_of self.old) (at_page from page) }
-        ensures directories { self.new.directories ≡ self.old.directories }
-        ensures frames { length self.new.roles ≡ length self.old.roles }
-    {
-        let used = self.cost(from);
-        self.copy_charged_space(from, to, used);
-    }
-
-    /// Copies each page of a process as `copy_space` does. The first process is charged for `used`, and no more words
-    /// are read than that takes.
+    /// rights, untouched, in groups of their own. The copy of a lazy page is lazy. The first process is charged for
+    /// `used`, and no more words are read than that takes.
     pub fn copy_charged_space(&mut self, from: Pid, to: Pid, used: u32)
         requires from { is_some (directory_of self.old.directories from) ≡ true }
         requires live { is_some (directory_of self.old.directories to) ≡ true }

@@ -215,6 +215,7 @@ impl Spaces {
         ensures each { (p : ℕ) → is_some (directory_of self.now.directories p) ≡ true
             → 1 + cost self.now.spaces p ≤ length self.now.roles }
         ensures few { length self.now.roles ≤ WIDE_FRAMES }
+        ensures pids { length self.now.directories ≡ 64 }
         ensures used { LeavesRoom (image_of self.now) (total_cost self.now.directories self.now.spaces) }
         ensures places { PlacesTell (image_of self.now) self.now.spaces }
     {

@@ -330,23 +330,6 @@ impl Spaces {
         Place::Mapped(Found { page, table, entry })
     }
 
-    /// Gives a lazy page a frame of its own. A real page is unchanged, and no page becomes lazy. The spaces do not
-    /// change.
-    pub fn fill(&mut self, pid: Pid, page: Page)
-        requires mapped { is_some (map.get self.old.spaces (at_page pid page)) ≡ true }
-        requires user { IsUserPage page }
-        ensures spaces { self.new.spaces ≡ self.old.spaces }
-        ensures stay { FramesStay (of_lazy pid page) (image_of self.old) (image_of self.new) }
-        ensures directories { self.new.directories ≡ self.old.directories }
-        ensures real { is_lazy_at (image_of self.new) (at_page pid page) ≡ false }
-        ensures others { (slot : Slot) → is_lazy_at (image_of self.old) slot ≡ false
-            → is_lazy_at (image_of self.new) slot ≡ false }
-        ensures frames { length self.new.roles ≡ length self.old.roles }
-    {
-        let place = self.place(pid, page);
-        self.fill_at(pid, page, &place);
-    }
-
     /// Sets whether a process may write to a mapped page, whose place this is; to set it, the process must be allowed
     /// to.
     #[inline(always)]

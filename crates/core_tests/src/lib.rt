@@ -36,8 +36,4 @@ mod stream_tests;
 #[cfg(test)]
 mod transfer_tests;
 #[cfg(test)]
-mod turn_tests;
-#[cfg(test)]
 mod walk_tests;
-#[cfg(test)]
-mod window_tests;

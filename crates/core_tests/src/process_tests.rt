@@ -75,8 +75,7 @@ fn spawn(rt: &impl Abort, processes: &mut Processes, pid: Pid, quota: u32) -> Pi
 }
 
 fn fork(rt: &impl Abort, processes: &mut Processes, pid: Pid, quota: u32) -> Pid {
-    assert!(rt; processes.can_fork(pid, quota).is_ok());
-    processes.fork(pid, quota)
+    processes.try_fork(pid, quota).ok().expect(rt, "a child")
 }
 
 fn exit(rt: &impl Abort, processes: &mut Processes, pid: Pid) {
@@ -105,7 +104,8 @@ fn store(rt: &impl Abort, processes: &mut Processes, pid: Pid, address: Vaddr, v
         .cell(pid, page)
         .expect(rt, "a mapped page");
     assert!(rt; cell.write);
-    processes.fill(pid, page);
+    let place = processes.spaces().place(pid, page);
+    processes.fill_at(pid, page, &place);
     processes.access(pid, address, Size::Four, Access::Write, value);
 }
 

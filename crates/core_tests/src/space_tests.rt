@@ -66,7 +66,8 @@ fn share_page(rt: &impl Abort, spaces: &mut Spaces, giver: Pid, pid: Pid, page: 
     assert!(rt; spaces.directory(pid).is_some());
     assert!(rt; spaces.cell(giver, page).is_some());
     assert!(rt; spaces.cell(pid, page).is_none());
-    spaces.fill(giver, page);
+    let place = spaces.place(giver, page);
+    spaces.fill_at(giver, page, &place);
     spaces.join(giver, page, pid, page, false);
 }
 
@@ -87,7 +88,8 @@ fn fill_page(rt: &impl Abort, spaces: &mut Spaces, pid: Pid, page: Page)
 {
     assert!(rt; spaces.is_lazy(pid, page));
     assert!(rt; spaces.cell(pid, page).is_some());
-    spaces.fill(pid, page);
+    let place = spaces.place(pid, page);
+    spaces.fill_at(pid, page, &place);
     assert!(rt; !spaces.is_lazy(pid, page));
 }
 

@@ -1,13 +1,17 @@
-//! Accesses as a processor makes them by itself, by the walk over memory's own words.
+//! Walks of a core's memory as a processor makes them, and what it does to a directory word.
 
 use crate::common::same;
 use kernel_calls::{Call, Core, Event, Page, Pid, Reply, Size, Vaddr};
 use page_words::{DirWord, in_user_range, slot_of};
 use std::process::Abort;
 use std::test::Fail;
+use table_walk::{Access, walk};
 
 /// Two bytes in each of two pages.
 const ACROSS: Vaddr = Vaddr(0x4000_0ffe);
+
+/// The first byte of the second page.
+const BEHIND: Vaddr = Vaddr(0x4000_1000);
 
 fn root(rt: &impl Abort) -> Pid {
     Pid::new(0).expect(rt, "0 is below 64")
@@ -25,14 +29,11 @@ fn store(pid: Pid, value: u32) -> Event {
     Event { cpu: 0, pid, call }
 }
 
-/// What a processor and the core do together: the processor makes an access that its walks find, and the core
-/// carries out anything else. Whether it was the processor.
-fn together(core: &mut Core, event: &Event) -> (Reply, bool) {
-    if core.finds(event) {
-        (core.accessed(event), true)
-    } else {
-        (core.step(event), false)
-    }
+/// Whether the walks of the root's directory find a frame for each of the two pages.
+fn finds(rt: &impl Abort, core: &Core, access: Access) -> bool {
+    let directory = core.directory(root(rt)).expect(rt, "a directory");
+    walk(core.memory(), directory, ACROSS, access).is_ok()
+        && walk(core.memory(), directory, BEHIND, access).is_ok()
 }
 
 /// Sets or clears accessed in the directory word of a page, where a process has a directory.
@@ -42,18 +43,14 @@ fn walk_by(core: &mut Core, pid: Pid, page: Page, walked: bool) {
     }
 }
 
-/// An event has this reply, by the processor alone or not.
-fn check(rt: &impl Abort, core: &mut Core, event: &Event, reply: Reply, alone: bool) {
-    same(rt, &together(core, event), &(reply, alone));
-}
-
-/// A processor makes a store by translations that it kept, where it has no word to mark for it: whether it did.
-fn kept(core: &mut Core, event: &Event) -> bool {
-    let is_marked = core.finds_marked(event);
-    if is_marked {
-        core.store_kept(event);
-    }
-    is_marked
+/// An event has this reply. Whether the walks for a load and for a store find a frame for each page then.
+fn check(rt: &impl Abort, core: &mut Core, event: &Event, reply: Reply, found: [bool; 2]) {
+    let told = core.step(event);
+    let finds = [
+        finds(rt, core, Access::Read),
+        finds(rt, core, Access::Write),
+    ];
+    same(rt, &(told, finds), &(reply, found));
 }
 
 /// Whether accessed is set in the directory word of a page of the root.
@@ -69,11 +66,16 @@ fn is_walked(rt: &impl Abort, core: &Core, page: Page) -> bool {
 fn walks_find_a_store_once_both_pages_have_frames(rt: HostRuntime) -> Result<(), Fail> {
     let mut core = Core::boot(rt.alloc(), 16)?;
     let (load, store) = (load(root(&rt)), store(root(&rt), 0xdead_beef));
-    check(&rt, &mut core, &load, Reply::Value(0), false);
-    check(&rt, &mut core, &load, Reply::Value(0), true);
-    check(&rt, &mut core, &store, Reply::Done, false);
-    check(&rt, &mut core, &store, Reply::Done, true);
-    check(&rt, &mut core, &load, Reply::Value(0xdead_beef), true);
+    assert!(rt; !finds(&rt, &core, Access::Read));
+    check(&rt, &mut core, &load, Reply::Value(0), [true, false]);
+    check(&rt, &mut core, &store, Reply::Done, [true, true]);
+    check(
+        &rt,
+        &mut core,
+        &load,
+        Reply::Value(0xdead_beef),
+        [true, true],
+    );
     Ok(())
 }
 
@@ -86,23 +88,5 @@ fn a_directory_word_is_marked_by_itself(rt: HostRuntime) -> Result<(), Fail> {
     assert!(rt; is_walked(&rt, &core, page));
     walk_by(&mut core, root(&rt), page, false);
     assert!(rt; !is_walked(&rt, &core, page));
-    Ok(())
-}
-
-#[test]
-fn a_marked_page_takes_a_store_without_a_mark(rt: HostRuntime) -> Result<(), Fail> {
-    let mut core = Core::boot(rt.alloc(), 16)?;
-    let (page, first, second) = (
-        Page(0x40000),
-        store(root(&rt), 1),
-        store(root(&rt), 0x0403_0201),
-    );
-    core.step(&load(root(&rt)));
-    assert!(rt; !kept(&mut core, &first));
-    core.step(&first);
-    walk_by(&mut core, root(&rt), page, false);
-    assert!(rt; kept(&mut core, &second));
-    assert!(rt; !is_walked(&rt, &core, page));
-    assert_eq!(rt; core.step(&load(root(&rt))), Reply::Value(0x0403_0201));
     Ok(())
 }

@@ -6,20 +6,16 @@
 #![tactic(auto)]
 
 ghost use Rattle.std.specs.Prelude.{◌≡◌, ◌≢◌, ℕ, true, false, not, [], ◌∷◌, Some, is_some};
-ghost use Rattle.page_words.specs.Addresses.{byte_count, second_page, EachTouched, IsUserPage};
-ghost use Rattle.address_space.specs.Kept.{is_marked, written_at, LeadTo};
-ghost use Rattle.address_space.specs.Spaces.{at_page, bytes_of, with_page};
-ghost use Rattle.process_table.specs.State.{container_of, is_live, is_mapped, overdrawn};
+ghost use Rattle.page_words.specs.Addresses.{second_page, IsUserPage};
+ghost use Rattle.address_space.specs.Spaces.{at_page, with_page};
+ghost use Rattle.process_table.specs.State.{is_mapped, overdrawn};
 ghost use Rattle.process_table.specs.Calls.{access_value, after_access};
 ghost use Rattle.address_space.specs.Stays.{FramesStay, none_goes};
 ghost use Rattle.address_space.specs.Places.{found_of, place_in};
 ghost use Rattle.process_table.specs.Places.{access_places};
-ghost use Rattle.address_space.specs.View.{directory_of};
-ghost use Rattle.address_space.specs.ByWalk.{finds, value_found, after_walked};
 ghost use Rattle.process_table.specs.Image.{memory_of};
 ghost use Rattle.fault_handler.specs.Fills.{lazy_written};
-ghost use Rattle.fault_handler.specs.Plans.{maps_page, plan_at, takes_no_frame};
-ghost use Rattle.table_walk.specs.declared.Access.{Access};
+ghost use Rattle.fault_handler.specs.Plans.{maps_page, plan_at};
 ghost use Rattle.fault_handler.specs.declared.plans.Plan.TheVariants as plan;
 
 mod accesses;
@@ -138,51 +134,4 @@ pub(crate) fn settle_over(
             processes.access_at(pid, address, size, Access::Write, value, &places)
         }
     }
-}
-
-/// Makes an access as a processor does, where the walks of its process's directory find a frame for each page that
-/// it touches: the value read, or 0 after a write. Its plan completes as memory stands, so that it takes no frame.
-pub fn complete_by_walk(
-    processes: &mut Processes,
-    pid: Pid,
-    address: Vaddr,
-    size: Size,
-    access: Access,
-    value: u32,
-) -> u32
-    requires { finds (memory_of processes.old) pid address size access ≡ true }
-    ensures live { is_live processes.old.state pid ≡ true }
-    ensures plan { takes_no_frame (plan_at processes.old pid address size access) ≡ true }
-    ensures value { result ≡ access_value processes.old.state pid address size access }
-    ensures state { processes.new.state ≡ after_access processes.old.state pid address size access value }
-    ensures stay { FramesStay none_goes (memory_of processes.old) (memory_of processes.new) }
-    ensures directories { processes.new.directories ≡ processes.old.directories }
-    ensures roles { processes.new.roles ≡ processes.old.roles }
-    ensures bytes { (directory : ℕ) → directory_of processes.old.directories pid ≡ Some directory
-        → processes.new.bytes ≡ after_walked processes.old.bytes directory address size access value }
-    ensures found { (directory : ℕ) → directory_of processes.old.directories pid ≡ Some directory
-        → result ≡ value_found processes.old.bytes directory address size access }
-    ensures containers { (p : ℕ) → container_of processes.new.state p ≡ container_of processes.old.state p }
-{
-    processes.access_by_walk(pid, address, size, access, value)
-}
-
-/// Makes a store as a processor does by translations that it kept, where accessed and dirty of each page that it
-/// touches are set already. Its plan completes as memory stands, so that it takes no frame.
-pub fn complete_kept(processes: &mut Processes, pid: Pid, address: Vaddr, size: Size, value: u32)
-    requires finds { finds (memory_of processes.old) pid address size Access.Write ≡ true }
-    requires marked { EachTouched address size (λ page. is_marked processes.old.state.spaces (at_page pid page)
-        ≡ true) }
-    ensures live { is_live processes.old.state pid ≡ true }
-    ensures plan { takes_no_frame (plan_at processes.old pid address size Access.Write) ≡ true }
-    ensures state { processes.new.state ≡ after_access processes.old.state pid address size Access.Write value }
-    ensures stay { FramesStay none_goes (memory_of processes.old) (memory_of processes.new) }
-    ensures directories { processes.new.directories ≡ processes.old.directories }
-    ensures roles { processes.new.roles ≡ processes.old.roles }
-    ensures bytes { (directory : ℕ) (frames : ℕ → ℕ) → directory_of processes.old.directories pid ≡ Some directory
-        → LeadTo processes.old.bytes directory Access.Write frames address size
-        → processes.new.bytes ≡ written_at frames processes.old.bytes address (bytes_of (byte_count size) value) }
-    ensures containers { (p : ℕ) → container_of processes.new.state p ≡ container_of processes.old.state p }
-{
-    processes.store_kept(pid, address, size, value);
 }

@@ -7,7 +7,7 @@ use Prelude.{cell_or_fresh, with_bytes, set_bytes, write_at, stored, is_slot, at
 use Prelude.{StandsFor, image_of, memory_of, View, get-inserted_other, EndsMarks, of_lazy_pages, is_ended, is_all_of}
 use Prelude.{Ended, and-false}
 use Rattle.kernel_calls.proofs.Flags.{has}
-use Rattle.kernel_calls.proofs.Leaving.{Standing}
+use Rattle.kernel_calls.specs.Processors.{IsCore}
 use Rattle.kernel_calls.proofs.Linked.{mapped_way, tables_map}
 use Rattle.kernel_calls.proofs.Translated.{walk_takes, walk_finds, has_right}
 use Rattle.kernel_acts.proofs.Unmaps.{slot_test}
@@ -62,7 +62,7 @@ write_kept x y same h = grind (arith, same_Some)
 mapped_kept : (x y : Option Cell) → option_map marks_of y ≡ option_map marks_of x → is_some x ≡ true → is_some y ≡ true
 mapped_kept x y same h = grind arith
 
-pub page_ends : (gone : Gone) (v w : View) (p page : ℕ) → Standing v → Standing w → FramesStay gone (memory_of v) (memory_of w)
+pub page_ends : (gone : Gone) (v w : View) (p page : ℕ) → IsCore v → IsCore w → FramesStay gone (memory_of v) (memory_of w)
     → ((slot : Slot) (f : ℕ) → is_slot p page slot ≡ false → gone slot f ≡ false) → ((q : ℕ) → gone (at_page q 0) 1 ≡ false)
     → ((slot : Slot) → is_slot p page slot ≡ false → option_map marks_of (map.get w.state.spaces slot) ≡ option_map marks_of (map.get v.state.spaces slot))
     → EndsMarks (end.Page p page) v w
@@ -109,7 +109,7 @@ lazy_apart : (p a count : ℕ) (slot : Slot) (f : ℕ) → offset_number a + cou
     → of_lazy_pages p a count slot f ≡ false
 lazy_apart p a count slot f within some apart = grind (arith, leb-true, slot_test, eq-eqb)
 
-pub stores_end : (v w : View) (p a : ℕ) (bytes : List ℕ) → Standing v → Standing w → offset_number a + length bytes ≤ 4096 → 0 < length bytes
+pub stores_end : (v w : View) (p a : ℕ) (bytes : List ℕ) → IsCore v → IsCore w → offset_number a + length bytes ≤ 4096 → 0 < length bytes
     → w.state.spaces ≡ stored v.state.spaces (slot_at p a) (offset_number a) bytes
     → FramesStay (of_lazy_pages p a (length bytes)) (memory_of v) (memory_of w) → EndsMarks (end.Page p (page_number a)) v w
 stores_end v w p a bytes now later within some state stay =

@@ -3,10 +3,9 @@ use Rattle.kernel_calls.proofs.Prelude
 use Prelude.{◌≡◌, ◌≢◌, ℕ, Bool, true, false, refl, sym, ap, ◌∙◌, Option, Some, unwrap_or, arith, option_map, some_value}
 use Prelude.{same_itself, same_cases, same_Some, walk_of, FramesStay, none_goes, kept, memory_of, Slot, slot_order}
 use Prelude.{Cell, fresh, cell_or_fresh, is_slot, at_page, slot_at, State, is_mapped, View, get-inserted}
-use Prelude.{get-inserted_other, cleaned, EndsMarks}
+use Prelude.{get-inserted_other, cleaned, EndsMarks, IsCore}
 use Rattle.kernel_calls.specs.Cleaned.{EventsEndMarks}
 use Rattle.kernel_calls.proofs.Flags.{has}
-use Rattle.kernel_calls.proofs.Leaving.{Standing}
 use Rattle.kernel_calls.proofs.Linked.{mapped_way, tables_map}
 use Rattle.kernel_calls.proofs.Translated.{walk_takes, walk_finds, has_right}
 use Rattle.page_words.specs.FiniteMap as map
@@ -30,7 +29,7 @@ module _ (s : State) (slot : Slot) (c : Cell) (at : map.get s.spaces slot ≡ So
 pub events_end_marks : EventsEndMarks
 events_end_marks ended v w ends = grind arith
 
-pub cleaning_ends : (v w : View) (p page : ℕ) → Standing v → Standing w → is_mapped v.state (at_page p page) ≡ true
+pub cleaning_ends : (v w : View) (p page : ℕ) → IsCore v → IsCore w → is_mapped v.state (at_page p page) ≡ true
     → w.state ≡ cleaned v.state (at_page p page) → FramesStay none_goes (memory_of v) (memory_of w) → EndsMarks (end.Page p page) v w
 cleaning_ends v w p page now later mapped state stay = record {
   translations = λ q d a f access small spared gives.

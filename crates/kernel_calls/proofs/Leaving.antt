@@ -3,7 +3,7 @@ use Rattle.kernel_calls.proofs.Prelude
 use Prelude.{◌≡◌, ◌<◌, ◌^◌, ℕ, Bool, true, false, List, [], ◌∷◌, refl, ap, sym, ◌∙◌, subst, arith, Option, Some, None}
 use Prelude.{is_some, eq-eqb, if◌then◌else◌, page_number, slot_number, start_number, same-true, ne_eqb, Read, Write}
 use Prelude.{table_at, Slot, Cell, at_page, slot_at, FramesStay, WaysAgree, none_goes, WalksAgree, StandsFor, image_of}
-use Prelude.{memory_of, State, View, IsWellFormed, gone_by, answer, after, next, completes, TablesMap, TablesStay}
+use Prelude.{memory_of, State, View, IsWellFormed, IsCore, gone_by, answer, after, next, completes, TablesMap, TablesStay}
 use Prelude.{is_ended, ended_by, FlagsStay, Ends, Translation, IsGiven, Kept, IsRead, AreRead, ends_in_region}
 use Prelude.{is_invalidated, left_by, Keeps, change, walk, Keeping, nothing, onward, KeptAreGiven, KeptThroughRuns}
 use Prelude.{Call, Event, Ended, stays_most}
@@ -17,15 +17,9 @@ use Rattle.kernel_calls.specs.declared.calls.Call.TheVariants as call
 use Rattle.kernel_calls.specs.declared.translations.Ended.TheVariants as end
 use Rattle.kernel_calls.proofs.Untouched.{caller_live}
 
--- memory stands for the state, and each walk goes the way of its slot
-pub record Standing (v : View) : Type 0 where
-  pub image : StandsFor (image_of v) v.state
-  pub walks : WalksAgree (memory_of v) v.state.spaces
-  pub ways : WaysAgree (memory_of v)
-  pub well_formed : IsWellFormed v.state
-
-pub standing : {v : View} → StandsFor (image_of v) v.state → WalksAgree (memory_of v) v.state.spaces → WaysAgree (memory_of v) → IsWellFormed v.state → Standing v
-standing image walks ways well_formed = record { image = image; walks = walks; ways = ways; well_formed = well_formed }
+-- what `Core::stands` says of a core
+pub is_core : {v : View} → StandsFor (image_of v) v.state → WalksAgree (memory_of v) v.state.spaces → WaysAgree (memory_of v) → IsWellFormed v.state → IsCore v
+is_core image walks ways well_formed = record { image = image; walks = walks; ways = ways; well_formed = well_formed }
 
 -- ---- Flags
 
@@ -57,7 +51,7 @@ flags_stay s t e well state slot c d was is =
 
 -- ---- All of it
 
-pub event_ends : (v w : View) (e : Event) → Standing v → Standing w → w.state ≡ next v.state e → FramesStay (gone_by v.state e) (memory_of v) (memory_of w) → Ends (ended_by v e) v w
+pub event_ends : (v w : View) (e : Event) → IsCore v → IsCore w → w.state ≡ next v.state e → FramesStay (gone_by v.state e) (memory_of v) (memory_of w) → Ends (ended_by v e) v w
 event_ends v w e now later state stay = record {
   translations = translations_stay v w e now.image now.walks now.ways now.well_formed later.image later.walks later.ways state stay;
   no_more = ends_no_more v w e now.image now.walks now.ways now.well_formed later.image later.walks later.ways state;
@@ -80,7 +74,7 @@ asks_ends_none : (v : View) → ended_by v asks ≡ end.Nothing
 asks_ends_none v = grind arith
 
 -- so does whatever leaves the state and all ways
-pub nothing_ends : (v w : View) → Standing v → Standing w → w.state ≡ v.state → FramesStay none_goes (memory_of v) (memory_of w) → Ends end.Nothing v w
+pub nothing_ends : (v w : View) → IsCore v → IsCore w → w.state ≡ v.state → FramesStay none_goes (memory_of v) (memory_of w) → Ends end.Nothing v w
 nothing_ends v w now later state stay =
     subst (λ (x : Ended). Ends x v w) (asks_ends_none v)
     (event_ends v w asks now later (state ∙ sym (asks_stays v.state)) (stays_most stay))

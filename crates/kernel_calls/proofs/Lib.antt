@@ -20,11 +20,11 @@ pub mod KeptAccesses
 pub mod KeptEntries
 pub mod Lazies
 pub mod Leaving
+pub mod LeftByProcessors
 pub mod Linked
 pub mod MixedRuns
 pub mod Outsiders
 pub mod Planned
-pub mod PlayedTurns
 pub mod Prelude
 pub mod RightfulChanges
 pub mod Runs
@@ -37,7 +37,6 @@ pub mod Tellings
 pub mod TogetherSpaces
 pub mod Translated
 pub mod Tried
-pub mod TurnSteps
 pub mod Untouched
 pub mod UntouchedSlots
 pub mod Views

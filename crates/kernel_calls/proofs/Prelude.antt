@@ -78,13 +78,11 @@ pub use Rattle.kernel_calls.specs.Translations.{TablesStay, Translation, Transla
 pub use Rattle.kernel_calls.specs.Translations.{ended_by, ends_in_region, if_allowed, is_all_of, is_ended}
 pub use Rattle.kernel_calls.specs.Translations.{is_invalidated, left_by, nothing, of_call, of_pages, of_plan, onward}
 pub use Rattle.kernel_calls.specs.Translations.{page_filled, second_filled, translation, walk}
-pub use Rattle.kernel_calls.specs.Turns.{AreTurns}
 pub use Rattle.kernel_calls.specs.Walked.{finds_call, finds_event, reply_found}
 pub use Rattle.kernel_calls.specs.declared.calls.Call.{Call}
 pub use Rattle.kernel_calls.specs.declared.calls.Event.{Event}
 pub use Rattle.kernel_calls.specs.declared.calls.Reply.{Reply}
 pub use Rattle.kernel_calls.specs.declared.translations.Ended.{Ended}
-pub use Rattle.kernel_calls.specs.declared.turns.Turn.{Turn}
 pub use Rattle.page_sharing.specs.Offers.{OfferKey, Offers, offer_key, offer_order, pending}
 pub use Rattle.page_words.proofs.Accesses.{crosses, some_bytes}
 pub use Rattle.page_words.proofs.MapLemmas.{contains-insert, contains-retain, get-insert, get-map_values}

@@ -13,6 +13,5 @@ pub mod Pages
 pub mod Processors
 pub mod Replied
 pub mod Translations
-pub mod Turns
 pub mod Walked
 pub mod Written

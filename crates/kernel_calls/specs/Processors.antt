@@ -1,5 +1,5 @@
 -- What a core and any number of processors do with one memory, one step after another, and which events that is.
-use Rattle.std.specs.Prelude.{◌≡◌, ℕ, ◌==◌, Bool, true, not, ◌&&◌, if◌then◌else◌, List, [], ◌∷◌, ◌++◌, Some, Result, Ok, Err, slice_get}
+use Rattle.std.specs.Prelude.{◌≡◌, ℕ, ◌==◌, ◌≤◌, length, Bool, true, not, ◌&&◌, if◌then◌else◌, List, [], ◌∷◌, ◌++◌, Some, Result, Ok, Err, slice_get}
 use Rattle.page_words.specs.Addresses.{IsUserPage, EachTouched, page_number, slot_number, index_number}
 use Rattle.page_words.specs.Words.{frame_number, is_present, is_writable, is_user}
 use Rattle.phys_memory.specs.Bytes.{word_at, word_place}
@@ -14,10 +14,12 @@ use Rattle.address_space.specs.Spaces.{at_page}
 use Rattle.address_space.specs.Stays.{WaysAgree}
 use Rattle.address_space.specs.Walks.{WalksAgree}
 use Rattle.process_table.specs.Image.{StandsFor, image_of, memory_of}
-use Rattle.process_table.specs.State.{State, is_live}
+use Rattle.process_table.specs.State.{State, container_of, is_live}
 use Rattle.process_table.specs.View.{View}
 use Rattle.process_table.specs.WellFormed.{IsWellFormed}
-use Rattle.kernel_calls.specs.Kept.{reply_kept, bytes_kept, StoresMarked, IsLoad, IsStore}
+use Rattle.fault_handler.specs.Plans.{takes_no_frame}
+use Rattle.kernel_calls.specs.Decisions.{plan_of_event}
+use Rattle.kernel_calls.specs.Kept.{reply_kept, bytes_kept, ServesEvent, StoresMarked, IsLoad, IsStore}
 use Rattle.kernel_calls.specs.Machine.{answer, answers, next, end_of}
 use Rattle.kernel_calls.specs.Translations.{Kept, translation, DirectoryEntry, directory_entry, IsRead, AreRead, Ends, ended_by, left_by}
 use Rattle.kernel_calls.specs.Walked.{finds_event, reply_found, bytes_accessed}
@@ -34,6 +36,11 @@ pub record IsCore (v : View) : Type 0 where
   pub walks : WalksAgree (memory_of v) v.state.spaces
   pub ways : WaysAgree (memory_of v)
   pub well_formed : IsWellFormed v.state
+
+-- at most 1,048,576 frames, and a place for each process, as in each core (`Core::stands`)
+pub record IsSized (v : View) : Type 0 where
+  pub few : length v.roles ≤ 1048576
+  pub pids : length v.directories ≡ 64
 
 -- ---- What each processor keeps
 
@@ -82,7 +89,7 @@ pub record IsCarried (v : View) (e : Event) (r : Reply) (w : View) : Type 0 wher
   pub ends : Ends (ended_by v e) v w
   pub core : IsCore w
 
--- a processor left these bytes, and memory is a core's in this state, as the function says that is named below
+-- a processor left these bytes, and memory is a core's in this state, as the law says that is named below
 pub record IsLeft (v : View) (s : State) (written : List ℕ) (w : View) : Type 0 where
   pub bytes : w.bytes ≡ written
   pub directories : w.directories ≡ v.directories
@@ -91,7 +98,7 @@ pub record IsLeft (v : View) (s : State) (written : List ℕ) (w : View) : Type 
   pub ends : Ends end.Nothing v w
   pub core : IsCore w
 
--- a processor makes an access by its walk, which finds a frame for each page (`Core::accessed`)
+-- a processor makes an access by its walk, which finds a frame for each page (`WalksLeaveCores`)
 pub record IsWalked (v : View) (e : Event) (r : Reply) (w : View) : Type 0 where
   pub finds : finds_event v e ≡ true
   pub directory : ℕ
@@ -106,8 +113,7 @@ pub record IsLoaded (kept : List Kept) (v : View) (e : Event) (r : Reply) : Type
   pub through : LetCall kept e.pid frames e.call
   pub found : r ≡ reply_kept frames v.bytes e.call
 
--- a processor stores by what it keeps, into the frames there (`Core::store_kept`, which requires the first two of
--- `left`)
+-- a processor stores by what it keeps, into the frames there (`StoresLeaveCores`, which assumes what `left` does)
 pub record IsStored (kept : List Kept) (v : View) (e : Event) (r : Reply) (w : View) : Type 0 where
   pub store : IsStore e.call
   pub frames : ℕ → ℕ
@@ -116,7 +122,7 @@ pub record IsStored (kept : List Kept) (v : View) (e : Event) (r : Reply) (w : V
   pub left : finds_event v e ≡ true → StoresMarked v.state e.pid e.call
       → IsLeft v (next v.state e) (bytes_kept frames v.bytes e.call) w
 
--- a processor sets or clears accessed in a word of a directory (`Core::set_walked`)
+-- a processor sets or clears accessed in a word of a directory (`Core::set_walked`, in which memory is left so)
 pub record IsMarked (v w : View) : Type 0 where
   pub pid : ℕ
   pub page : ℕ
@@ -125,6 +131,31 @@ pub record IsMarked (v w : View) : Type 0 where
   pub directory : ℕ
   pub live : directory_at (memory_of v) pid ≡ Some directory
   pub left : is_live v.state pid ≡ true → IsLeft v v.state (with_walked v.bytes directory page walked) w
+
+-- ---- What processors leave is a core's
+
+-- these directories and roles, with this state and these bytes
+abbrev pub with_bytes : View → State → List ℕ → View
+with_bytes v s bytes = record { state = s; directories = v.directories; bytes = bytes; roles = v.roles }
+
+-- an access by a walk that finds a frame for each page is the event, and leaves a core
+abbrev pub WalksLeaveCores : Type 0
+WalksLeaveCores = (v : View) (e : Event) (directory : ℕ) → IsCore v → IsSized v → finds_event v e ≡ true
+    → directory_at (memory_of v) e.pid ≡ Some directory
+    → IsWalked v e (answer v.state e) (with_bytes v (next v.state e) (bytes_accessed v.bytes directory e.call))
+
+-- so is a store by translations that the walks give and that have dirty
+abbrev pub StoresLeaveCores : Type 0
+StoresLeaveCores = (v : View) (e : Event) (frames : ℕ → ℕ) → IsCore v → IsSized v → ServesEvent v frames e → IsStore e.call
+    → IsLeft v (next v.state e) (bytes_kept frames v.bytes e.call) (with_bytes v (next v.state e) (bytes_kept frames v.bytes e.call))
+
+-- the plan of such an access maps no page and fills none, and its containers stay
+abbrev pub WalksTakeNoFrame : Type 0
+WalksTakeNoFrame = (v : View) (e : Event) → IsCore v → finds_event v e ≡ true → takes_no_frame (plan_of_event v e) ≡ true
+
+abbrev pub WalksKeepContainers : Type 0
+WalksKeepContainers = (v : View) (e : Event) → IsCore v → finds_event v e ≡ true
+    → (p : ℕ) → container_of (next v.state e) p ≡ container_of v.state p
 
 -- One step, by its rule, with the event that it is, if any, and the reply or the value read. The core carries out an
 -- event, and before anything else all processors invalidate what it ended. Or a processor makes an access by its walk

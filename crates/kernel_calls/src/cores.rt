@@ -17,7 +17,6 @@ ghost use Rattle.process_table.specs.WellFormed.{IsWellFormed, total};
 ghost use Rattle.address_space.specs.Image.{LeavesRoom, takes_stores};
 ghost use Rattle.address_space.specs.Spaces.{zeros, need, at_page, slot_at, byte_at};
 ghost use Rattle.phys_memory.specs.Bytes.{frame_bytes};
-ghost use Rattle.fault_handler.specs.Plans.{takes_no_frame};
 ghost use Rattle.kernel_calls.specs.Authority.{HearTheirOwn, KeepsBorders};
 ghost use Rattle.kernel_calls.specs.Cleaned.{is_dirty_at, cleaned, EndsMarks};
 ghost use Rattle.kernel_calls.specs.Effects.{IsServed};
@@ -26,30 +25,27 @@ ghost use Rattle.kernel_calls.specs.Isolation.{IsIsolated};
 ghost use Rattle.kernel_calls.specs.Lazy.{LeavesLazy};
 ghost use Rattle.kernel_calls.specs.Pages.{page_in};
 ghost use Rattle.kernel_calls.specs.Machine.{answer, next, answers, end_of, completes, none_completes};
-ghost use Rattle.kernel_calls.specs.Decisions.{decision_of, charge_in, charge_after, plan_of_event};
+ghost use Rattle.kernel_calls.specs.Decisions.{decision_of, charge_in, charge_after};
 ghost use Rattle.kernel_calls.specs.declared.translations.Ended.TheVariants as end;
 ghost use Rattle.kernel_calls.specs.Gone.{gone_by, gives_back};
 ghost use Rattle.kernel_calls.specs.Translations.{EndsInOrder, ended_by, Ends};
-ghost use Rattle.kernel_calls.specs.Walked.{finds_event, reply_found, bytes_accessed};
-ghost use Rattle.kernel_calls.specs.Kept.{ServesEvent, StoresMarked, bytes_kept};
+ghost use Rattle.kernel_calls.specs.Processors.{IsSized};
 ghost use Rattle.kernel_calls.specs.Written.{WritesItsOwn};
-ghost use Rattle.kernel_calls.specs.declared.calls.Reply.TheVariants as reply;
 
-use crate::calls::{Call, Decision, Event, Outcome, Reply};
+use crate::calls::{Decision, Event, Outcome, Reply};
 use crate::decisions::{decided, judge};
-use crate::pages::{self, PageState};
+use crate::pages::PageState;
 use crate::replies::reply_once;
 use crate::translations::{self, Ended};
-use crate::{BootFault, WideFault, walked};
+use crate::{BootFault, WideFault};
 use alloc_table::Role;
 use page_sharing::Offer;
-use page_words::{Frame, Page, Pid, Vaddr, WIDE_FRAMES, in_user_range, page_of, second_page};
+use page_words::{Frame, Page, Pid, Vaddr, WIDE_FRAMES, in_user_range, page_of};
 use phys_memory::Memory;
 use process_table::Processes;
 use quota_tree::{Account, Container};
 use std::alloc::Global;
 use std::marker::Model;
-use table_walk::Access;
 
 /// The core: processes, their spaces, quotas and offers, over one memory.
 #[derive(Drop)]
@@ -317,89 +313,6 @@ impl Core {
         in_user_range(page_of(address)) && self.processes.try_store_part(pid, address, part)
     }
 
-    /// Whether a processor carries out an event by itself: it is a load or a store, and the walk of its process's
-    /// directory finds a frame for each page that it touches, one or two.
-    pub fn finds(&self, event: &Event) -> bool
-        ensures { result ≡ finds_event self.now event.now }
-    {
-        let pid = event.pid;
-        match event.call {
-            Call::Load { addr, size } => self.processes.finds(pid, addr, size, Access::Read),
-            Call::Store { addr, size, .. } => self.processes.finds(pid, addr, size, Access::Write),
-            _ => false,
-        }
-    }
-
-    /// Carries out an event as a processor does by itself, if its walks find a frame for each page. It sets accessed
-    /// (and dirty) in the words that lead to each page, and reads the value, or writes its bytes, where they lead.
-    /// `step` has the same result, so memory that a processor changed in this way is a core's after the event.
-    pub fn accessed(&mut self, event: &Event) -> Reply
-        requires { finds_event self.old event.now ≡ true }
-        ensures plan { takes_no_frame (plan_of_event self.old event.now) ≡ true }
-        ensures reply { result ≡ answer self.old.state event.now }
-        ensures found { (directory : ℕ) → directory_of self.old.directories event.now.pid ≡ Some directory
-            → result ≡ reply_found self.old.bytes directory event.now.call }
-        ensures state { self.new.state ≡ next self.old.state event.now }
-        ensures ends { Ends end.Nothing self.old self.new }
-        ensures directories { self.new.directories ≡ self.old.directories }
-        ensures roles { self.new.roles ≡ self.old.roles }
-        ensures containers { (p : ℕ) → container_of self.new.state p ≡ container_of self.old.state p }
-        ensures bytes { (directory : ℕ) → directory_of self.old.directories event.now.pid ≡ Some directory
-            → self.new.bytes ≡ bytes_accessed self.old.bytes directory event.now.call }
-        ensures stands { StandsFor (image_of self.new) self.new.state }
-        ensures walks { WalksAgree (memory_of self.new) self.new.state.spaces }
-    {
-        self.stands();
-        let reply = walked::access_by_walk(&mut self.processes, event);
-        self.stands();
-        reply
-    }
-
-    /// Returns whether an event is a store that a processor carries out by itself, as `finds` says, and accessed and
-    /// dirty of each page that it touches are already set. A processor that cached their translations sets nothing
-    /// then.
-    pub fn finds_marked(&self, event: &Event) -> bool
-        ensures find { result ≡ true → finds_event self.now event.now ≡ true }
-        ensures marked { result ≡ true → StoresMarked self.now.state event.now.pid event.now.call }
-        ensures all { finds_event self.now event.now ≡ true → StoresMarked self.now.state event.now.pid event.now.call
-            → result ≡ true }
-    {
-        self.stands();
-        let Call::Store { addr, size, .. } = event.call else {
-            return false;
-        };
-        self.finds(event)
-            && pages::is_marked(&self.processes, event.pid, page_of(addr))
-            && match second_page(addr, size) {
-                None => true,
-                Some(page) => pages::is_marked(&self.processes, event.pid, page),
-            }
-    }
-
-    /// Carries out a store as a processor does by translations that it kept, one for each page that it touches: its
-    /// bytes are written in their frames, and nothing else changes. It is what `step` makes of the event, so that
-    /// memory which a processor changed so is a core's after the event. Accessed and dirty of each page are set
-    /// already: a processor whose kept translation lets writes through without dirty marks the page first, as
-    /// `accessed` does.
-    pub fn store_kept(&mut self, event: &Event)
-        requires finds { finds_event self.old event.now ≡ true }
-        requires marked { StoresMarked self.old.state event.now.pid event.now.call }
-        ensures plan { takes_no_frame (plan_of_event self.old event.now) ≡ true }
-        ensures reply { answer self.old.state event.now ≡ reply.Done }
-        ensures state { self.new.state ≡ next self.old.state event.now }
-        ensures ends { Ends end.Nothing self.old self.new }
-        ensures directories { self.new.directories ≡ self.old.directories }
-        ensures roles { self.new.roles ≡ self.old.roles }
-        ensures bytes { (frames : ℕ → ℕ) → ServesEvent self.old frames event.now
-            → self.new.bytes ≡ bytes_kept frames self.old.bytes event.now.call }
-        ensures stands { StandsFor (image_of self.new) self.new.state }
-        ensures walks { WalksAgree (memory_of self.new) self.new.state.spaces }
-    {
-        self.stands();
-        walked::store_kept(&mut self.processes, event);
-        self.stands();
-    }
-
     /// Sets or clears accessed in the directory word that leads to a page of a live process, if the word is present.
     /// The state and all replies stay, and memory represents the state as before.
     pub fn set_walked(&mut self, pid: Pid, page: Page, walked: bool)
@@ -453,7 +366,8 @@ impl Core {
 
     /// States that memory's own words say what the state says, and that the processor's walk of any directory, at any
     /// address, ends as the state says. The frames in use and the lazy pages are together no more than all live
-    /// processes cost. Frame 0 holds zeros, and the state is well formed. It computes nothing.
+    /// processes cost. Frame 0 holds zeros, the state is well formed, and memory has no more than 1,048,576 frames. It
+    /// computes nothing.
     pub fn stands(&self)
         ensures image { StandsFor (image_of self.now) self.now.state }
         ensures walks { WalksAgree (image_of self.now).memory self.now.state.spaces }
@@ -461,6 +375,7 @@ impl Core {
         ensures used { LeavesRoom (memory_of self.now) (total self.now.state) }
         ensures zeros { frame_bytes self.now.bytes 0 ≡ zeros }
         ensures well_formed { IsWellFormed self.now.state }
+        ensures sized { IsSized self.now }
     {
         self.processes.stands();
     }

@@ -2,7 +2,8 @@
 
 ghost use Rattle.kernel_calls.specs.Laws.{RunsStayWellFormed};
 ghost use Rattle.kernel_calls.specs.Kept.{KeptFind, KeptReply, KeptLoads, KeptStores};
-ghost use Rattle.kernel_calls.specs.Processors.{ProcessorsMakeEvents, EntriesLeadThere};
+ghost use Rattle.kernel_calls.specs.Processors.{ProcessorsMakeEvents, EntriesLeadThere, WalksLeaveCores, StoresLeaveCores};
+ghost use Rattle.kernel_calls.specs.Processors.{WalksTakeNoFrame, WalksKeepContainers};
 ghost use Rattle.kernel_calls.specs.Translations.{KeptAreGiven, KeptThroughRuns};
 
 /// Every state of a run of a machine that boots is well formed, and all its live processes together
@@ -20,14 +21,26 @@ pub fn kept_translations_are_given()
 {}
 
 /// States which accesses kept translations that the walks give still serve. The walks find a frame for each page of
-/// such an access, so a processor makes it by itself. A load finds what is at the end of the walks, which
-/// `Core::accessed` answers, and the event changes nothing. Of a store, accessed and dirty of each page are already
-/// set, as `Core::store_kept` requires, which says that it is the event. It computes nothing.
+/// such an access, so a processor makes it by itself. A load finds what is at the end of the walks, which is the reply,
+/// and the event changes nothing. Of a store, accessed and dirty of each page are already set. It computes nothing.
 pub fn kept_translations_serve_accesses()
     ensures find { KeptFind }
     ensures reply { KeptReply }
     ensures loads { KeptLoads }
     ensures stores { KeptStores }
+{}
+
+/// States what processors leave of a core's memory, with the same directories and roles. Suppose that the walks of a
+/// process's directory find a frame for each page of a load or a store. A processor then makes the access by itself. It
+/// sets accessed (and dirty) in the words that lead to each page, and reads the value, or writes its bytes, where they
+/// lead. That is the event. The value is the reply, and memory is a core's in the event's next state. No translation
+/// becomes stale, no frame is taken, and containers stay. A store by translations that the walks give is the event too,
+/// and writes its bytes only. It computes nothing.
+pub fn processors_leave_cores()
+    ensures walks { WalksLeaveCores }
+    ensures plan { WalksTakeNoFrame }
+    ensures containers { WalksKeepContainers }
+    ensures stores { StoresLeaveCores }
 {}
 
 /// States what holds of a core and any number of processors that cache translations, whatever steps they make in

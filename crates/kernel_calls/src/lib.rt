@@ -12,16 +12,14 @@ mod laws;
 mod pages;
 mod replies;
 mod translations;
-mod turns;
-mod walked;
 
 pub use alloc_table::Role;
 pub use calls::{Call, Decision, Event, Outcome, Reply};
 pub use cores::Core;
 pub use fault_handler::{PageStep, Plan};
 pub use laws::{
-    kept_translations_are_given, kept_translations_serve_accesses, processors_make_events,
-    runs_stay_well_formed,
+    kept_translations_are_given, kept_translations_serve_accesses, processors_leave_cores,
+    processors_make_events, runs_stay_well_formed,
 };
 pub use page_sharing::Offer;
 pub use page_words::{Frame, MachineFault as BootFault, Page, Pid, Size, Vaddr, WideFault};
@@ -30,4 +28,3 @@ pub use phys_memory::Memory;
 pub use process_table::Cause;
 pub use quota_tree::Container;
 pub use translations::Ended;
-pub use turns::Turn;

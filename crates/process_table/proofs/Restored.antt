@@ -43,7 +43,7 @@ charge_one M p a b x y =
     )
 
 module _ (directories : List (Option ℕ)) (accounts : List (Option quota_tree.Account)) (bytes : List ℕ) (roles : List Role)
-    (pids : length directories ≡ 64) (least : 16 ≤ length roles) (few : length roles ≤ 1048576) (small : (i : ℕ) → slice_index bytes i < 256)
+    (pids : length directories ≡ 64) (least : 0 < length roles) (few : length roles ≤ 1048576) (small : (i : ℕ) → slice_index bytes i < 256)
     (root_parent : RootIsItsParent accounts) (I : IsSoundImage (image_in directories accounts bytes roles)) where
   abbrev image : Image
   image = image_in directories accounts bytes roles

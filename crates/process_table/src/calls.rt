@@ -1,9 +1,9 @@
 //! Each call of a process that may make it, and accesses, with one condition: that the test passes.
 
 ghost use Rattle.std.specs.Prelude.{IsOk, Ok, false, true, ℕ, ◌≡◌};
-ghost use Rattle.process_table.specs.Words.{EachTouched, FramesStay, IsUserPage, LooseStay, Slot, accept_answer, access_value, after_accept};
-ghost use Rattle.process_table.specs.Words.{after_access, after_exit, after_fork, after_load, after_map, after_offer, after_protect, after_spawn};
-ghost use Rattle.process_table.specs.Words.{after_store, after_unmap, after_withdraw, at_page, cell_or_fresh, cost, exit_answer, fork_answer};
+ghost use Rattle.process_table.specs.Words.{EachTouched, FramesStay, IsUserPage, LooseStay, accept_answer, access_value, after_accept};
+ghost use Rattle.process_table.specs.Words.{after_access, after_exit, after_load, after_map, after_offer, after_protect, after_spawn};
+ghost use Rattle.process_table.specs.Words.{after_store, after_unmap, after_withdraw, at_page, cell_or_fresh, cost, exit_answer};
 ghost use Rattle.process_table.specs.Words.{is_lazy_at, is_live, is_mapped, map_answer, memory_of, none_goes, of_lazy, of_page, of_process};
 ghost use Rattle.process_table.specs.Words.{offer_answer, protect_answer, spawn_answer, unmap_answer, withdraw_answer};
 
@@ -81,19 +81,6 @@ impl Processes {
         self.try_spawn(pid, quota).unwrap()
     }
 
-    /// Makes a child of a process that may have it, with that quota and a copy of each of the process's pages, and
-    /// returns its number. The copy of a page is lazy exactly if the page is.
-    pub fn fork(&mut self, pid: Pid, quota: u32) -> Pid
-        requires { IsOk (fork_answer self.old.state pid quota) }
-        ensures child { fork_answer self.old.state pid quota ≡ Ok result }
-        ensures state { self.new.state ≡ after_fork self.old.state pid quota }
-        ensures stay { FramesStay none_goes (memory_of self.old) (memory_of self.new) }
-        ensures lazy { (page : ℕ) → is_lazy_at (memory_of self.new) (at_page result page)
-            ≡ is_lazy_at (memory_of self.old) (at_page pid page) }
-    {
-        self.try_fork(pid, quota).unwrap()
-    }
-
     /// Takes away a process that may exit: its space, its offers and the offers to it go, and its quota
     /// returns to its parent.
     pub fn exit(&mut self, pid: Pid)
@@ -140,19 +127,5 @@ impl Processes {
     {
         let places = self.access_places(pid, address, size);
         self.access_at(pid, address, size, access, value, &places)
-    }
-
-    /// Gives a mapped page a frame of its own, where it is lazy; no other page becomes lazy. The state stays.
-    pub fn fill(&mut self, pid: Pid, page: Page)
-        requires mapped { is_mapped self.old.state (at_page pid page) ≡ true }
-        ensures state { self.new.state ≡ self.old.state }
-        ensures stay { FramesStay (of_lazy pid page) (memory_of self.old) (memory_of self.new) }
-        ensures real { is_lazy_at (memory_of self.new) (at_page pid page) ≡ false }
-        ensures others { (slot : Slot) → is_lazy_at (memory_of self.old) slot ≡ false
-            → is_lazy_at (memory_of self.new) slot ≡ false }
-    {
-        self.stands();
-        let place = self.spaces.place(pid, page);
-        self.fill_at(pid, page, &place);
     }
 }

@@ -118,6 +118,7 @@ impl Processes {
         ensures ways { WaysAgree (memory_of self.now) }
         ensures total { 1 + total self.now.state ≤ length self.now.roles }
         ensures few { length self.now.roles ≤ WIDE_FRAMES }
+        ensures pids { length self.now.directories ≡ 64 }
         ensures used { LeavesRoom (memory_of self.now) (total self.now.state) }
         ensures well_formed { IsWellFormed self.now.state }
         ensures places { PlacesTell (memory_of self.now) self.now.state.spaces }

@@ -4,7 +4,6 @@ pub mod Filled
 pub mod InOrder
 pub mod Kept
 pub mod Onward
-pub mod Played
 pub mod Refilled
 pub mod Rewritten
 pub mod Rows

@@ -5,7 +5,5 @@
 #![tactic(auto)]
 
 mod laws;
-mod windows;
 
 pub use laws::shootdowns_make_events;
-pub use windows::window;

@@ -22,6 +22,9 @@ use Rattle.page_words.specs.FiniteMap as map
 use Rattle.page_words.specs.FiniteSet as set
 use Rattle.address_space.proofs.standing.TablesStand as tables
 
+pub some_of : (n : ℕ) → 16 ≤ n → 0 < n
+some_of n h = omega (arith, h)
+
 -- a slot past either end of the user range
 beside : (s : ℕ) → (s < 256) ⊎ (960 ≤ s) → is_user_slot s ≡ false
 beside s h = grind arith
@@ -36,7 +39,7 @@ from_map f x b h = grind arith
 pub from_then : {A B : Type 0} (f : A → Option B) (x : Option A) (b : B) → option_and_then f x ≡ Some b → (a : A) × (x ≡ Some a) × (f a ≡ Some b)
 from_then f x b h = grind arith
 
-module _ (directories : List (Option ℕ)) (bytes : List ℕ) (roles : List Role) (pids : length directories ≡ 64) (least : 16 ≤ length roles) (few : length roles ≤ 1048576)
+module _ (directories : List (Option ℕ)) (bytes : List ℕ) (roles : List Role) (pids : length directories ≡ 64) (least : 0 < length roles) (few : length roles ≤ 1048576)
     (I : IsSoundImage (image_from directories bytes roles)) where
   abbrev D : Directories
   D = directory_of directories

@@ -1,24 +1,19 @@
--- Accesses that a processor makes by its walk, on what is kept.
+-- What memory is after accesses that a processor makes, by its walk or by translations that it kept.
 use Rattle.address_space.proofs.Prelude
-use Prelude.{◌≡◌, ◌+◌, ◌/◌, ◌%◌, ◌^◌, ◌<◌, ℕ, Bool, true, cond, List, [], ◌∷◌, length, refl, ap, sym, ◌∙◌, subst, arith}
-use Prelude.{inl, inr, Option, Some, None, if◌then◌else◌, ◌&&◌, IsOk, Ok, slice_set, option_map, unwrap_or}
-use Prelude.{and_parts, page_number, offset_number, start_number, second_page, byte_count, covered, touched, page_and}
-use Prelude.{Size, Access, Read, Write, walk_of, finds_at, finds, byte_place, number_found, Image, image_from}
-use Prelude.{directory_at, Slot, slot_order, Cell, Spaces, fresh, with_bytes, set_bytes, write_at, bytes_of, accessed}
-use Prelude.{stored, cell_or_fresh, slot_at, all_accessed, at_page, number_of, get-insert, get-map_values, same_or_not}
-use Prelude.{directory_of, Touched, AreCountedSpaces, FramesStay, none_goes, is_marked, kept_place, written_at}
-use Rattle.table_walk.specs.Marks.{marked}
-use Rattle.address_space.specs.declared.Spaces.TheInside.{Inside as Inner}
-use Rattle.address_space.proofs.Insides.{AreCountedInside, spaces_at, image_at}
-use Rattle.address_space.proofs.costs.AccessCosts.{kept, key-stored}
-use Rattle.address_space.proofs.standing.Standing.{lazy_kept}
-use Rattle.address_space.proofs.steps.Touches.{kept_touched}
-use Rattle.address_space.proofs.steps.Finding.{found_at, found_mapped, FoundEach, found_each, found_fits, FoundPages}
-use Rattle.address_space.proofs.steps.Finding.{found_pages, number_is}
-use Rattle.address_space.proofs.steps.FoundPages.{Left}
-use Rattle.address_space.proofs.steps.WalkSteps.{found_entry, load_marked, ByteParts, byte_written, byte_put}
+use Prelude.{◌≡◌, ℕ, zero, suc, ◌+◌, ◌*◌, ◌/◌, ◌%◌, ◌^◌, ◌<◌, Bool, true, cond, List, [], ◌∷◌, refl, ap, sym, ◌∙◌}
+use Prelude.{subst, arith, inl, inr, Option, Some, None, if◌then◌else◌, ◌&&◌, IsOk, Ok, slice_set, length-set, option_map}
+use Prelude.{is_ok, unwrap_or, and_parts, page_number, offset_number, start_number, second_page, byte_count, touched}
+use Prelude.{page_and, Size, Role, Access, Read, Write, walk_of, finds_at, finds, byte_place, Image, image_from}
+use Prelude.{Slot, slot_order, Cell, Spaces, fresh, with_bytes, set_bytes, write_at, bytes_of, stored, cell_or_fresh}
+use Prelude.{slot_at, all_accessed, all_stored, get-insert, get-map_values, same_or_not, directory_of, spaces_in}
+use Prelude.{IsSound, Touched, is_marked, kept_place, written_at}
+use Rattle.table_walk.specs.Marks.{marked, CanBeMarked}
+use Rattle.table_walk.proofs.MarkLemmas.{marks_keep_walks}
+use Rattle.address_space.specs.ByWalk.{after_walked_load, after_walked_store}
+use Rattle.address_space.specs.Kept.{LeadTo}
+use Rattle.address_space.proofs.steps.Finding.{found_at, found_each, found_fits}
+use Rattle.address_space.proofs.steps.WalkSteps.{found_entry, load_marked, byte_written, byte_put, touched_then}
 use Rattle.address_space.proofs.steps.WalkSteps.{walk_named}
-use Rattle.address_space.proofs.standing.FramesStand.{frames_stay, stays_then}
 use Rattle.page_words.specs.FiniteMap as map
 
 -- the walk of the first page, and that of the second where there is one
@@ -28,113 +23,8 @@ finds_first image p address size access h = (and_parts (finds_at image p access 
 pub finds_second : (image : Image) (p address : ℕ) (size : Size) (access : Access) (page : ℕ) → second_page address size ≡ Some page → finds image p address size access ≡ true → finds_at image p access (start_number page) ≡ true
 finds_second image p address size access page is h = grind (arith, and_parts)
 
--- the words that lead to a page were marked
-marked_left : (inner : Inner) (p d address : ℕ) (two : List ℕ) → AreCountedInside inner → directory_of inner.directories p ≡ Some d → address < 2 ^ 32 → IsOk (walk_of inner.memory d address Read)
-    → two ≡ marked inner.memory d address Read → Left inner (accessed (spaces_at inner) (slot_at p address)) two
-marked_left inner p d address two before live small ok is =
-    let sound = before.spaces.sound in
-    let touched = subst (λ (bytes : List ℕ). Touched inner.directories (accessed (spaces_at inner) (slot_at p address)) inner.memory inner.frames bytes) (sym is)
-    (load_marked inner.directories inner.memory inner.frames p d address sound live (found_entry inner.directories inner.memory inner.frames p d sound live address Read small ok)) in
-    record {
-      spaces = touched.spaces;
-      kept = kept_touched inner.directories inner.memory two inner.frames inner.counts.items (accessed (spaces_at inner) (slot_at p address)) before touched
-          (kept (spaces_at inner) (slot_at p address) _ (found_mapped inner.directories inner.memory inner.frames p d address Read sound live small ok));
-      lazy = lazy_kept inner.directories inner.memory two inner.frames sound touched.sound touched.lazy;
-      stay = grind (arith, frames_stay);
-    }
-
--- ---- A load: what its walks find, and what its marks leave
-
-module _ (inner : Inner) (p d address : ℕ) (size : Size) (before : AreCountedInside inner) (live : directory_of inner.directories p ≡ Some d) (test : finds (image_at inner) p address size Read ≡ true) where
-  pub load_each : FoundEach inner.memory d address size Read
-  load_each = found_each inner.directories inner.memory inner.frames p d address size Read before.spaces.sound live test
-
-  pub load_fits : address + byte_count size < 2 ^ 32
-  load_fits = found_fits inner.memory d address size Read load_each
-
-  pub load_value : number_found inner.memory d address size ≡ number_of (spaces_at inner) p (covered address size)
-  load_value = number_is inner.directories inner.memory inner.frames p d address size before.spaces.sound live load_fits load_each.found
-
-  pub load_pages : FoundPages (spaces_at inner) (image_at inner) p address size Read
-  load_pages = found_pages inner.directories inner.memory inner.frames p d address size Read before.spaces.sound live test
-
-  pub load_first : (address < 2 ^ 32) × IsOk (walk_of inner.memory d address Read)
-  load_first = found_at (image_at inner) p d address Read live (finds_first (image_at inner) p address size Read test)
-
-  module _ (one : List ℕ) (is_one : one ≡ marked inner.memory d address Read) where
-    pub first_left : Left inner (accessed (spaces_at inner) (slot_at p address)) one
-    first_left = marked_left inner p d address one before live load_first.0 load_first.1 is_one
-
-    pub alone_left : second_page address size ≡ None → Left inner (all_accessed (spaces_at inner) p (touched address size)) one
-    alone_left none = subst (λ x. Left inner (all_accessed (spaces_at inner) p (page_and (page_number address) x)) one) (sym none) first_left
-
-    -- the second page
-    module _ (page at : ℕ) (is : second_page address size ≡ Some page) (at_is : at ≡ start_number page)
-        (walks : (other a : ℕ) (kind : Access) → walk_of one other a kind ≡ walk_of inner.memory other a kind) where
-      pub load_second : (at < 2 ^ 32) × IsOk (walk_of one d at Read)
-      load_second = grind (arith, found_at, image_at, finds_second)
-
-      pub both_left : (two : List ℕ) → two ≡ marked one d at Read → Left inner (all_accessed (spaces_at inner) p (touched address size)) two
-      both_left two is_two =
-          let middle : Inner = record { memory = one; frames = inner.frames; directories = inner.directories; counts = inner.counts } in
-          let left = marked_left middle p d at two first_left.kept live load_second.0 load_second.1 is_two in
-          let same : page_number at ≡ page = omega (arith, at_is) in
-          record {
-            spaces = left.spaces ∙ (λ i. accessed (first_left.spaces i) (at_page p (same i)))
-                ∙ sym (ap (λ x. all_accessed (spaces_at inner) p (page_and (page_number address) x)) is);
-            kept = left.kept;
-            lazy = λ q. left.lazy q ∙ first_left.lazy q;
-            stay = stays_then first_left.stay left.stay;
-          }
-
--- ---- A byte stored
-
--- what is kept after a byte was stored where the walk leads
-pub record ByteLeft (inner : Inner) (p address v : ℕ) (two : List ℕ) : Type 0 where
-  pub spaces : spaces_at (record inner { memory = two }) ≡ stored (spaces_at inner) (slot_at p address) (offset_number address) (v % 256 ∷ [])
-  pub kept : AreCountedSpaces inner.directories two inner.frames inner.counts.items
-  pub stay : FramesStay none_goes (image_at inner)
-      (image_from inner.directories two inner.frames)
-  -- each walk finds a frame as before
-  pub finds : (kind : Access) (at : ℕ) → finds_at (image_from inner.directories two inner.frames) p kind at ≡ finds_at (image_at inner) p kind at
-
-both_alike : (a b c : Bool) → (a ≡ true → b ≡ c) → (a && b) ≡ (a && c)
-both_alike a b c h = grind arith
-
--- walks that end alike find frames alike
-finds_alike : (image image' : Image) (p d : ℕ) (kind : Access) (at : ℕ) → directory_at image p ≡ Some d → directory_at image' p ≡ directory_at image p
-    → (at < 2 ^ 32 → walk_of image'.bytes d at kind ≡ walk_of image.bytes d at kind) → finds_at image' p kind at ≡ finds_at image p kind at
-finds_alike image image' p d kind at live same walks = grind (arith, both_alike)
-
-left_by : (inner : Inner) (p d address v : ℕ) (two : List ℕ) → AreCountedInside inner → directory_of inner.directories p ≡ Some d
-    → finds_at (image_at inner) p Write address ≡ true
-    → ByteParts inner.directories inner.memory inner.frames p d address v two → ByteLeft inner p address v two
-left_by inner p d address v two before live test parts =
-    let sound = before.spaces.sound in
-    let found = found_at (image_at inner) p d address Write live test in
-    let slot : Slot = slot_at p address in
-    let S = spaces_at inner in
-    record {
-      spaces = parts.touched.spaces;
-      stay = grind (arith, frames_stay);
-      kept = kept_touched inner.directories inner.memory two inner.frames inner.counts.items (stored S slot (offset_number address) (v % 256 ∷ [])) before parts.touched
-          (λ q. key-stored S slot (offset_number address) (v % 256 ∷ []) (cell_or_fresh S slot) q
-          ∙ kept S slot (cell_or_fresh S slot) (found_mapped inner.directories inner.memory inner.frames p d address Write sound live found.0 found.1) q);
-      finds = λ kind at. finds_alike (image_at inner) (image_from inner.directories two inner.frames) p d kind at live refl (parts.walks at kind);
-    }
-
-pub byte_left : (inner : Inner) (p d address v : ℕ) (two : List ℕ) → AreCountedInside inner → directory_of inner.directories p ≡ Some d → finds_at (image_at inner) p Write address ≡ true
-    → ((other at : ℕ) (kind : Access) → walk_of (marked inner.memory d address Write) other at kind ≡ walk_of inner.memory other at kind)
-    → two ≡ slice_set (marked inner.memory d address Write) (byte_place inner.memory d address) (v % 256) → length two ≡ length (marked inner.memory d address Write) → ByteLeft inner p address v two
-byte_left inner p d address v two before live test walks is long =
-    let found = found_at (image_at inner) p d address Write live test in
-    left_by inner p d address v two before live test
-    (byte_written inner.directories inner.memory two inner.frames p d address v before.spaces.sound live found.0 found.1 walks is long)
-
--- ---- A byte stored by a translation that was kept
-
 -- the slots that had both flags have them after a store
-pub marked_stored : (S : Spaces) (slot : Slot) (at : ℕ) (ys : List ℕ) (q : Slot) → is_marked S q ≡ true → is_marked (stored S slot at ys) q ≡ true
+marked_stored : (S : Spaces) (slot : Slot) (at : ℕ) (ys : List ℕ) (q : Slot) → is_marked S q ≡ true → is_marked (stored S slot at ys) q ≡ true
 marked_stored S slot at ys q h =
     ap flags (get-insert T slot new q)
     ∙ elim (same_or_not slot_order q slot) [
@@ -160,39 +50,114 @@ marked_stored S slot at ys q h =
     by : (x : Option Cell) (b : Bool) → flags x ≡ true → flags (option_map (λ (c : Cell). if b then with_bytes c bytes else c) x) ≡ true
     by x b h = grind arith
 
--- and the walks of the process go as before
-pub record BytePut (inner : Inner) (p d address v : ℕ) (two : List ℕ) : Type 0 where
-  pub left : ByteLeft inner p address v two
-  pub walks : (at : ℕ) (kind : Access) → at < 2 ^ 32 → walk_of two d at kind ≡ walk_of inner.memory d at kind
+module _ (directories : List (Option ℕ)) (roles : List Role) (p d : ℕ) (live : directory_of directories p ≡ Some d) where
+  unchanged : (bytes : List ℕ) → IsSound directories bytes roles → Touched directories (spaces_in directories bytes) bytes roles bytes
+  unchanged bytes sound = record {
+    sound = sound;
+    spaces = refl;
+    cost = refl;
+    in_use = λ used. used;
+    lazy = refl;
+    stay = record { entries = λ slot frame stays is. is; tables = λ slot frame table stays is there. there };
+  }
 
-pub byte_kept : (inner : Inner) (p d address v : ℕ) (two : List ℕ) → AreCountedInside inner → directory_of inner.directories p ≡ Some d
-    → finds_at (image_at inner) p Write address ≡ true → is_marked (spaces_at inner) (slot_at p address) ≡ true
-    → two ≡ slice_set inner.memory (byte_place inner.memory d address) (v % 256) → length two ≡ length inner.memory → BytePut inner p d address v two
-byte_kept inner p d address v two before live test flags is long =
-    let found = found_at (image_at inner) p d address Write live test in
-    let parts = byte_put inner.directories inner.memory two inner.frames p d address v before.spaces.sound live found.0 found.1 flags is long in
-    record {
-      left = left_by inner p d address v two before live test parts;
-      walks = parts.walks;
-    }
+  can_mark : (bytes : List ℕ) (address : ℕ) (access : Access) → IsSound directories bytes roles → address < 2 ^ 32 → IsOk (walk_of bytes d address access) → CanBeMarked bytes d address access
+  can_mark bytes address access sound small ok =
+      let size = sound.size in
+      let few = sound.few in
+      record { size = omega (arith, size, few); whole = omega (arith, size); fits = small; found = ok }
 
--- ---- Where kept translations lead
+  -- ---- A load: the words that lead to each page are marked
 
--- memory with the lowest byte of a number at an address
-abbrev put_at : (ℕ → ℕ) → List ℕ → ℕ → ℕ → List ℕ
-put_at frames bytes a v = slice_set bytes (kept_place frames a) (v % 256)
+  load_at : (bytes : List ℕ) (address : ℕ) → IsSound directories bytes roles → address < 2 ^ 32 → IsOk (walk_of bytes d address Read)
+      → Touched directories (all_accessed (spaces_in directories bytes) p (page_number address ∷ [])) bytes roles (marked bytes d address Read)
+  load_at bytes address sound small ok = load_marked directories bytes roles p d address sound live (found_entry directories bytes roles p d sound live address Read small ok)
 
--- a byte that is written where the walk leads is written there
-pub put_led : (frames : ℕ → ℕ) (bytes two : List ℕ) (d a v : ℕ) → walk_of bytes d a Write ≡ Ok (frames (page_number a))
-    → two ≡ slice_set bytes (byte_place bytes d a) (v % 256) → two ≡ put_at frames bytes a v
-put_led frames bytes two d a v walk is = grind (arith, walk_named)
+  pub load_walked : (bytes : List ℕ) (address : ℕ) (size : Size) → IsSound directories bytes roles → finds (image_from directories bytes roles) p address size Read ≡ true
+      → Touched directories (all_accessed (spaces_in directories bytes) p (touched address size)) bytes roles (after_walked_load bytes d address (second_page address size))
+  load_walked bytes address size sound test = by (second_page address size) refl
+    where
+      image : Image
+      image = image_from directories bytes roles
 
-pub two_led : (frames : ℕ → ℕ) (m0 m1 m2 : List ℕ) (a b v w : ℕ) → b ≡ a + 1 → w ≡ v / 256
-    → m1 ≡ put_at frames m0 a v → m2 ≡ put_at frames m1 b w → m2 ≡ written_at frames m0 a (bytes_of 2 v)
-two_led frames m0 m1 m2 a b v w at rest first second = second ∙ (λ i. put_at frames (first i) (at i) (rest i))
+      first : (address < 2 ^ 32) × IsOk (walk_of bytes d address Read)
+      first = found_at image p d address Read live (finds_first image p address size Read test)
 
-pub four_led : (frames : ℕ → ℕ) (m0 m1 m2 m3 m4 : List ℕ) (a b c d v w x y : ℕ) → b ≡ a + 1 → c ≡ b + 1 → d ≡ c + 1
-    → w ≡ v / 256 → x ≡ w / 256 → y ≡ x / 256
-    → m1 ≡ put_at frames m0 a v → m2 ≡ put_at frames m1 b w → m3 ≡ put_at frames m2 c x → m4 ≡ put_at frames m3 d y
-    → m4 ≡ written_at frames m0 a (bytes_of 4 v)
-four_led frames m0 m1 m2 m3 m4 a b c d v w x y at_b at_c at_d of_w of_x of_y first second third fourth = grind arith
+      one : List ℕ
+      one = marked bytes d address Read
+
+      left : Touched directories (all_accessed (spaces_in directories bytes) p (page_number address ∷ [])) bytes roles one
+      left = load_at bytes address sound first.0 first.1
+
+      by : (x : Option ℕ) → second_page address size ≡ x
+          → Touched directories (all_accessed (spaces_in directories bytes) p (page_and (page_number address) x)) bytes roles (unwrap_or (option_map (λ page. marked one d (start_number page) Read) x) one)
+      by None is = left
+      by (Some page) is =
+          let at = found_at image p d (start_number page) Read live (finds_second image p address size Read page is test) in
+          let walks = marks_keep_walks bytes d address Read (can_mark bytes address Read sound first.0 first.1) in
+          let same : page_number (start_number page) ≡ page = omega arith in
+          let later = load_at one (start_number page) left.sound at.0 (subst IsOk (sym (walks d (start_number page) Read)) at.1) in
+          subst (λ n. Touched directories (all_accessed (spaces_in directories bytes) p (page_number address ∷ n ∷ [])) bytes roles (marked one d (start_number page) Read)) same
+          (subst (λ (S : Spaces). Touched directories (all_accessed S p (page_number (start_number page) ∷ [])) bytes roles (marked one d (start_number page) Read)) left.spaces
+          (touched_then directories _ _ bytes one (marked one d (start_number page) Read) roles left later))
+
+  -- ---- A store: the words that lead to each byte are marked, and it is written where they lead
+
+  bytes_walked : (n : ℕ) (bytes : List ℕ) (address v : ℕ) → IsSound directories bytes roles → ((i : ℕ) → i < n → IsOk (walk_of bytes d (address + i) Write)) → address + n < 2 ^ 32
+      → Touched directories (all_stored (spaces_in directories bytes) p address (bytes_of n v)) bytes roles (after_walked_store bytes d address (bytes_of n v))
+  bytes_walked zero bytes address v sound found fits = unchanged bytes sound
+  bytes_walked (suc n) bytes address v sound found fits =
+      let here : address + 0 ≡ address = omega arith in
+      let small : address < 2 ^ 32 = omega (arith, fits) in
+      let ok : IsOk (walk_of bytes d address Write) = subst (λ a. IsOk (walk_of bytes d a Write)) here (found 0 (omega arith)) in
+      let first : List ℕ = marked bytes d address Write in
+      let two : List ℕ = slice_set first (byte_place bytes d address) (v % 256) in
+      let put = byte_written directories bytes two roles p d address v sound live small ok
+          (marks_keep_walks bytes d address Write (can_mark bytes address Write sound small ok)) refl (length-set first (byte_place bytes d address) (v % 256)) in
+      let later = bytes_walked n two (address + 1) (v / 256) put.touched.sound
+          (λ i l. let next : address + suc i ≡ address + 1 + i = omega arith in
+          subst IsOk (sym (put.walks (address + 1 + i) Write (omega (arith, fits, l)))) (subst (λ a. IsOk (walk_of bytes d a Write)) next (found (suc i) (omega (arith, l)))))
+          (omega (arith, fits)) in
+      subst (λ (S : Spaces). Touched directories (all_stored S p (address + 1) (bytes_of n (v / 256))) bytes roles (after_walked_store two d (address + 1) (bytes_of n (v / 256)))) put.touched.spaces
+      (touched_then directories _ _ bytes two _ roles put.touched later)
+
+  pub store_walked : (bytes : List ℕ) (address : ℕ) (size : Size) (value : ℕ) → IsSound directories bytes roles → finds (image_from directories bytes roles) p address size Write ≡ true
+      → Touched directories (all_stored (spaces_in directories bytes) p address (bytes_of (byte_count size) value)) bytes roles (after_walked_store bytes d address (bytes_of (byte_count size) value))
+  store_walked bytes address size value sound test =
+      let each = found_each directories bytes roles p d address size Write sound live test in
+      bytes_walked (byte_count size) bytes address value sound each.found (found_fits bytes d address size Write each)
+
+  -- ---- A store by translations that were kept: where both flags of each slot are set, its bytes are written
+
+  pub bytes_kept : (frames : ℕ → ℕ) (n : ℕ) (bytes : List ℕ) (address v : ℕ) → IsSound directories bytes roles
+      → ((i : ℕ) → i < n → walk_of bytes d (address + i) Write ≡ Ok (frames (page_number (address + i))))
+      → ((i : ℕ) → i < n → is_marked (spaces_in directories bytes) (slot_at p (address + i)) ≡ true) → address + n < 2 ^ 32
+      → Touched directories (all_stored (spaces_in directories bytes) p address (bytes_of n v)) bytes roles (written_at frames bytes address (bytes_of n v))
+  bytes_kept frames zero bytes address v sound lead flags fits = unchanged bytes sound
+  bytes_kept frames (suc n) bytes address v sound lead flags fits =
+      let here : address + 0 ≡ address = omega arith in
+      let small : address < 2 ^ 32 = omega (arith, fits) in
+      let slot : Slot = slot_at p address in
+      let walk : walk_of bytes d address Write ≡ Ok (frames (page_number address)) = subst (λ a. walk_of bytes d a Write ≡ Ok (frames (page_number a))) here (lead 0 (omega arith)) in
+      let set : is_marked (spaces_in directories bytes) slot ≡ true = subst (λ a. is_marked (spaces_in directories bytes) (slot_at p a) ≡ true) here (flags 0 (omega arith)) in
+      let two : List ℕ = slice_set bytes (kept_place frames address) (v % 256) in
+      let is : two ≡ slice_set bytes (byte_place bytes d address) (v % 256) =
+          ap (λ f. slice_set bytes (4096 * f + offset_number address) (v % 256)) (walk_named bytes d address (frames (page_number address)) Write walk) in
+      let put = byte_put directories bytes two roles p d address v sound live small (ap is_ok walk) set is (length-set bytes (kept_place frames address) (v % 256)) in
+      let later = bytes_kept frames n two (address + 1) (v / 256) put.touched.sound
+          (λ i l. let next : address + suc i ≡ address + 1 + i = omega arith in
+          put.walks (address + 1 + i) Write (omega (arith, fits, l)) ∙ subst (λ a. walk_of bytes d a Write ≡ Ok (frames (page_number a))) next (lead (suc i) (omega (arith, l))))
+          (λ i l. let next : address + suc i ≡ address + 1 + i = omega arith in
+          ap (λ (S : Spaces). is_marked S (slot_at p (address + 1 + i))) put.touched.spaces
+          ∙ marked_stored (spaces_in directories bytes) slot (offset_number address) (v % 256 ∷ []) (slot_at p (address + 1 + i))
+          (subst (λ a. is_marked (spaces_in directories bytes) (slot_at p a) ≡ true) next (flags (suc i) (omega (arith, l)))))
+          (omega (arith, fits)) in
+      subst (λ (S : Spaces). Touched directories (all_stored S p (address + 1) (bytes_of n (v / 256))) bytes roles (written_at frames two (address + 1) (bytes_of n (v / 256)))) put.touched.spaces
+      (touched_then directories _ _ bytes two _ roles put.touched later)
+
+  pub store_kept : (frames : ℕ → ℕ) (bytes : List ℕ) (address : ℕ) (size : Size) (value : ℕ) → IsSound directories bytes roles → finds (image_from directories bytes roles) p address size Write ≡ true
+      → LeadTo bytes d Write frames address size → ((i : ℕ) → i < byte_count size → is_marked (spaces_in directories bytes) (slot_at p (address + i)) ≡ true)
+      → Touched directories (all_stored (spaces_in directories bytes) p address (bytes_of (byte_count size) value)) bytes roles (written_at frames bytes address (bytes_of (byte_count size) value))
+  store_kept frames bytes address size value sound test lead flags =
+      let each = found_each directories bytes roles p d address size Write sound live test in
+      bytes_kept frames (byte_count size) bytes address value sound lead flags (found_fits bytes d address size Write each)

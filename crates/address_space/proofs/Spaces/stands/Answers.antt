@@ -15,6 +15,7 @@ returns c = record {
       subst (λ (v : View). (p : ℕ) → is_some (directory_of v.directories p) ≡ true → 1 + cost v.spaces p ≤ length v.roles) c.self.view_is
       (λ p live. let a = cost_within c.self.inside.directories (spaces_in c.self.inside.directories c.self.inside.memory) p c.self.invariant.spaces.sound.pids live in let b = c.self.invariant.spaces.within in omega (arith, a, b));
   few = subst (λ (v : View). length v.roles ≤ 1048576) c.self.view_is c.self.invariant.spaces.sound.few;
+  pids = subst (λ (v : View). length v.directories ≡ 64) c.self.view_is c.self.invariant.spaces.sound.pids;
   walks = subst (λ (v : View). WalksAgree (image_of v) v.spaces) c.self.view_is
       (walks_agree c.self.inside.directories c.self.inside.memory c.self.inside.frames c.self.invariant.spaces);
   used =

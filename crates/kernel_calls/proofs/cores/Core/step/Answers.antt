@@ -1,4 +1,4 @@
-use Rattle.kernel_calls.proofs.TurnSteps.{is_core}
+use Rattle.kernel_calls.proofs.Leaving.{is_core}
 use Rattle.kernel_calls.proofs.Writings.{events_write_their_own}
 use Rattle.kernel_calls.proofs.cores.Core.step.Goals as goal
 

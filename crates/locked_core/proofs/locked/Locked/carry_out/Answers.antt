@@ -11,7 +11,7 @@ use Rattle.locked_core.proofs.Moments.{core_push, entries_append, follows_more}
 use Rattle.locked_core.specs.Held.{UnderLock}
 use Rattle.locked_core.specs.Moments.{Follows, core_after, entries_in, moment}
 use Rattle.locked_core.specs.declared.moment.Moment.{Moment}
-use Rattle.kernel_calls.proofs.TurnSteps.{is_core}
+use Rattle.kernel_calls.proofs.Leaving.{is_core}
 use Rattle.shootdowns.specs.Windows.{Begins}
 use Rattle.process_table.specs.View.{View}
 use Rattle.locked_core.specs.Pages.{LagsBehind, Page, page}

@@ -1,5 +1,5 @@
 use Rattle.std.proofs.Common.{[], length, refl, sym, ap, ◌∙◌, subst, arith}
-use Rattle.kernel_calls.proofs.TurnSteps.{is_core}
+use Rattle.kernel_calls.proofs.Leaving.{is_core}
 use Rattle.kernel_calls.specs.Processors.{IsCore}
 use Rattle.locked_core.proofs.Entries.{legal_opening}
 use Rattle.locked_core.proofs.Counting.{counted_none}

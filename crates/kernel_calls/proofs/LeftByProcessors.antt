@@ -1,0 +1,208 @@
+-- What processors leave of a core's memory is a core's.
+use Rattle.kernel_calls.proofs.Prelude
+use Prelude.{◌≡◌, ℕ, ◌+◌, ◌<◌, ◌≤◌, true, List, length, refl, sym, ap, subst, ◌∙◌, arith, Option, Some, is_some}
+use Prelude.{if◌then◌else◌, unwrap_or, option_map, is_some-map, some_value, byte_count, touched, Read, Write}
+use Prelude.{directory_at, finds_live, at_page, slot_at, Spaces, all_accessed, all_stored, bytes_of, with_touched-same}
+use Prelude.{each_byte, FramesStay, none_goes, WalksAgree, stays_most, Member, quota_of, State, is_live, container_of}
+use Prelude.{as_account, View, memory_of, total-within, IsWellFormed, after_load, after_store, answer, after, next}
+use Prelude.{completes, takes_no_frame, plan_of_call, plan_of_event, finds_call, finds_event, reply_found, Call, Event}
+use Prelude.{IsCore, Ends, Ended, ServesCall, IsStore, StoresMarked}
+use Rattle.kernel_calls.specs.Kept.{bytes_kept}
+use Rattle.kernel_calls.specs.Walked.{bytes_accessed}
+use Rattle.kernel_calls.specs.Processors.{IsSized, IsLeft, with_bytes, WalksLeaveCores, StoresLeaveCores}
+use Rattle.kernel_calls.specs.Processors.{WalksTakeNoFrame, WalksKeepContainers}
+use Rattle.address_space.specs.Kept.{is_marked}
+use Rattle.address_space.specs.Changes.{Touched}
+use Rattle.address_space.specs.Restored.{HasRoom}
+use Rattle.address_space.specs.Sound.{IsSpaces}
+use Rattle.address_space.specs.View.{directory_of, spaces_in, total_cost}
+use Rattle.address_space.specs.Image as memory
+use Rattle.address_space.proofs.standing.FramesStand.{frames_stay}
+use Rattle.address_space.proofs.standing.Restored.{from_map, kept, stands}
+use Rattle.address_space.proofs.standing.Standing.{image_stands, stands_for_one}
+use Rattle.address_space.proofs.standing.WaysStand.{walks_agree, ways_agree}
+use Rattle.address_space.proofs.steps.Touches.{spaces_touched}
+use Rattle.address_space.proofs.steps.WalkedPages.{load_walked, store_walked, store_kept}
+use Rattle.process_table.specs.WellFormed.{total}
+use Rattle.process_table.proofs.ImageStanding as states
+use Rattle.process_table.proofs.Keeping.{container-access}
+use Rattle.process_table.proofs.Ranges.{total-book}
+use Rattle.kernel_calls.proofs.Decided.{next-goes}
+use Rattle.kernel_calls.proofs.KeptAccesses.{all_lead, kept_find, kept_stores}
+use Rattle.kernel_calls.proofs.Leaving.{event_ends}
+use Rattle.kernel_calls.proofs.Runs.{kept-next}
+use Rattle.kernel_calls.proofs.Translated.{accessed_ends_none}
+use Rattle.kernel_calls.proofs.WalkedReplies.{answered, all_mapped, frameless, lives}
+use Rattle.page_words.specs.FiniteMap as map
+use Rattle.process_table.specs.declared.causes.Cause.TheVariants as cause
+use Rattle.fault_handler.specs.declared.plans.Plan.TheVariants as plan
+use Rattle.kernel_calls.specs.declared.calls.Call.TheVariants as call
+
+-- ---- A core's memory, by its words
+
+module _ (v : View) (core : IsCore v) (sized : IsSized v) where
+  live_is : (p : ℕ) → is_some (directory_of v.directories p) ≡ is_live v.state p
+  live_is p = sym (core.image.sound.live p) ∙ is_some-map (as_account v.state p) (map.get v.state.book p)
+
+  root_quota : 1 + quota_of v.state.book 0 ≡ length v.roles
+  root_quota =
+      let root = core.image.sound.root in
+      let m = from_map (as_account v.state 0) (map.get v.state.book 0) root.0 root.1 in
+      let same : quota_of v.state.book 0 ≡ root.0.quota =
+          ap (λ o. unwrap_or (option_map (λ (m : Member). m.quota) o) 0) m.1 ∙ ap (λ a. a.quota) m.2 in
+      ap (λ n. 1 + n) same ∙ root.2
+
+  some_frames : 0 < length v.roles
+  some_frames = let q = root_quota in omega (arith, q)
+
+  small : (p : ℕ) → is_live v.state p ≡ true → p < 64
+  small p there = let m = some_value (map.get v.state.book p) there in (core.well_formed.processes p m.0 m.1).0
+
+  spaces_is : spaces_in v.directories v.bytes ≡ v.state.spaces
+  spaces_is = stands_for_one (memory_of v) _ _ (stands v.directories v.bytes v.roles sized.pids some_frames sized.few core.image.sound.memory) core.image.memory
+
+  room : HasRoom v.directories v.bytes v.roles
+  room =
+      let costs : total_cost v.directories (spaces_in v.directories v.bytes) ≡ total v.state =
+          ap (total_cost v.directories) spaces_is ∙ total-book v.directories v.state live_is small in
+      let within = total-within v.state core.well_formed in
+      let quota = root_quota in
+      omega (arith, costs, within, quota)
+
+  spaces : IsSpaces v.directories v.bytes v.roles
+  spaces = kept v.directories v.bytes v.roles sized.pids some_frames sized.few core.image.sound.memory room
+
+  -- ---- With other bytes
+
+  module _ (s : State) (bytes : List ℕ) (touched : Touched v.directories s.spaces v.bytes v.roles bytes) (book : s.book ≡ v.state.book) (well : IsWellFormed s) where
+    abbrev w : View
+    w = with_bytes v s bytes
+
+    later : IsSpaces v.directories bytes v.roles
+    later = spaces_touched v.directories v.bytes bytes v.roles s.spaces spaces touched
+
+    is_left : IsCore w
+    is_left = record {
+      image = states.image_stands w
+          (subst (memory.StandsFor (memory_of w)) touched.spaces (image_stands v.directories bytes v.roles later))
+          (λ p. live_is p ∙ ap (λ b. map.contains_key b p) (sym book))
+          (ap (λ b. 1 + quota_of b 0) book ∙ root_quota) well.root well.processes well.rooms;
+      walks = subst (WalksAgree (memory_of w)) touched.spaces (walks_agree v.directories bytes v.roles later);
+      ways = ways_agree v.directories bytes v.roles later.sound;
+      well_formed = well;
+    }
+
+    all_stay : FramesStay none_goes (memory_of v) (memory_of w)
+    all_stay = frames_stay none_goes v.directories v.bytes bytes v.roles v.roles spaces.sound later.sound touched.stay
+
+    -- by an event that ends none
+    pub event_left : (e : Event) → s ≡ next v.state e → finds_event v e ≡ true → takes_no_frame (plan_of_event v e) ≡ true → IsLeft v s bytes w
+    event_left e is found frame = record {
+      bytes = refl;
+      directories = refl;
+      roles = refl;
+      state = refl;
+      ends = subst (λ (x : Ended). Ends x v w) (accessed_ends_none v e found frame) (event_ends v w e core is_left is (stays_most all_stay));
+      core = is_left;
+    }
+
+  -- ---- After an access
+
+  module _ (p d : ℕ) (live : directory_at (memory_of v) p ≡ Some d) where
+    -- by its walk
+    walked_call : (c : Call) → finds_call v p c ≡ true → Touched v.directories (after v.state p c).spaces v.bytes v.roles (bytes_accessed v.bytes d c)
+    walked_call (call.Load addr size) h =
+        subst (λ (S : Spaces). Touched v.directories (all_accessed S p (touched addr size)) v.bytes v.roles (bytes_accessed v.bytes d (call.Load addr size)))
+        (spaces_is ∙ sym (with_touched-same v.state.spaces p addr size (all_mapped v core p d live addr size Read h)))
+        (load_walked v.directories v.roles p d live v.bytes addr size spaces.sound h)
+    walked_call (call.Store addr size value) h =
+        subst (λ (S : Spaces). Touched v.directories (all_stored S p addr (bytes_of (byte_count size) value)) v.bytes v.roles (bytes_accessed v.bytes d (call.Store addr size value)))
+        (spaces_is ∙ sym (with_touched-same v.state.spaces p addr size (all_mapped v core p d live addr size Write h)))
+        (store_walked v.directories v.roles p d live v.bytes addr size value spaces.sound h)
+    walked_call _ h = cc
+
+    -- by translations that were kept
+    kept_call : (frames : ℕ → ℕ) (c : Call) → IsStore c → finds_call v p c ≡ true → ServesCall v p frames c → StoresMarked v.state p c
+        → Touched v.directories (after v.state p c).spaces v.bytes v.roles (bytes_kept frames v.bytes c)
+    kept_call frames (call.Store addr size value) store h served marks =
+        subst (λ (S : Spaces). Touched v.directories (all_stored S p addr (bytes_of (byte_count size) value)) v.bytes v.roles (bytes_kept frames v.bytes (call.Store addr size value)))
+        (spaces_is ∙ sym (with_touched-same v.state.spaces p addr size (all_mapped v core p d live addr size Write h)))
+        (store_kept v.directories v.roles p d live frames v.bytes addr size value spaces.sound h (all_lead v p frames addr d size Write served live)
+        (λ i l. ap (λ (S : Spaces). is_marked S (slot_at p (addr + i))) spaces_is
+        ∙ each_byte addr size (λ page. is_marked v.state.spaces (at_page p page) ≡ true) marks i l))
+    kept_call frames _ store h served marks = absurd store
+
+-- ---- Accesses whose walks find a frame for each page
+
+module _ (v : View) (core : IsCore v) (p d : ℕ) (live : directory_at (memory_of v) p ≡ Some d) where
+  frameless_call : (c : Call) → finds_call v p c ≡ true → takes_no_frame (plan_of_call v p c) ≡ true
+  frameless_call (call.Load addr size) h = frameless v core p d live addr size Read h
+  frameless_call (call.Store addr size value) h = frameless v core p d live addr size Write h
+  frameless_call _ h = cc
+
+  told : (c : Call) → finds_call v p c ≡ true → completes (reply_found v.bytes d c) ≡ true
+  told (call.Load addr size) h = refl
+  told (call.Store addr size value) h = refl
+  told _ h = cc
+
+  same_book : (c : Call) → finds_call v p c ≡ true → (after v.state p c).book ≡ v.state.book
+  same_book (call.Load addr size) h = refl
+  same_book (call.Store addr size value) h = refl
+  same_book _ h = cc
+
+  same_containers : (c : Call) → finds_call v p c ≡ true → (q : ℕ) → container_of (after v.state p c) q ≡ container_of v.state q
+  same_containers (call.Load addr size) h q = container-access v.state (after_load v.state p addr size) p addr size Read 0 (all_mapped v core p d live addr size Read h) refl q
+  same_containers (call.Store addr size value) h q = container-access v.state (after_store v.state p addr size value) p addr size Write value (all_mapped v core p d live addr size Write h) refl q
+  same_containers _ h q = cc
+
+module _ (v : View) (core : IsCore v) (e : Event) (found : finds_event v e ≡ true) where
+  -- the process has a directory
+  home_of : (c : Call) → finds_call v e.pid c ≡ true → is_some (directory_at (memory_of v) e.pid) ≡ true
+  home_of c h = grind (arith, finds_live)
+
+  home : (d : ℕ) × (directory_at (memory_of v) e.pid ≡ Some d)
+  home = some_value (directory_at (memory_of v) e.pid) (home_of e.call found)
+
+  frame_taken : takes_no_frame (plan_of_event v e) ≡ true
+  frame_taken =
+      ap (λ b. takes_no_frame (if b then plan_of_call v e.pid e.call else plan.Refused cause.NoProcess)) (lives v core e.pid home.0 home.1)
+      ∙ frameless_call v core e.pid home.0 home.1 e.call found
+
+  next_is : next v.state e ≡ after v.state e.pid e.call
+  next_is = next-goes v.state e (ap completes (answered v e home.0 core found home.1) ∙ told v core e.pid home.0 home.1 e.call found)
+
+  book_stays : (next v.state e).book ≡ v.state.book
+  book_stays = ap (λ (s : State). s.book) next_is ∙ same_book v core e.pid home.0 home.1 e.call found
+
+  left : (sized : IsSized v) (bytes : List ℕ) → Touched v.directories (after v.state e.pid e.call).spaces v.bytes v.roles bytes
+      → IsLeft v (next v.state e) bytes (with_bytes v (next v.state e) bytes)
+  left sized bytes touched =
+      event_left v core sized (next v.state e) bytes
+      (subst (λ (s : State). Touched v.directories s.spaces v.bytes v.roles bytes) (sym next_is) touched)
+      book_stays (kept-next v.state e core.well_formed).0 e refl found frame_taken
+
+-- ---- The laws
+
+pub walks_take_no_frame : WalksTakeNoFrame
+walks_take_no_frame v e core found = frame_taken v core e found
+
+pub walks_keep_containers : WalksKeepContainers
+walks_keep_containers v e core found q =
+    let d = home v core e found in
+    ap (λ (s : State). container_of s q) (next_is v core e found) ∙ same_containers v core e.pid d.0 d.1 e.call found q
+
+pub walks_leave_cores : WalksLeaveCores
+walks_leave_cores v e d core sized found live = record {
+  finds = found;
+  directory = d;
+  live = live;
+  found = answered v e d core found live;
+  left = left v core e found sized (bytes_accessed v.bytes d e.call) (walked_call v core sized e.pid d live e.call found);
+}
+
+pub stores_leave_cores : StoresLeaveCores
+stores_leave_cores v e frames core sized served store =
+    let found = kept_find v frames e served in
+    let d = home v core e found in
+    left v core e found sized (bytes_kept frames v.bytes e.call)
+    (kept_call v core sized e.pid d.0 d.1 frames e.call store found served (kept_stores v frames e served store))
