@@ -2,7 +2,7 @@
 use Rattle.std.specs.Prelude.{ℕ, ◌+◌, ◌*◌, Bool, true, false, ◌&&◌, nat_lt, if◌then◌else◌, List, [], ◌∷◌, map, Option, slice_index, slice_set}
 use Rattle.std.specs.Option.{option_map, unwrap_or}
 use Rattle.std.specs.Result.{is_ok}
-use Rattle.page_words.specs.Addresses.{slot_number, offset_number, start_number, byte_count, covered, second_page}
+use Rattle.page_words.specs.Addresses.{slot_number, offset_number, start_number, covered, second_page}
 use Rattle.page_words.specs.declared.addresses.Size.{Size}
 use Rattle.page_words.specs.Words.{with_flag, frame_number, is_present}
 use Rattle.phys_memory.specs.Bytes.{word_at, word_place, with_word}
@@ -10,7 +10,7 @@ use Rattle.table_walk.specs.declared.Access.{Access}
 use Rattle.table_walk.specs.declared.Access.TheVariants.{Read, Write}
 use Rattle.table_walk.specs.Walk.{walk_of, table_word}
 use Rattle.table_walk.specs.Marks.{marked}
-use Rattle.address_space.specs.Spaces.{bytes_of, value_of}
+use Rattle.address_space.specs.Spaces.{value_of}
 use Rattle.address_space.specs.Image.{Image, directory_at}
 
 -- ---- Which walks find a frame
@@ -33,11 +33,6 @@ byte_place bytes directory address = 4096 * frame_number (table_word bytes direc
 abbrev pub number_found : List ℕ → ℕ → ℕ → Size → ℕ
 number_found bytes directory address size = value_of (map (λ a. slice_index bytes (byte_place bytes directory a)) (covered address size))
 
--- the value of an access by the walk: a load what stands at its bytes, a store 0
-abbrev pub value_found : List ℕ → ℕ → ℕ → Size → Access → ℕ
-value_found bytes directory address size Read = number_found bytes directory address size
-value_found bytes directory address size Write = 0
-
 -- memory after a load: the words that lead to each page are marked
 abbrev pub after_walked_load : List ℕ → ℕ → ℕ → Option ℕ → List ℕ
 after_walked_load bytes directory address second =
@@ -50,11 +45,6 @@ abbrev pub after_walked_store : List ℕ → ℕ → ℕ → List ℕ → List �
 after_walked_store bytes directory address [] = bytes
 after_walked_store bytes directory address (byte ∷ rest) =
     after_walked_store (slice_set (marked bytes directory address Write) (byte_place bytes directory address) byte) directory (address + 1) rest
-
--- memory after an access by the walk
-abbrev pub after_walked : List ℕ → ℕ → ℕ → Size → Access → ℕ → List ℕ
-after_walked bytes directory address size Read value = after_walked_load bytes directory address (second_page address size)
-after_walked bytes directory address size Write value = after_walked_store bytes directory address (bytes_of (byte_count size) value)
 
 -- ---- Accessed of a directory word
 

@@ -10,14 +10,10 @@ use Rattle.page_map.specs.Entries.{Frames, table_of, word_entry, with_entry, wit
 use Rattle.page_map.specs.declared.PageEntry.{PageEntry}
 use Rattle.address_space.specs.declared.place.Found.{Found}
 use Rattle.address_space.specs.Spaces.{need, write_at}
-use Rattle.address_space.specs.View.{View, Directories, directory_of, spaces_in, table_in, total_cost}
+use Rattle.address_space.specs.View.{Directories, directory_of, spaces_in, table_in, total_cost}
 use Rattle.address_space.specs.Sound.{Inside, IsSpaces}
 
 -- ---- Where a page is
-
--- the table of a page's region
-abbrev pub table_at : View → ℕ → ℕ → Option ℕ
-table_at v p page = table_in (directory_of v.directories) (frame_bytes v.bytes) p (slot_number page)
 
 -- what a table has at a page
 abbrev pub found_by : Frames → ℕ → ℕ → Option Found

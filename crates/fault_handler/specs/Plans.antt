@@ -85,10 +85,6 @@ goes_on _ = false
 abbrev pub at_once : Plan
 at_once = plan.Ready step.Complete None
 
--- the access completes once its one page is mapped
-abbrev pub new_page : Plan
-new_page = plan.Ready step.MapZero None
-
 -- the access completes as memory stands, in one page or in two
 abbrev pub takes_no_frame : Plan → Bool
 takes_no_frame (plan.Ready step.Complete None) = true

@@ -1,6 +1,6 @@
 -- The definitions that the clauses of this crate name, passed on from one place. Declares nothing.
 pub use Rattle.std.specs.List.{range_with_len}
-pub use Rattle.address_space.specs.ByWalk.{after_walked, finds, value_found, with_walked}
+pub use Rattle.address_space.specs.ByWalk.{with_walked}
 pub use Rattle.address_space.specs.Image.{is_lazy_at, takes_stores}
 pub use Rattle.address_space.specs.Kept.{LeadTo, is_marked, written_at}
 pub use Rattle.address_space.specs.Places.{found_of, place_in}

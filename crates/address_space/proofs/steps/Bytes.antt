@@ -1,6 +1,6 @@
 -- Accesses byte by byte, and as one where their bytes lie in one page.
 use Rattle.address_space.proofs.Prelude
-use Prelude.{◌≡◌, ℕ, zero, suc, ◌+◌, ◌*◌, ◌/◌, ◌%◌, ◌<◌, ◌≤◌, Bool, true, false, cond, List, [], ◌∷◌, ◌++◌, length}
+use Prelude.{◌≡◌, ℕ, zero, suc, ◌+◌, ◌*◌, ◌/◌, ◌<◌, ◌≤◌, Bool, true, false, cond, List, [], ◌∷◌, ◌++◌, length}
 use Prelude.{take, drop, refl, ap, sym, ◌∙◌, arith, inl, inr, Option, Some, None, length-drop, ◌-◌, drop-drop}
 use Prelude.{unwrap_or, option_map, slice_index, if◌then◌else◌, ◌⊎◌, range_with_len, slice_range, page_number}
 use Prelude.{offset_number, byte_count, covered, second_page, EachTouched, Size, same, cases_lt, same_or_not}
@@ -226,21 +226,6 @@ stored_in S p page a o b (c ∷ bs) pages places =
     (λ i l. let e : a + 1 + i ≡ a + suc i = omega arith in ap page_number e ∙ pages (suc i) (omega (arith, l)))
     (λ i l. let e : a + 1 + i ≡ a + suc i = omega arith in let f : o + suc i ≡ o + 1 + i = omega arith in ap offset_number e ∙ places (suc i) (omega (arith, l)) ∙ f)
     ∙ stored-stored S (at_page p page) o b (c ∷ bs)
-
-abbrev lowest : ℕ → Spaces → ℕ → ℕ → Spaces
-lowest p S a v = stored S (slot_at p a) (offset_number a) (v % 256 ∷ [])
-
--- four bytes stored one after the other
-pub stored_four : (p : ℕ) (S S1 S2 S3 S4 : Spaces) (a a1 a2 a3 v v1 v2 v3 : ℕ) → S1 ≡ lowest p S a v → a1 ≡ a + 1 → v1 ≡ v / 256 → S2 ≡ lowest p S1 a1 v1 → a2 ≡ a1 + 1 → v2 ≡ v1 / 256
-    → S3 ≡ lowest p S2 a2 v2 → a3 ≡ a2 + 1 → v3 ≡ v2 / 256 → S4 ≡ lowest p S3 a3 v3 → S4 ≡ all_stored S p a (bytes_of 4 v)
-stored_four p S S1 S2 S3 S4 a a1 a2 a3 v v1 v2 v3 s1 b1 w1 s2 b2 w2 s3 b3 w3 s4 =
-    let t2 = s2 ∙ (λ i. lowest p (s1 i) (b1 i) (w1 i)) in
-    let c2 : a2 ≡ a + 1 + 1 = b2 ∙ ap (λ x. x + 1) b1 in
-    let x2 : v2 ≡ v / 256 / 256 = w2 ∙ ap (λ x. x / 256) w1 in
-    let t3 = s3 ∙ (λ i. lowest p (t2 i) (c2 i) (x2 i)) in
-    let c3 : a3 ≡ a + 1 + 1 + 1 = b3 ∙ ap (λ x. x + 1) c2 in
-    let x3 : v3 ≡ v / 256 / 256 / 256 = w3 ∙ ap (λ x. x / 256) x2 in
-    s4 ∙ (λ i. lowest p (t3 i) (c3 i) (x3 i))
 
 -- how many bytes of a number
 pub length-bytes : (k v : ℕ) → length (bytes_of k v) ≡ k

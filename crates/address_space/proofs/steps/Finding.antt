@@ -1,18 +1,14 @@
 -- What walks that find a frame for each page of an access find at each of its bytes.
 use Rattle.address_space.proofs.Prelude
-use Prelude.{◌≡◌, ℕ, zero, suc, ◌+◌, ◌^◌, ◌<◌, true, List, ◌∷◌, refl, ap, sym, ◌∙◌, subst, arith, Option, Some, None}
-use Prelude.{is_some, IfSome, IsOk, slice_index, option_map, unwrap_or, range_with_len, and_parts}
-use Prelude.{IsUserPage, page_number, start_number, byte_count, covered, second_page, EachTouched, Size, some_bytes}
-use Prelude.{Role, Access, Read, Write, walk_of, Image, directory_at, takes_stores, image_from, Spaces}
-use Prelude.{at_page, byte_at, number_of, value_of, slot_at, directory_of, spaces_in, IsSound}
-use Prelude.{finds_at, finds, byte_place, number_found}
+use Prelude.{◌≡◌, ℕ, zero, suc, ◌+◌, ◌^◌, ◌<◌, true, List, ◌∷◌, refl, ap, sym, ◌∙◌, subst, arith, Option, Some}
+use Prelude.{is_some, IfSome, IsOk, option_map, unwrap_or, range_with_len, and_parts}
+use Prelude.{IsUserPage, page_number, start_number, byte_count, second_page, Size, some_bytes}
+use Prelude.{Role, Access, walk_of, Image, directory_at, image_from}
+use Prelude.{directory_of, IsSound}
+use Prelude.{finds_at, finds}
 use Rattle.std.proofs.Common.{map as each}
-use Rattle.address_space.proofs.entries.Readings.{mapped_read}
-use Rattle.address_space.proofs.standing.Standing.{stores_read}
-use Rattle.address_space.proofs.steps.Steps.{live_small}
 use Rattle.address_space.proofs.steps.Bytes.{each_byte}
-use Rattle.address_space.proofs.steps.WalkSteps.{found_entry, page_found, found_byte}
-use Rattle.page_words.specs.FiniteMap as map
+use Rattle.address_space.proofs.steps.WalkSteps.{found_entry, page_found}
 
 -- ---- By the test
 
@@ -33,11 +29,6 @@ found_at image p d address access live h = grind (arith, and_parts)
 pub record FoundEach (bytes : List ℕ) (d address : ℕ) (size : Size) (access : Access) : Type 0 where
   pub found : (i : ℕ) → i < byte_count size → IsOk (walk_of bytes d (address + i) access)
   pub user : (i : ℕ) → i < byte_count size → IsUserPage (page_number (address + i))
-
--- each page of the access is mapped, and takes stores where the access is one
-pub record FoundPages (spaces : Spaces) (image : Image) (p address : ℕ) (size : Size) (access : Access) : Type 0 where
-  pub mapped : EachTouched address size (λ page. is_some (map.get spaces (at_page p page)) ≡ true)
-  pub takes : access ≡ Write → EachTouched address size (λ page. takes_stores spaces image (at_page p page) ≡ true)
 
 pub found_each : (directories : List (Option ℕ)) (bytes : List ℕ) (roles : List Role) (p d address : ℕ) (size : Size) (access : Access) → IsSound directories bytes roles → directory_of directories p ≡ Some d
     → finds (image_from directories bytes roles) p address size access ≡ true → FoundEach bytes d address size access
@@ -87,28 +78,6 @@ found_each directories bytes roles p d address size access sound live h =
 pub found_fits : (bytes : List ℕ) (d address : ℕ) (size : Size) (access : Access) → FoundEach bytes d address size access → address + byte_count size < 2 ^ 32
 found_fits bytes d address size access each = grind (arith, some_bytes)
 
--- the walk of each byte finds a frame, and its addresses have 32 bits
-pub record FindsEach (image : Image) (p address : ℕ) (size : Size) (access : Access) : Type 0 where
-  pub finds : (i : ℕ) → i < byte_count size → finds_at image p access (address + i) ≡ true
-  pub fits : address + byte_count size < 2 ^ 32
-
-pub finds_each : (directories : List (Option ℕ)) (bytes : List ℕ) (roles : List Role) (p address : ℕ) (size : Size) (access : Access) → IsSound directories bytes roles
-    → finds (image_from directories bytes roles) p address size access ≡ true → FindsEach (image_from directories bytes roles) p address size access
-finds_each directories bytes roles p address size access sound h = by (directory_of directories p) refl (finds_live image p address size access h)
-  where
-    image : Image
-    image = image_from directories bytes roles
-
-    by : (x : Option ℕ) → directory_of directories p ≡ x → is_some x ≡ true → FindsEach image p address size access
-    by None is some = cc
-    by (Some d) is some =
-        let each = found_each directories bytes roles p d address size access sound is h in
-        let fits = found_fits bytes d address size access each in
-        record {
-          finds = grind arith;
-          fits = fits;
-        }
-
 -- ---- The number at the bytes
 
 pub same_each : (f g : ℕ → ℕ) (a n : ℕ) → ((i : ℕ) → i < n → f (a + i) ≡ g (a + i)) → each f (range_with_len a n) ≡ each g (range_with_len a n)
@@ -117,60 +86,3 @@ same_each f g a (suc n) is =
     let z : a ≡ a + 0 = omega arith in
     let first : f a ≡ g a = ap f z ∙ is 0 (omega arith) ∙ sym (ap g z) in
     (λ i. first i ∷ same_each f g (a + 1) n (λ i l. let e : a + 1 + i ≡ a + suc i = omega arith in ap f e ∙ is (suc i) (omega (arith, l)) ∙ sym (ap g e)) i)
-
--- the number where the walks lead is the one that the process has there
-pub number_is : (directories : List (Option ℕ)) (bytes : List ℕ) (roles : List Role) (p d address : ℕ) (size : Size) → IsSound directories bytes roles → directory_of directories p ≡ Some d
-    → address + byte_count size < 2 ^ 32 → ((i : ℕ) → i < byte_count size → IsOk (walk_of bytes d (address + i) Read))
-    → number_found bytes d address size ≡ number_of (spaces_in directories bytes) p (covered address size)
-number_is directories bytes roles p d address size sound live fits found =
-    ap value_of (same_each (λ a. slice_index bytes (byte_place bytes d a)) (byte_at (spaces_in directories bytes) p) address (byte_count size)
-    (λ i l. found_byte directories bytes roles p d sound live (address + i) Read (found_entry directories bytes roles p d sound live (address + i) Read (omega (arith, fits, l)) (found i l))))
-
--- a page that a walk finds is mapped
-pub found_mapped : (directories : List (Option ℕ)) (bytes : List ℕ) (roles : List Role) (p d address : ℕ) (access : Access) → IsSound directories bytes roles → directory_of directories p ≡ Some d
-    → address < 2 ^ 32 → IsOk (walk_of bytes d address access) → is_some (map.get (spaces_in directories bytes) (slot_at p address)) ≡ true
-found_mapped directories bytes roles p d address access sound live small ok =
-    let f = found_entry directories bytes roles p d sound live address access small ok in
-    mapped_read directories bytes p d (page_number address) live (live_small directories p d sound.pids live) f.low f.high ∙ ap is_some f.here
-
--- and where it is for a store, the page takes stores
-found_takes : (directories : List (Option ℕ)) (bytes : List ℕ) (roles : List Role) (p d address : ℕ) → IsSound directories bytes roles → directory_of directories p ≡ Some d
-    → address < 2 ^ 32 → IsOk (walk_of bytes d address Write) → takes_stores (spaces_in directories bytes) (image_from directories bytes roles) (slot_at p address) ≡ true
-found_takes directories bytes roles p d address sound live small ok =
-    let f = found_entry directories bytes roles p d sound live address Write small ok in
-    grind (arith, stores_read)
-
-pub found_pages : (directories : List (Option ℕ)) (bytes : List ℕ) (roles : List Role) (p d address : ℕ) (size : Size) (access : Access) → IsSound directories bytes roles → directory_of directories p ≡ Some d
-    → finds (image_from directories bytes roles) p address size access ≡ true
-    → FoundPages (spaces_in directories bytes) (image_from directories bytes roles) p address size access
-found_pages directories bytes roles p d address size access sound live h =
-    record {
-      mapped = each (λ page. is_some (map.get S (at_page p page)) ≡ true) (λ a is. let f = found_at image p d a access live is in found_mapped directories bytes roles p d a access sound live f.0 f.1);
-      takes = λ store. each (λ page. takes_stores S image (at_page p page) ≡ true)
-          (λ a is. let f = found_at image p d a access live is in found_takes directories bytes roles p d a sound live f.0 (subst (λ (x : Access). IsOk (walk_of bytes d a x)) store f.1));
-    }
-  where
-    S : Spaces
-    S = spaces_in directories bytes
-
-    image : Image
-    image = image_from directories bytes roles
-
-    parts : (finds_at image p access address ≡ true) × (unwrap_or (option_map (λ page. finds_at image p access (start_number page)) (second_page address size)) true ≡ true)
-    parts = and_parts (finds_at image p access address) _ h
-
-    each : (P : ℕ → Type 0) → ((a : ℕ) → finds_at image p access a ≡ true → P (page_number a)) → EachTouched address size P
-    each P at = grind arith
-
--- each page of a store takes stores
-pub finds_takes : (directories : List (Option ℕ)) (bytes : List ℕ) (roles : List Role) (p address : ℕ) (size : Size) → IsSound directories bytes roles
-    → finds (image_from directories bytes roles) p address size Write ≡ true
-    → EachTouched address size (λ page. takes_stores (spaces_in directories bytes) (image_from directories bytes roles) (at_page p page) ≡ true)
-finds_takes directories bytes roles p address size sound h = by (directory_of directories p) refl (finds_live image p address size Write h)
-  where
-    image : Image
-    image = image_from directories bytes roles
-
-    by : (x : Option ℕ) → directory_of directories p ≡ x → is_some x ≡ true → EachTouched address size (λ page. takes_stores (spaces_in directories bytes) image (at_page p page) ≡ true)
-    by None is some = cc
-    by (Some d) is some = (found_pages directories bytes roles p d address size Write sound is h).takes refl

@@ -1,15 +1,15 @@
 -- What a walk that finds a frame, its mark, and a byte written where it leads come to.
 use Rattle.address_space.proofs.Prelude
-use Prelude.{◌≡◌, ◌≢◌, ℕ, ◌+◌, ◌*◌, ◌%◌, ◌^◌, ◌<◌, ◌≤◌, Bool, true, false, not, List, [], ◌∷◌, length, refl, ap, sym}
-use Prelude.{◌∙◌, subst, arith, inl, inr, Option, Some, None, ◌&&◌, is_some, if◌then◌else◌, slice_get, slice_index}
+use Prelude.{◌≡◌, ℕ, ◌+◌, ◌*◌, ◌%◌, ◌^◌, ◌<◌, ◌≤◌, Bool, true, false, not, List, [], ◌∷◌, length, refl, ap, sym}
+use Prelude.{◌∙◌, subst, arith, inl, inr, Option, Some, None, ◌&&◌, is_some, if◌then◌else◌, slice_get}
 use Prelude.{slice_set, IsOk, Result, Ok, Err, nat_le, option_and_then, is_ok, nat_tests, IsUserPage, page_number}
 use Prelude.{offset_number, slot_number, index_number, frame_number, is_present, NamesPage, IsKernelTableWord}
 use Prelude.{frame_bytes, word_at, word_place, with_word, word_in, with_word_in, with_frame, Role, Directory, Table}
 use Prelude.{Access, Read, Write, WalkEnd, Outside, PageEntry, Frames, dir_word, table_of, word_entry, entry_from}
 use Prelude.{entry_at, entry_word, with_entry, lets_writes, IsKernelEntry, walks_read_entries, user_cases, byte_place}
-use Prelude.{is_marked, and_parts, Slot, Spaces, Cell, cell_or_fresh, stored, write_at, byte_at, at_page, slot_at}
+use Prelude.{is_marked, and_parts, Slot, Spaces, Cell, cell_or_fresh, stored, write_at, at_page, slot_at}
 use Prelude.{Directories, Roles, directory_of, table_in, spaces_in, Tables, IsSound, Inside, Touched, none_goes}
-use Prelude.{table_words_by_fields, by_frame, byte-frame, frames-with_word, frames-with_byte, word_in-frame, walk_of}
+use Prelude.{table_words_by_fields, by_frame, frames-with_word, frames-with_byte, word_in-frame, walk_of}
 use Prelude.{table_word, is_write, is_outside, not_allowed, end_at_entry, touched_entry, entry_word-names, with_flag_lt}
 use Rattle.address_space.specs.Spaces.{accessed as accessed_in}
 use Rattle.page_map.proofs.WordLaws.{entry_from-entry_word}
@@ -18,7 +18,6 @@ use Rattle.table_walk.specs.Marks.{marked, accessed_word, touched_word}
 use Rattle.table_walk.proofs.Leads.{walks_find_what_leads}
 use Rattle.page_map.proofs.MarkProofs.{touched_names, entry_from-touched}
 use Rattle.address_space.proofs.entries.EntrySteps.{entry_by_table}
-use Rattle.address_space.proofs.frames.PageSteps.{no_directory, no_table}
 use Rattle.address_space.proofs.steps.Steps.{inside, holds_inside, live_small, page_map_of, present_by_table}
 use Rattle.address_space.proofs.steps.Steps.{table_by_word}
 use Rattle.address_space.proofs.steps.Stores.{found, get_user, entry_rules, page_stored, flags_set, flagged_load}
@@ -30,9 +29,6 @@ use Rattle.address_space.proofs.steps.DirWords.{dirs-table, dirs-tables}
 use Rattle.address_space.proofs.entries.Staying.{places_then}
 
 -- ---- What a walk finds
-
-ok_same : (a b : ℕ) → ◌≡◌ {A = Result ℕ WalkEnd} (Ok a) (Ok b) → a ≡ b
-ok_same a b h = cc
 
 -- the entry that a walk found
 pub record FoundEntry (bytes : List ℕ) (d address : ℕ) (access : Access) : Type 0 where
@@ -106,37 +102,8 @@ module _ (directories : List (Option ℕ)) (bytes : List ℕ) (roles : List Role
     found_inside = holds_inside directories bytes roles f.entry.frame sound (sound.pages.pages (at_page p (page_number address)) f.entry
         (get_user (directory_of directories) (frame_bytes bytes) p d (page_number address) f.entry live (live_small directories p d sound.pids live) f.low f.high f.here))
 
-    -- the byte where the walk leads is the one that the process has there
-    pub found_byte : slice_index bytes (byte_place bytes d address) ≡ byte_at (spaces_in directories bytes) p address
-    found_byte =
-        ap (λ f. slice_index bytes (4096 * f + offset_number address)) named_frame
-        ∙ sym (byte-frame bytes f.entry.frame (offset_number address) (omega arith))
-        ∙ sym (ap (λ (c : Cell). slice_index c.bytes (offset_number address))
-        (cell_read directories bytes p d (page_number address) f.entry live (live_small directories p d sound.pids live) f.low f.high f.here))
-
--- the frame that a walk found lies in memory, and the table word names it
-pub walk_inside : (bytes : List ℕ) (d address x : ℕ) (access : Access) → walk_of bytes d address access ≡ Ok x → 4096 * x < length bytes
-walk_inside bytes d address x access is = ((walks_find_what_leads bytes d address access x).0 is).inside
-
 pub walk_named : (bytes : List ℕ) (d address x : ℕ) (access : Access) → walk_of bytes d address access ≡ Ok x → x ≡ frame_number (table_word bytes d address)
 walk_named bytes d address x access is = ((walks_find_what_leads bytes d address access x).0 is).named
-
--- neither word that leads to a page lies in the frame that is found
-pub found_apart : (directories : List (Option ℕ)) (bytes : List ℕ) (roles : List Role) (p d address : ℕ) (access : Access) → IsSound directories bytes roles → directory_of directories p ≡ Some d → address < 2 ^ 32
-    → IsOk (walk_of bytes d address access) → (x : ℕ) → walk_of bytes d address access ≡ Ok x → (d ≢ x) × (frame_number (word_at bytes (word_place d (slot_number (page_number address)))) ≢ x)
-found_apart directories bytes roles p d address access sound live small ok x is =
-    let D : Directories = directory_of directories in
-    let m : Frames = frame_bytes bytes in
-    let R : Roles = slice_get roles in
-    let f = found_entry directories bytes roles p d sound live address access small ok in
-    let e : PageEntry = f.entry in
-    let high = f.high in
-    let s : ℕ = slot_number (page_number address) in
-    let same : e.frame ≡ x = ok_same e.frame x (sym f.walk ∙ is) in
-    let at = found D m p d (page_number address) e f.here in
-    let role_t = sound.tables.table p s at.table (ap (option_and_then (λ x. table_of m x s)) live ∙ at.there) in
-    let holds = sound.pages.pages (at_page p (page_number address)) e (get_user D m p d (page_number address) e live (live_small directories p d sound.pids live) f.low f.high f.here) in
-    grind (arith, word_in-frame, table_by_word, no_directory, no_table)
 
 -- ---- A mark
 

@@ -113,11 +113,11 @@ module _ (directories : List (Option ℕ)) (roles : List Role) (p d : ℕ) (live
       let first : List ℕ = marked bytes d address Write in
       let two : List ℕ = slice_set first (byte_place bytes d address) (v % 256) in
       let put = byte_written directories bytes two roles p d address v sound live small ok
-          (marks_keep_walks bytes d address Write (can_mark bytes address Write sound small ok)) refl (length-set first (byte_place bytes d address) (v % 256)) in
+      (marks_keep_walks bytes d address Write (can_mark bytes address Write sound small ok)) refl (length-set first (byte_place bytes d address) (v % 256)) in
       let later = bytes_walked n two (address + 1) (v / 256) put.touched.sound
-          (λ i l. let next : address + suc i ≡ address + 1 + i = omega arith in
-          subst IsOk (sym (put.walks (address + 1 + i) Write (omega (arith, fits, l)))) (subst (λ a. IsOk (walk_of bytes d a Write)) next (found (suc i) (omega (arith, l)))))
-          (omega (arith, fits)) in
+      (λ i l. let next : address + suc i ≡ address + 1 + i = omega arith in
+      subst IsOk (sym (put.walks (address + 1 + i) Write (omega (arith, fits, l)))) (subst (λ a. IsOk (walk_of bytes d a Write)) next (found (suc i) (omega (arith, l)))))
+      (omega (arith, fits)) in
       subst (λ (S : Spaces). Touched directories (all_stored S p (address + 1) (bytes_of n (v / 256))) bytes roles (after_walked_store two d (address + 1) (bytes_of n (v / 256)))) put.touched.spaces
       (touched_then directories _ _ bytes two _ roles put.touched later)
 
@@ -142,16 +142,16 @@ module _ (directories : List (Option ℕ)) (roles : List Role) (p d : ℕ) (live
       let set : is_marked (spaces_in directories bytes) slot ≡ true = subst (λ a. is_marked (spaces_in directories bytes) (slot_at p a) ≡ true) here (flags 0 (omega arith)) in
       let two : List ℕ = slice_set bytes (kept_place frames address) (v % 256) in
       let is : two ≡ slice_set bytes (byte_place bytes d address) (v % 256) =
-          ap (λ f. slice_set bytes (4096 * f + offset_number address) (v % 256)) (walk_named bytes d address (frames (page_number address)) Write walk) in
+      ap (λ f. slice_set bytes (4096 * f + offset_number address) (v % 256)) (walk_named bytes d address (frames (page_number address)) Write walk) in
       let put = byte_put directories bytes two roles p d address v sound live small (ap is_ok walk) set is (length-set bytes (kept_place frames address) (v % 256)) in
       let later = bytes_kept frames n two (address + 1) (v / 256) put.touched.sound
-          (λ i l. let next : address + suc i ≡ address + 1 + i = omega arith in
-          put.walks (address + 1 + i) Write (omega (arith, fits, l)) ∙ subst (λ a. walk_of bytes d a Write ≡ Ok (frames (page_number a))) next (lead (suc i) (omega (arith, l))))
-          (λ i l. let next : address + suc i ≡ address + 1 + i = omega arith in
-          ap (λ (S : Spaces). is_marked S (slot_at p (address + 1 + i))) put.touched.spaces
-          ∙ marked_stored (spaces_in directories bytes) slot (offset_number address) (v % 256 ∷ []) (slot_at p (address + 1 + i))
-          (subst (λ a. is_marked (spaces_in directories bytes) (slot_at p a) ≡ true) next (flags (suc i) (omega (arith, l)))))
-          (omega (arith, fits)) in
+      (λ i l. let next : address + suc i ≡ address + 1 + i = omega arith in
+      put.walks (address + 1 + i) Write (omega (arith, fits, l)) ∙ subst (λ a. walk_of bytes d a Write ≡ Ok (frames (page_number a))) next (lead (suc i) (omega (arith, l))))
+      (λ i l. let next : address + suc i ≡ address + 1 + i = omega arith in
+      ap (λ (S : Spaces). is_marked S (slot_at p (address + 1 + i))) put.touched.spaces
+      ∙ marked_stored (spaces_in directories bytes) slot (offset_number address) (v % 256 ∷ []) (slot_at p (address + 1 + i))
+      (subst (λ a. is_marked (spaces_in directories bytes) (slot_at p a) ≡ true) next (flags (suc i) (omega (arith, l)))))
+      (omega (arith, fits)) in
       subst (λ (S : Spaces). Touched directories (all_stored S p (address + 1) (bytes_of n (v / 256))) bytes roles (written_at frames two (address + 1) (bytes_of n (v / 256)))) put.touched.spaces
       (touched_then directories _ _ bytes two _ roles put.touched later)
 
