@@ -2,7 +2,7 @@
 use Rattle.kernel_calls.proofs.Prelude.{◌≡◌, ℕ, Bool, true, false, cond, not, ap, ◌∙◌, Option, Some, None, is_some}
 use Rattle.kernel_calls.proofs.Prelude.{arith, same, nat_order, get-insert, get-retain_keys, same_itself, Slot, Cell}
 use Rattle.kernel_calls.proofs.Prelude.{cost, fresh, at_page, cost-same, State, is_live, child_of, fork_refusal}
-use Rattle.kernel_calls.proofs.Prelude.{after_map, after_spawn, after_fork, after_exit, fork-cost, contains_key-insert}
+use Rattle.kernel_calls.proofs.Prelude.{after_map, after_spawn, after_fork, after_exit, contains_key-insert}
 use Rattle.page_words.specs.FiniteMap as map
 
 -- a page is charged whatever its right
@@ -25,10 +25,6 @@ spawn_lives s p quota live = contains_key-insert s.book (child_of s) (record { p
 -- a process that was copied is live
 pub fork_lives : (s : State) (p quota : ℕ) → is_live s p ≡ true → is_live (after_fork s p quota) p ≡ true
 fork_lives s p quota live = contains_key-insert s.book (child_of s) (record { parent = p; quota = quota }) p live
-
--- and is charged what it was
-pub fork_charge : (s : State) (p quota : ℕ) → is_live s p ≡ true → fork_refusal s p quota ≡ None → cost (after_fork s p quota).spaces p ≡ cost s.spaces p
-fork_charge = fork-cost
 
 -- a process that has gone is not live
 pub exit_gone : (s : State) (p : ℕ) → is_live (after_exit s p) p ≡ false

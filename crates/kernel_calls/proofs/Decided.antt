@@ -10,7 +10,7 @@ use Rattle.process_table.specs.TestAnswers.{offer_answer, spawn_answer, fork_ans
 use Rattle.address_space.proofs.costs.Totals.{cost-protected_of}
 use Rattle.process_table.specs.declared.causes.Cause.TheVariants as cause
 use Rattle.fault_handler.specs.declared.plans.Plan.TheVariants as plan
-use Rattle.kernel_calls.proofs.Charges.{map_charge, spawn_lives, fork_lives, fork_charge}
+use Rattle.kernel_calls.proofs.Charges.{map_charge, spawn_lives, fork_lives}
 use Rattle.kernel_calls.specs.declared.calls.Call.TheVariants as call
 use Rattle.kernel_calls.specs.declared.calls.Reply.TheVariants as reply
 
@@ -117,4 +117,4 @@ pub decided-fork : (v : View) (e : Event) (quota used : ℕ) → e.call ≡ call
     → spawned (fork_answer v.state e.pid quota) used ≡ judged_of v e
 decided-fork v e quota used is live used_is =
     decided-child v e (fork_refusal v.state e.pid quota) used live used_is (ap (plan_of_call v e.pid) is) (ap (answer_of v.state e.pid) is)
-    (λ allowed. ap (λ c. charge_in (after v.state e.pid c) e.pid) is ∙ ap (λ b. if b then cost (after_fork v.state e.pid quota).spaces e.pid else 0) (fork_lives v.state e.pid quota live) ∙ fork_charge v.state e.pid quota live allowed)
+    (λ allowed. ap (λ c. charge_in (after v.state e.pid c) e.pid) is ∙ ap (λ b. if b then cost (after_fork v.state e.pid quota).spaces e.pid else 0) (fork_lives v.state e.pid quota live) ∙ fork-cost v.state e.pid quota live allowed)

@@ -1,8 +1,8 @@
 -- What is left of offers, and of a process that exits.
 use Rattle.kernel_calls.proofs.Prelude
-use Prelude.{◌≡◌, ℕ, Bool, true, List, [], ◌∷◌, length, refl, sum_by, arith, get-retain_keys, some_value, Book, Member}
+use Prelude.{◌≡◌, ℕ, Bool, true, arith, get-retain_keys, some_value}
 use Prelude.{given, number_of_children, number-remove, OfferKey, Offers, State, is_live}
-use Rattle.quota_tree.specs.Book.{children}
+use Rattle.process_table.proofs.Apart.{given_none}
 use Rattle.page_words.specs.FiniteMap as map
 
 -- offers that are kept or dropped by their keys
@@ -15,13 +15,6 @@ pub kept_key : (O : Offers) (stay : OfferKey → Bool) (key : OfferKey)
 kept_key O stay key h = grind (arith, get-retain_keys)
 
 -- ---- An exit: nothing of it is left
-
-given_none : (book : Book) (p : ℕ) → number_of_children book p ≡ 0 → given book p ≡ 0
-given_none book p h = by (children book p) h
-  where
-    by : (entries : List (ℕ × Member)) → length entries ≡ 0 → sum_by (λ (e : ℕ × Member). e.1.quota) entries ≡ 0
-    by [] is = refl
-    by (e ∷ entries) is = absurd (omega (arith, is))
 
 module _ (s : State) (q : ℕ) (live : is_live s q ≡ true) (childless : number_of_children s.book q ≡ 0) where
   pub exit_children : number_of_children (map.remove s.book q) q ≡ 0

@@ -1,24 +1,22 @@
 -- The reply to a call that completes.
 use Rattle.kernel_calls.proofs.Prelude
 use Prelude.{◌≡◌, ℕ, true, false, ap, ◌∙◌, Option, unwrap_or, arith, option_map, some_value, Cell, cost, fresh, at_page}
-use Prelude.{Member, given, State, is_live, as_container, protect_refusal, Cause, may_protect, Plan, flags_of, shown_of}
-use Prelude.{Tells, CompletesByKind, answer_of, completes, refused_or, planned_or, info_of, Call, Reply}
+use Prelude.{Member, given, State, is_live, as_container, protect_refusal, Cause, may_protect, flags_of, shown_of}
+use Prelude.{Tells, CompletesByKind, answer_of, completes, refused_or, info_of, Call, Reply}
 use Rattle.kernel_calls.proofs.Runs.{not-refused}
 use Rattle.kernel_calls.proofs.Untouched.{caller_live}
+use Rattle.kernel_calls.proofs.WalkedReplies.{told_planned}
 use Rattle.page_words.specs.FiniteMap as map
 use Rattle.kernel_calls.specs.declared.calls.Call.TheVariants as call
 use Rattle.kernel_calls.specs.declared.calls.Reply.TheVariants as reply
-
-by_plan : (x : Plan) (r : Reply) → completes (planned_or x r) ≡ true → planned_or x r ≡ r
-by_plan x r h = grind arith
 
 by_cause : (x : Option Cause) (r : Reply) → completes (refused_or x r) ≡ true → refused_or x r ≡ r
 by_cause x r h = grind arith
 
 told_of : (s : State) (p : ℕ) (c : Call) → is_live s p ≡ true → completes (answer_of s p c) ≡ true
     → Tells s p c (answer_of s p c)
-told_of s p (call.Load addr size) live h = by_plan _ _ h
-told_of s p (call.Store addr size value) live h = by_plan _ _ h
+told_of s p (call.Load addr size) live h = told_planned _ _ h
+told_of s p (call.Store addr size value) live h = told_planned _ _ h
 told_of s p (call.Info page) live h =
     let m = may_protect s p page false (not-refused (protect_refusal s p page false) _ h) in
     let c = some_value (map.get s.spaces (at_page p page)) m.mapped in (

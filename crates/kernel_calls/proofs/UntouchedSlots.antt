@@ -12,6 +12,7 @@ use Prelude.{get-inserted_other, well_formed-bytes, well_formed-touched, plan_of
 use Prelude.{all_user, same_cells, Flags, flags_of, byte_in, IsStoreInto, answer_of, completes, Event}
 use Rattle.std.specs.Prelude.{find}
 use Rattle.kernel_calls.proofs.Runs.{went-on}
+use Rattle.process_table.proofs.ApartOthers.{holders_stored}
 use Rattle.page_words.specs.FiniteMap as map
 use Rattle.page_words.specs.FiniteSet as set
 use Rattle.kernel_calls.specs.declared.calls.Call.TheVariants as call
@@ -101,35 +102,6 @@ other_byte bytes at v place inside differ = ap (λ xs. slice_index xs place) (sy
 pub own_byte : (bytes : List ℕ) (at v : ℕ) → at < length bytes → slice_index (write_at bytes at (bytes_of 1 v)) at ≡ v % 256
 own_byte bytes at v inside = ap (λ xs. slice_index xs at) (sym (byte_is_write bytes at v inside))
     ∙ get_or-set_same bytes at (v % 256) 0 inside
-
--- a store leaves all groups of its process
-pub holders_stored : (S : Spaces) (q page at n : ℕ) (new : List ℕ)
-    → (cell_or_fresh (stored S (at_page q page) at new) (at_page q n)).holders ≡ (cell_or_fresh S (at_page q n)).holders
-holders_stored S q page at n new =
-    let spaces : Spaces = set_bytes S group bytes in
-    let written : Cell = record (cell_or_fresh S (at_page q page)) { bytes = bytes; accessed = true; dirty = true } in
-    elim (cases_eq n page) [
-      | inl same ↦ grind (arith, (get-inserted spaces (at_page q page) written))
-      | inr other ↦
-          ap (λ (x : Option Cell). (unwrap_or x (fresh (at_page q n) true)).holders)
-          (get-inserted_other spaces (at_page q page) written (at_page q n) (λ e. other (ap (λ (x : Slot). x.page) e))
-          ∙ get-map_values slot_order (λ r c. if set.contains group r then with_bytes c bytes else c) S (at_page q n))
-          ∙ by (map.get S (at_page q n))
-    ]
-  where
-    group : Set slot_order
-    group = (cell_or_fresh S (at_page q page)).holders
-
-    bytes : List ℕ
-    bytes = write_at (cell_or_fresh S (at_page q page)).bytes at new
-
-    either : (b : Bool) (c : Cell) → (if b then with_bytes c bytes else c).holders ≡ c.holders
-    either b c = grind arith
-
-    by : (x : Option Cell) → (unwrap_or (option_map
-        (λ (c : Cell). if set.contains group (at_page q n) then with_bytes c bytes else c) x)
-        (fresh (at_page q n) true)).holders ≡ (unwrap_or x (fresh (at_page q n) true)).holders
-    by x = grind arith
 
 -- of the k low bytes of v, stored from an address on, one goes to this place, through a slot of q in whose group this
 -- slot is

@@ -18,11 +18,11 @@ use Rattle.kernel_calls.specs.declared.calls.Call.TheVariants as call
 use Rattle.kernel_calls.specs.declared.calls.Reply.TheVariants as reply
 
 -- what takes no frame goes on
-goes_frameless : (x : Plan) → takes_no_frame x ≡ true → goes_on x ≡ true
+pub goes_frameless : (x : Plan) → takes_no_frame x ≡ true → goes_on x ≡ true
 goes_frameless x h = grind arith
 
 -- and is answered with its reply
-told_planned : (x : Plan) (r : Reply) → completes (planned_or x r) ≡ true → planned_or x r ≡ r
+pub told_planned : (x : Plan) (r : Reply) → completes (planned_or x r) ≡ true → planned_or x r ≡ r
 told_planned x r h = grind arith
 
 module _ (v : View) (core : IsCore v) (p d : ℕ) (live : directory_at (memory_of v) p ≡ Some d) where

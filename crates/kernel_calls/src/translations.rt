@@ -166,13 +166,6 @@ pub fn ended_by(processes: &Processes, event: &Event) -> Ended
             by_accept(processes, giver, giver_page),
         ),
         Call::Exit => if_allowed(processes.can_exit(pid), Ended::Space { pid }),
-        Call::Load { .. } => Ended::Nothing,
-        Call::Map { .. } => Ended::Nothing,
-        Call::Info { .. } => Ended::Nothing,
-        Call::Offer { .. } => Ended::Nothing,
-        Call::Withdraw { .. } => Ended::Nothing,
-        Call::Spawn { .. } => Ended::Nothing,
-        Call::Fork { .. } => Ended::Nothing,
-        Call::Quota => Ended::Nothing,
+        _ => Ended::Nothing,
     }
 }

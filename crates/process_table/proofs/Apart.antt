@@ -21,7 +21,7 @@ use Rattle.page_words.specs.FiniteSet as set
 
 -- ---- What is told of two alike processes
 
-given_none : (book : Book) (p : ℕ) → number_of_children book p ≡ 0 → given book p ≡ 0
+pub given_none : (book : Book) (p : ℕ) → number_of_children book p ≡ 0 → given book p ≡ 0
 given_none book p h = by (children book p) h
   where
     by : (entries : List (ℕ × Member)) → length entries ≡ 0 → sum_by (λ (e : ℕ × Member). e.1.quota) entries ≡ 0

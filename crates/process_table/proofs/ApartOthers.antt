@@ -51,7 +51,7 @@ cell_paged : (S : Spaces) (q page n : ℕ) → cell_or_fresh (with_page S q page
 cell_paged S q page n = grind (arith, cases_eq, get-inserted, get-inserted_other, pages_differ)
 
 -- a store leaves all groups of its process
-holders_stored : (S : Spaces) (q page at n : ℕ) (new : List ℕ) → (cell_or_fresh (stored S (at_page q page) at new) (at_page q n)).holders ≡ (cell_or_fresh S (at_page q n)).holders
+pub holders_stored : (S : Spaces) (q page at n : ℕ) (new : List ℕ) → (cell_or_fresh (stored S (at_page q page) at new) (at_page q n)).holders ≡ (cell_or_fresh S (at_page q n)).holders
 holders_stored S q page at n new = elim (cases_eq n page) [
   | inl same ↦
       ap (λ m. (cell_or_fresh (stored S (at_page q page) at new) (at_page q m)).holders) same

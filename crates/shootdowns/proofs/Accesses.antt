@@ -5,6 +5,7 @@ use Rattle.std.specs.Option.{option_map, option_and_then}
 use Rattle.std.proofs.lemmas.Option.{slice_get_within}
 use Rattle.page_words.specs.Addresses.{page_number, offset_number, slot_number, index_number, start_number, byte_count, EachTouched}
 use Rattle.page_words.specs.declared.addresses.Size.{Size}
+use Rattle.kernel_calls.proofs.WalkedReplies.{goes_frameless, told_planned}
 use Rattle.page_words.specs.FiniteMap as map
 use Rattle.page_words.specs.FiniteSet as set
 use Rattle.page_words.specs.Words.{frame_number, is_lazy}
@@ -61,16 +62,6 @@ frame_at v slot = unwrap_or (option_map frame_number (page_word (memory_of v) sl
 
 pub frame_is : (v : View) (slot : Slot) (word : ℕ) → page_word (memory_of v) slot ≡ Some word → frame_at v slot ≡ frame_number word
 frame_is v slot word is = ap (λ (y : Option ℕ). unwrap_or (option_map frame_number y) 0) is
-
-pub goes_frameless : (x : Plan) → takes_no_frame x ≡ true → goes_on x ≡ true
-goes_frameless (plan.Refused k) h = cc
-goes_frameless (plan.Fault f) h = cc
-goes_frameless (plan.Ready a b) h = refl
-
-pub told_planned : (x : Plan) (r : Reply) → completes (planned_or x r) ≡ true → planned_or x r ≡ r
-told_planned (plan.Refused k) r h = cc
-told_planned (plan.Fault f) r h = cc
-told_planned (plan.Ready a b) r h = refl
 
 pub both : (a b : Bool) → (a && b) ≡ true → (a ≡ true) × (b ≡ true)
 both true true h = (refl, refl)

@@ -34,7 +34,8 @@ use Rattle.kernel_calls.proofs.Decided.{goes-call, next-goes}
 use Rattle.kernel_calls.proofs.Runs.{kept-next}
 use Rattle.kernel_calls.proofs.WalkedReplies.{answered, each_found, page_mapped, page_takes}
 use Rattle.shootdowns.specs.Windows.{only_takes}
-use Rattle.shootdowns.proofs.Accesses.{goes_frameless, told_planned, both}
+use Rattle.shootdowns.proofs.Accesses.{both}
+use Rattle.kernel_calls.proofs.WalkedReplies.{goes_frameless, told_planned}
 use Rattle.shootdowns.proofs.Turned.{Pages, StaysMapped, Mapped, mapped_before, mapped_after}
 use Rattle.shootdowns.proofs.Taking.{left_next}
 use Rattle.shootdowns.proofs.Untouched.{was, Beside, Besides, after_beside}
