@@ -97,13 +97,13 @@ fn store_of(pid: Pid, address: Vaddr, value: u32) -> Event
 fn finds(core: &Core, pid: Pid, address: Vaddr, access: Access) -> bool
     ensures { result ≡ finds_at (memory_of core.now) pid access address }
 {
-    match access {
-        Access::Read => core.finds(&load_of(pid, address)),
-        Access::Write => core.finds(&store_of(pid, address, 0)),
+    match core.directory(pid) {
+        Some(directory) => walk(core.memory(), directory, address, access).is_ok(),
+        None => false,
     }
 }
 
-/// Loads the byte at an address as a processor does, which sets accessed of its page.
+/// Loads the byte at an address, which sets accessed of its page.
 fn load_byte(core: &mut Core, pid: Pid, address: Vaddr) -> u32
     requires { finds_at (memory_of core.old) pid Access.Read address ≡ true }
     ensures reply { answer core.old.state (touch pid address) ≡ reply.Value result }
@@ -111,13 +111,14 @@ fn load_byte(core: &mut Core, pid: Pid, address: Vaddr) -> u32
     ensures ends { Ends end.Nothing core.old core.new }
     ensures accessed { (cell_or_fresh core.new.state.spaces (slot_at pid address)).accessed ≡ true }
 {
-    let Reply::Value(value) = core.accessed(&load_of(pid, address)) else {
+    core.stands();
+    let Reply::Value(value) = core.step(&load_of(pid, address)) else {
         unreachable!()
     };
     value
 }
 
-/// Stores a byte at an address as a processor does, which sets accessed and dirty of its page.
+/// Stores a byte at an address, which sets accessed and dirty of its page.
 fn store_byte(core: &mut Core, pid: Pid, address: Vaddr, value: u32)
     requires { finds_at (memory_of core.old) pid Access.Write address ≡ true }
     ensures state { core.new.state ≡ next core.old.state (write_back pid address value) }
@@ -125,11 +126,12 @@ fn store_byte(core: &mut Core, pid: Pid, address: Vaddr, value: u32)
     ensures accessed { (cell_or_fresh core.new.state.spaces (slot_at pid address)).accessed ≡ true }
     ensures dirty { (cell_or_fresh core.new.state.spaces (slot_at pid address)).dirty ≡ true }
 {
-    core.accessed(&store_of(pid, address, value));
+    core.stands();
+    core.step(&store_of(pid, address, value));
 }
 
-/// If the walk finds a frame for an access, loads the byte there as a processor does, and for a write stores it again.
-/// These set accessed of its page, and dirty. Whether the walk finds one.
+/// If the walk finds a frame for an access, loads the byte there, and for a write stores it again. These set accessed of
+/// its page, and dirty. Whether the walk finds one.
 fn touch(core: &mut Core, pid: Pid, address: Vaddr, access: Access) -> bool
     ensures found { result ≡ finds_at (memory_of core.old) pid access address }
     ensures touched { (events : List Event) × IsTouched core.old.state pid address events
