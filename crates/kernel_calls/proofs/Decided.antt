@@ -1,7 +1,7 @@
 -- The decision of an event is carried out exactly if its reply is neither a refusal nor a fault.
 use Rattle.kernel_calls.proofs.Prelude
 use Prelude.{◌≡◌, ℕ, Bool, true, false, refl, ap, sym, subst, ◌∙◌, Option, Some, None, if◌then◌else◌, Result, Ok, Err}
-use Prelude.{cost, at_page, State, is_live, child_of, protect_refusal, fork_refusal, after_protect, after_fork}
+use Prelude.{cost, at_page, State, is_live, child_of, protect_refusal, fork_refusal, after_protect, after_fork, fork-cost}
 use Prelude.{may_protect, Cause, View, plan_of, plan_at, step_of, step_at, goes_on, same_stops, Plan, Size, Access}
 use Prelude.{Read, Write, answer, answer_of, after, next, completes, refused_or, planned_or, judged_of, plan_of_call}
 use Prelude.{plan_of_event, refused_plan, charge_in, charge_after, tested, spawned, Call, Event, Reply, arith}

@@ -6,7 +6,7 @@ use Prelude.{directory_at, finds_live, at_page, slot_at, Spaces, all_accessed, a
 use Prelude.{each_byte, FramesStay, none_goes, WalksAgree, stays_most, Member, quota_of, State, is_live, container_of}
 use Prelude.{as_account, View, memory_of, total-within, IsWellFormed, after_load, after_store, answer, after, next}
 use Prelude.{completes, takes_no_frame, plan_of_call, plan_of_event, finds_call, finds_event, reply_found, Call, Event}
-use Prelude.{IsCore, Ends, Ended, ServesCall, IsStore, StoresMarked}
+use Prelude.{IsCore, Ends, Ended, ended_by, ServesCall, IsStore, StoresMarked}
 use Rattle.kernel_calls.specs.Kept.{bytes_kept}
 use Rattle.kernel_calls.specs.Walked.{bytes_accessed}
 use Rattle.kernel_calls.specs.Processors.{IsSized, IsLeft, with_bytes, WalksLeaveCores, StoresLeaveCores}
@@ -37,6 +37,7 @@ use Rattle.page_words.specs.FiniteMap as map
 use Rattle.process_table.specs.declared.causes.Cause.TheVariants as cause
 use Rattle.fault_handler.specs.declared.plans.Plan.TheVariants as plan
 use Rattle.kernel_calls.specs.declared.calls.Call.TheVariants as call
+use Rattle.kernel_calls.specs.declared.translations.Ended.TheVariants as end
 
 -- ---- A core's memory, by its words
 
@@ -168,8 +169,12 @@ module _ (v : View) (core : IsCore v) (e : Event) (found : finds_event v e ≡ t
       ap (λ b. takes_no_frame (if b then plan_of_call v e.pid e.call else plan.Refused cause.NoProcess)) (lives v core e.pid home.0 home.1)
       ∙ frameless_call v core e.pid home.0 home.1 e.call found
 
-  next_is : next v.state e ≡ after v.state e.pid e.call
+  pub next_is : next v.state e ≡ after v.state e.pid e.call
   next_is = next-goes v.state e (ap completes (answered v e home.0 core found home.1) ∙ told v core e.pid home.0 home.1 e.call found)
+
+  -- it ends no translation
+  pub ends_none : ended_by v e ≡ end.Nothing
+  ends_none = accessed_ends_none v e found frame_taken
 
   book_stays : (next v.state e).book ≡ v.state.book
   book_stays = ap (λ (s : State). s.book) next_is ∙ same_book v core e.pid home.0 home.1 e.call found

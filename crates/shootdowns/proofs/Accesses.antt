@@ -282,17 +282,7 @@ module _ (v : View) (core : IsCore v) (base : State) (alike : Alike v.state base
         ∙ ap reply.Value (number_there addr size k)
     call_answer (call.Store addr size value) k =
         told_planned (plan_of s p addr size Write) reply.Done (done (call.Store addr size value) (frameless addr size Write k))
-    call_answer (call.Map page write) k = absurd k
-    call_answer (call.Unmap page) k = absurd k
-    call_answer (call.Protect page write) k = absurd k
-    call_answer (call.Info page) k = absurd k
-    call_answer (call.Offer page target write) k = absurd k
-    call_answer (call.Withdraw page target) k = absurd k
-    call_answer (call.Accept giver giver_page page) k = absurd k
-    call_answer (call.Spawn quota) k = absurd k
-    call_answer (call.Fork quota) k = absurd k
-    call_answer call.Exit k = absurd k
-    call_answer call.Quota k = absurd k
+    call_answer _ k = absurd k
 
     touched_there : (page frame : ℕ) (access : Access) → Serves vs p page frame access → Touched s.spaces p page
     touched_there page frame access k = record {
@@ -313,17 +303,7 @@ module _ (v : View) (core : IsCore v) (base : State) (alike : Alike v.state base
         ∙ ap (λ (S : Spaces). record s { spaces = S })
         (all_put (frame_at v) base.spaces p frames (byte_count size) value addr bytes
         (λ i l. held (length bytes) (page_number (addr + i)) frames long (each_byte addr size (λ page. Serves vs p page (frames page) Write) k i l)))
-    call_after (call.Map page write) k long = absurd k
-    call_after (call.Unmap page) k long = absurd k
-    call_after (call.Protect page write) k long = absurd k
-    call_after (call.Info page) k long = absurd k
-    call_after (call.Offer page target write) k long = absurd k
-    call_after (call.Withdraw page target) k long = absurd k
-    call_after (call.Accept giver giver_page page) k long = absurd k
-    call_after (call.Spawn quota) k long = absurd k
-    call_after (call.Fork quota) k long = absurd k
-    call_after call.Exit k long = absurd k
-    call_after call.Quota k long = absurd k
+    call_after _ k long = absurd k
 
 module _ (v : View) (core : IsCore v) (base : State) (alike : Alike v.state base) (well : IsWellFormed base) (bytes : List ℕ) (frames : ℕ → ℕ) (a : Event) (served : ServesEvent (with_state v base) frames a) where
   -- the process is live
@@ -336,17 +316,7 @@ module _ (v : View) (core : IsCore v) (base : State) (alike : Alike v.state base
       by : (c : Call) → ServesCall (with_state v base) a.pid frames c → is_live base a.pid ≡ true
       by (call.Load addr size) k = alive (lives v core a.pid k.0.given.directory (live (with_state v base) a.pid (page_number addr) (frames (page_number addr)) Read k.0))
       by (call.Store addr size value) k = alive (lives v core a.pid k.0.given.directory (live (with_state v base) a.pid (page_number addr) (frames (page_number addr)) Write k.0))
-      by (call.Map page write) k = absurd k
-      by (call.Unmap page) k = absurd k
-      by (call.Protect page write) k = absurd k
-      by (call.Info page) k = absurd k
-      by (call.Offer page target write) k = absurd k
-      by (call.Withdraw page target) k = absurd k
-      by (call.Accept giver giver_page page) k = absurd k
-      by (call.Spawn quota) k = absurd k
-      by (call.Fork quota) k = absurd k
-      by call.Exit k = absurd k
-      by call.Quota k = absurd k
+      by _ k = absurd k
 
   -- such an access is answered by the bytes there
   pub kept_answer : answer (filled_state (frame_at v) bytes base) a ≡ reply_kept frames bytes a.call
@@ -360,17 +330,7 @@ module _ (v : View) (core : IsCore v) (base : State) (alike : Alike v.state base
       by : (c : Call) → ServesCall (with_state v base) a.pid frames c → completes (reply_kept frames bytes c) ≡ true
       by (call.Load addr size) k = refl
       by (call.Store addr size value) k = refl
-      by (call.Map page write) k = absurd k
-      by (call.Unmap page) k = absurd k
-      by (call.Protect page write) k = absurd k
-      by (call.Info page) k = absurd k
-      by (call.Offer page target write) k = absurd k
-      by (call.Withdraw page target) k = absurd k
-      by (call.Accept giver giver_page page) k = absurd k
-      by (call.Spawn quota) k = absurd k
-      by (call.Fork quota) k = absurd k
-      by call.Exit k = absurd k
-      by call.Quota k = absurd k
+      by _ k = absurd k
 
   -- and leaves a state whose cells have the bytes that it leaves
   pub kept_next : length bytes ≡ length v.bytes → next (filled_state (frame_at v) bytes base) a ≡ filled_state (frame_at v) (bytes_kept frames bytes a.call) base
@@ -392,17 +352,7 @@ module _ (v : View) (core : IsCore v) (base : State) (alike : Alike v.state base
                 let role = role_served v core base alike well a.pid page (frames page) s in
                 none role.0 (ap (slice_get v.roles) same ∙ role.1)),
           ))
-      by (call.Map page write) k = absurd k
-      by (call.Unmap page) k = absurd k
-      by (call.Protect page write) k = absurd k
-      by (call.Info page) k = absurd k
-      by (call.Offer page target write) k = absurd k
-      by (call.Withdraw page target) k = absurd k
-      by (call.Accept giver giver_page page) k = absurd k
-      by (call.Spawn quota) k = absurd k
-      by (call.Fork quota) k = absurd k
-      by call.Exit k = absurd k
-      by call.Quota k = absurd k
+      by _ k = absurd k
 
   pub kept_long : length (bytes_kept frames bytes a.call) ≡ length bytes
   kept_long = by a.call
@@ -410,14 +360,4 @@ module _ (v : View) (core : IsCore v) (base : State) (alike : Alike v.state base
       by : (c : Call) → length (bytes_kept frames bytes c) ≡ length bytes
       by (call.Load addr size) = refl
       by (call.Store addr size value) = length-written frames bytes addr (bytes_of (byte_count size) value)
-      by (call.Map page write) = refl
-      by (call.Unmap page) = refl
-      by (call.Protect page write) = refl
-      by (call.Info page) = refl
-      by (call.Offer page target write) = refl
-      by (call.Withdraw page target) = refl
-      by (call.Accept giver giver_page page) = refl
-      by (call.Spawn quota) = refl
-      by (call.Fork quota) = refl
-      by call.Exit = refl
-      by call.Quota = refl
+      by _ = refl

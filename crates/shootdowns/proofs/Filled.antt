@@ -108,16 +108,7 @@ module _ (F : Slot → ℕ) (bytes : List ℕ) where
       ap (λ b. refused_or (if not (is_user_page page) then Some cause.BadPage else if not b then Some cause.NotMapped else None) reply.Done) (mapped_filled s.spaces (at_page p page))
   call_filled s p (call.Protect page true) h = cc
   call_filled s p call.Exit h = refl
-  call_filled s p (call.Load addr size) h = cc
-  call_filled s p (call.Store addr size value) h = cc
-  call_filled s p (call.Map page write) h = cc
-  call_filled s p (call.Info page) h = cc
-  call_filled s p (call.Offer page target write) h = cc
-  call_filled s p (call.Withdraw page target) h = cc
-  call_filled s p (call.Accept giver giver_page page) h = cc
-  call_filled s p (call.Spawn quota) h = cc
-  call_filled s p (call.Fork quota) h = cc
-  call_filled s p call.Quota h = cc
+  call_filled s p _ h = cc
 
   pub answer_filled : (s : State) (e : Event) → only_takes e.call ≡ true → answer (filled_state F bytes s) e ≡ answer s e
   answer_filled s e h = ap (λ (r : Reply). if is_live s e.pid then r else reply.Refused cause.NoProcess) (call_filled s e.pid e.call h)
@@ -128,16 +119,7 @@ module _ (F : Slot → ℕ) (bytes : List ℕ) where
   after_filled s p (call.Protect page false) h done = ap (λ (S : Spaces). record s { spaces = S }) (right_filled s.spaces (at_page p page) false (protects_mapped s p page done))
   after_filled s p (call.Protect page true) h done = cc
   after_filled s p call.Exit h done = ap (λ (S : Spaces). record (after s p call.Exit) { spaces = S }) (gone_filled s.spaces (is_of p))
-  after_filled s p (call.Load addr size) h done = cc
-  after_filled s p (call.Store addr size value) h done = cc
-  after_filled s p (call.Map page write) h done = cc
-  after_filled s p (call.Info page) h done = cc
-  after_filled s p (call.Offer page target write) h done = cc
-  after_filled s p (call.Withdraw page target) h done = cc
-  after_filled s p (call.Accept giver giver_page page) h done = cc
-  after_filled s p (call.Spawn quota) h done = cc
-  after_filled s p (call.Fork quota) h done = cc
-  after_filled s p call.Quota h done = cc
+  after_filled s p _ h done = cc
 
   pub next_filled : (s : State) (e : Event) → only_takes e.call ≡ true → next (filled_state F bytes s) e ≡ filled_state F bytes (next s e)
   next_filled s e h = by (completes (answer s e)) refl

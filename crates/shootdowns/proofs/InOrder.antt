@@ -95,17 +95,7 @@ is_none m n between state good = record {
 load_leaves : (frames : ℕ → ℕ) (bytes : List ℕ) (c : Call) → IsLoad c → bytes_kept frames bytes c ≡ bytes
 load_leaves frames bytes (call.Load addr size) h = refl
 load_leaves frames bytes (call.Store addr size value) h = absurd h
-load_leaves frames bytes (call.Map page write) h = refl
-load_leaves frames bytes (call.Unmap page) h = refl
-load_leaves frames bytes (call.Protect page write) h = refl
-load_leaves frames bytes (call.Info page) h = refl
-load_leaves frames bytes (call.Offer page target write) h = refl
-load_leaves frames bytes (call.Withdraw page target) h = refl
-load_leaves frames bytes (call.Accept giver giver_page page) h = refl
-load_leaves frames bytes (call.Spawn quota) h = refl
-load_leaves frames bytes (call.Fork quota) h = refl
-load_leaves frames bytes call.Exit h = refl
-load_leaves frames bytes call.Quota h = refl
+load_leaves frames bytes _ h = refl
 
 module _ (x : Ended) (done : Acknowledged) (e : Event) (r : Reply) (s : State) (w : View) (keeps : Processors) (takes : only_takes e.call ≡ true)
     (good : Good (under_way x done e r s w) keeps) (i : ℕ) where

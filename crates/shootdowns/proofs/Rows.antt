@@ -62,17 +62,10 @@ others_end_nothing v e other = by e.call refl other
         ap (λ (x : Call). if done then of_call v e.pid x else end.Nothing) is ∙ (ap (λ (x : Ended). if done then x else end.Nothing) nothing ∙ either_nothing done)
 
     by : (c : Call) → e.call ≡ c → may_end c ≡ false → ended_by v e ≡ end.Nothing
-    by (call.Load addr size) is h = ends (call.Load addr size) is refl
     by (call.Store addr size value) is h = cc
-    by (call.Map page write) is h = ends (call.Map page write) is refl
     by (call.Unmap page) is h = cc
     by (call.Protect page true) is h = ends (call.Protect page true) is refl
     by (call.Protect page false) is h = cc
-    by (call.Info page) is h = ends (call.Info page) is refl
-    by (call.Offer page target write) is h = ends (call.Offer page target write) is refl
-    by (call.Withdraw page target) is h = ends (call.Withdraw page target) is refl
     by (call.Accept giver giver_page page) is h = cc
-    by (call.Spawn quota) is h = ends (call.Spawn quota) is refl
-    by (call.Fork quota) is h = ends (call.Fork quota) is refl
     by call.Exit is h = cc
-    by call.Quota is h = ends call.Quota is refl
+    by _ is h = ends _ is refl

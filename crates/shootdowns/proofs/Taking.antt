@@ -69,16 +69,7 @@ left_call s p (call.Protect page false) h done slot there =
     (left_right s.spaces (at_page p page) slot false (protects_mapped s p page (done refl)) there, λ f. refl)
 left_call s p (call.Protect page true) h done slot there = cc
 left_call s p call.Exit h done slot there = let k = left_gone s.spaces (is_of p) slot there in (k.0, λ f. k.1)
-left_call s p (call.Load addr size) h done slot there = cc
-left_call s p (call.Store addr size value) h done slot there = cc
-left_call s p (call.Map page write) h done slot there = cc
-left_call s p (call.Info page) h done slot there = cc
-left_call s p (call.Offer page target write) h done slot there = cc
-left_call s p (call.Withdraw page target) h done slot there = cc
-left_call s p (call.Accept giver giver_page page) h done slot there = cc
-left_call s p (call.Spawn quota) h done slot there = cc
-left_call s p (call.Fork quota) h done slot there = cc
-left_call s p call.Quota h done slot there = cc
+left_call s p _ h done slot there = cc
 
 pub left_next : (s : State) (e : Event) → only_takes e.call ≡ true → Left s (next s e) (gone_by s e)
 left_next s e h = by (completes (answer s e)) refl
@@ -216,16 +207,7 @@ pages_stand v w before later e state stay loose takes = by e.call refl takes loo
     by (call.Unmap page) is h l = by_loose v w (l refl)
     by call.Exit is h l = by_loose v w (l refl)
     by (call.Protect page write) is h l = by_protect v w before later e state stay page write is
-    by (call.Load addr size) is h l = cc
-    by (call.Store addr size value) is h l = cc
-    by (call.Map page write) is h l = cc
-    by (call.Info page) is h l = cc
-    by (call.Offer page target write) is h l = cc
-    by (call.Withdraw page target) is h l = cc
-    by (call.Accept giver giver_page page) is h l = cc
-    by (call.Spawn quota) is h l = cc
-    by (call.Fork quota) is h l = cc
-    by call.Quota is h l = cc
+    by _ is h l = cc
 
 module _ (v w : View) (before : IsCore v) (later : IsCore w) (e : Event) (takes : only_takes e.call ≡ true) (state : w.state ≡ next v.state e)
     (stay : FramesStay (gone_by v.state e) (memory_of v) (memory_of w)) (pages : PagesStand v w) where

@@ -250,17 +250,7 @@ module _ (s : State) (e : Event) (p : ℕ) where
         (Stays gone) (λ S b c o ys has good. good) (λ S b o ys has good. stored_gone S gone b has.0 o ys good has.1)
         (each_page addr size (StaysMapped s e p true) (λ page. Stays gone s.spaces (at_page p page))
         (λ page k. (left_gone s.spaces gone (at_page p page) (ap is_some (sym (ap (λ (T : Spaces). map.get T (at_page p page)) is) ∙ k.there))).1) h) value)
-    gone_turned gone is (call.Map page write) h = absurd h
-    gone_turned gone is (call.Unmap page) h = absurd h
-    gone_turned gone is (call.Protect page write) h = absurd h
-    gone_turned gone is (call.Info page) h = absurd h
-    gone_turned gone is (call.Offer page target write) h = absurd h
-    gone_turned gone is (call.Withdraw page target) h = absurd h
-    gone_turned gone is (call.Accept giver giver_page page) h = absurd h
-    gone_turned gone is (call.Spawn quota) h = absurd h
-    gone_turned gone is (call.Fork quota) h = absurd h
-    gone_turned gone is call.Exit h = absurd h
-    gone_turned gone is call.Quota h = absurd h
+    gone_turned gone is _ h = absurd h
 
     right_turned : (a : Slot) → Has s.spaces a → (next s e).spaces ≡ protected s.spaces a false → (c : Call) → Pages c
         → (after (record s { spaces = protected s.spaces a false }) p c).spaces ≡ protected (after s p c).spaces a false
@@ -276,17 +266,7 @@ module _ (s : State) (e : Event) (p : ℕ) where
         (λ S b o ys has good. stored_right S a b has.0 good.1.0 false o ys (λ same. good.0 (sym same)) has.1 good.1.1)
         (each_page addr size (StaysMapped s e p true) (λ page. Other a s.spaces (at_page p page))
         (λ page k. (right_kept s.spaces a k.cell (at_page p page) (sym (ap (λ (T : Spaces). map.get T (at_page p page)) is) ∙ k.there) (k.write refl), mapped)) h) value)
-    right_turned a mapped is (call.Map page write) h = absurd h
-    right_turned a mapped is (call.Unmap page) h = absurd h
-    right_turned a mapped is (call.Protect page write) h = absurd h
-    right_turned a mapped is (call.Info page) h = absurd h
-    right_turned a mapped is (call.Offer page target write) h = absurd h
-    right_turned a mapped is (call.Withdraw page target) h = absurd h
-    right_turned a mapped is (call.Accept giver giver_page page) h = absurd h
-    right_turned a mapped is (call.Spawn quota) h = absurd h
-    right_turned a mapped is (call.Fork quota) h = absurd h
-    right_turned a mapped is call.Exit h = absurd h
-    right_turned a mapped is call.Quota h = absurd h
+    right_turned a mapped is _ h = absurd h
 
 -- ---- An access by itself
 
@@ -299,17 +279,7 @@ Mapped s p _ = ⊥
 pub mapped_before : (s : State) (e : Event) (p : ℕ) (c : Call) → Pages s e p c → Mapped s p c
 mapped_before s e p (call.Load addr size) h = each_page addr size (StaysMapped s e p false) (λ page. Has s.spaces (at_page p page)) (λ page k. k.before) h
 mapped_before s e p (call.Store addr size value) h = each_page addr size (StaysMapped s e p true) (λ page. Has s.spaces (at_page p page)) (λ page k. k.before) h
-mapped_before s e p (call.Map page write) h = absurd h
-mapped_before s e p (call.Unmap page) h = absurd h
-mapped_before s e p (call.Protect page write) h = absurd h
-mapped_before s e p (call.Info page) h = absurd h
-mapped_before s e p (call.Offer page target write) h = absurd h
-mapped_before s e p (call.Withdraw page target) h = absurd h
-mapped_before s e p (call.Accept giver giver_page page) h = absurd h
-mapped_before s e p (call.Spawn quota) h = absurd h
-mapped_before s e p (call.Fork quota) h = absurd h
-mapped_before s e p call.Exit h = absurd h
-mapped_before s e p call.Quota h = absurd h
+mapped_before s e p _ h = absurd h
 
 -- it changes spaces alone, and by these alone
 pub record Spacely (s t : State) (p : ℕ) (c : Call) : Type 0 where
@@ -332,17 +302,7 @@ spacely s t p (call.Store addr size value) h = record {
       (sym (with_touched-same s.spaces p addr size (each_page addr size (λ page. Has s.spaces (at_page p page)) (IsThere s.spaces p) (there_is s.spaces p) h)))
       (bytes_grow (byte_count size) value addr p s.spaces (λ i l. each_byte addr size (λ page. Has s.spaces (at_page p page)) h i l));
 }
-spacely s t p (call.Map page write) h = absurd h
-spacely s t p (call.Unmap page) h = absurd h
-spacely s t p (call.Protect page write) h = absurd h
-spacely s t p (call.Info page) h = absurd h
-spacely s t p (call.Offer page target write) h = absurd h
-spacely s t p (call.Withdraw page target) h = absurd h
-spacely s t p (call.Accept giver giver_page page) h = absurd h
-spacely s t p (call.Spawn quota) h = absurd h
-spacely s t p (call.Fork quota) h = absurd h
-spacely s t p call.Exit h = absurd h
-spacely s t p call.Quota h = absurd h
+spacely s t p _ h = absurd h
 
 -- an access that completes
 pub next_grows : (s : State) (a : Event) → completes (answer s a) ≡ true → Mapped s a.pid a.call → Grows s.spaces (next s a).spaces
@@ -372,16 +332,7 @@ call_alike s t p (call.Protect page false) h book keys =
 call_alike s t p (call.Protect page true) h book keys = cc
 call_alike s t p call.Exit h book keys =
     ap (λ (b : Book). refused_or (if p == 0 then Some cause.RootExit else if nat_lt 0 (number_of_children b p) then Some cause.HasChildren else None) reply.Done) book
-call_alike s t p (call.Load addr size) h book keys = cc
-call_alike s t p (call.Store addr size value) h book keys = cc
-call_alike s t p (call.Map page write) h book keys = cc
-call_alike s t p (call.Info page) h book keys = cc
-call_alike s t p (call.Offer page target write) h book keys = cc
-call_alike s t p (call.Withdraw page target) h book keys = cc
-call_alike s t p (call.Accept giver giver_page page) h book keys = cc
-call_alike s t p (call.Spawn quota) h book keys = cc
-call_alike s t p (call.Fork quota) h book keys = cc
-call_alike s t p call.Quota h book keys = cc
+call_alike s t p _ h book keys = cc
 
 pub answer_alike : (s t : State) (e : Event) → only_takes e.call ≡ true → t.book ≡ s.book → Grows s.spaces t.spaces → answer t e ≡ answer s e
 answer_alike s t e h book grows =
@@ -392,17 +343,7 @@ answer_alike s t e h book grows =
 pub mapped_after : (s : State) (e : Event) (p : ℕ) (c : Call) (X : State) → X.spaces ≡ (next s e).spaces → Pages s e p c → Mapped X p c
 mapped_after s e p (call.Load addr size) X is h = each_page addr size (StaysMapped s e p false) (λ page. Has X.spaces (at_page p page)) (λ page k. (k.cell, ap (λ (S : Spaces). map.get S (at_page p page)) is ∙ k.there)) h
 mapped_after s e p (call.Store addr size value) X is h = each_page addr size (StaysMapped s e p true) (λ page. Has X.spaces (at_page p page)) (λ page k. (k.cell, ap (λ (S : Spaces). map.get S (at_page p page)) is ∙ k.there)) h
-mapped_after s e p (call.Map page write) X is h = absurd h
-mapped_after s e p (call.Unmap page) X is h = absurd h
-mapped_after s e p (call.Protect page write) X is h = absurd h
-mapped_after s e p (call.Info page) X is h = absurd h
-mapped_after s e p (call.Offer page target write) X is h = absurd h
-mapped_after s e p (call.Withdraw page target) X is h = absurd h
-mapped_after s e p (call.Accept giver giver_page page) X is h = absurd h
-mapped_after s e p (call.Spawn quota) X is h = absurd h
-mapped_after s e p (call.Fork quota) X is h = absurd h
-mapped_after s e p call.Exit X is h = absurd h
-mapped_after s e p call.Quota X is h = absurd h
+mapped_after s e p _ X is h = absurd h
 
 -- both orders end in one state
 pub turned : (s : State) (e a : Event) → only_takes e.call ≡ true → Pages s e a.pid a.call → completes (answer s a) ≡ true → completes (answer (next s e) a) ≡ true
@@ -437,17 +378,7 @@ turned s e a takes pages done later = by (completes (answer s e)) refl
         let has = some_value (map.get s.spaces b) (protects_mapped s e.pid page (sym (ap (λ c. completes (answer_of s e.pid c)) is) ∙ completed s e goes)) in
         moved X (record s { spaces = protected s.spaces b false }) there refl ∙ ap (λ (T : Spaces). record X { spaces = T }) (right_turned s e a.pid goes b has there a.call pages)
         ∙ sym (ap (λ (t : State). after t e.pid (call.Protect page false)) (spacely s s a.pid a.call (mapped_before s e a.pid a.call pages)).rest)
-    either (call.Protect page true) is h goes = cc
-    either (call.Load addr size) is h goes = cc
-    either (call.Store addr size value) is h goes = cc
-    either (call.Map page write) is h goes = cc
-    either (call.Info page) is h goes = cc
-    either (call.Offer page target write) is h goes = cc
-    either (call.Withdraw page target) is h goes = cc
-    either (call.Accept giver giver_page page) is h goes = cc
-    either (call.Spawn quota) is h goes = cc
-    either (call.Fork quota) is h goes = cc
-    either call.Quota is h goes = cc
+    either _ is h goes = cc
 
     by : (b : Bool) → completes (answer s e) ≡ b → next (next s e) a ≡ next (next s a) e
     by false stops = ap (λ (t : State). next t a) (next-stays s e stops) ∙ sym (next-stays (next s a) e (ap completes same ∙ stops))

@@ -121,17 +121,7 @@ after_beside s slot p (call.Store addr size value) c h at = (
       ∙ bytes_beside (byte_count size) value addr p s.spaces slot (λ i l. each_byte addr size (λ page. Beside s.spaces slot (at_page p page)) h i l) ∙ at,
   refl,
 )
-after_beside s slot p (call.Map page write) c h at = absurd h
-after_beside s slot p (call.Unmap page) c h at = absurd h
-after_beside s slot p (call.Protect page write) c h at = absurd h
-after_beside s slot p (call.Info page) c h at = absurd h
-after_beside s slot p (call.Offer page target write) c h at = absurd h
-after_beside s slot p (call.Withdraw page target) c h at = absurd h
-after_beside s slot p (call.Accept giver giver_page page) c h at = absurd h
-after_beside s slot p (call.Spawn quota) c h at = absurd h
-after_beside s slot p (call.Fork quota) c h at = absurd h
-after_beside s slot p call.Exit c h at = absurd h
-after_beside s slot p call.Quota c h at = absurd h
+after_beside s slot p _ c h at = absurd h
 
 -- ---- What was there before an event that only takes away
 
@@ -198,17 +188,7 @@ was s e slot d takes at = by (completes (answer s e)) refl
     either (call.Unmap page) h goes there = was_gone s (is_slot e.pid page) slot d there
     either call.Exit h goes there = was_gone s (is_of e.pid) slot d there
     either (call.Protect page false) h goes there = was_right s (at_page e.pid page) slot d (protects_mapped s e.pid page goes) there
-    either (call.Protect page true) h goes there = cc
-    either (call.Load addr size) h goes there = cc
-    either (call.Store addr size value) h goes there = cc
-    either (call.Map page write) h goes there = cc
-    either (call.Info page) h goes there = cc
-    either (call.Offer page target write) h goes there = cc
-    either (call.Withdraw page target) h goes there = cc
-    either (call.Accept giver giver_page page) h goes there = cc
-    either (call.Spawn quota) h goes there = cc
-    either (call.Fork quota) h goes there = cc
-    either call.Quota h goes there = cc
+    either _ h goes there = cc
 
     by : (b : Bool) → completes (answer s e) ≡ b → Was s slot d
     by false stops = record {

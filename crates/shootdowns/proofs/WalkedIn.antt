@@ -62,17 +62,7 @@ module _ (s : State) (well : IsWellFormed s) (e : Event) (takes : only_takes e.c
   found_pages (call.Store addr size value) h = each_found w core p d live Write addr size (StaysMapped s e p true)
       (λ a found. stays (page_number a) true (page_mapped w core p d live Write a found)
       (λ _. (both (cell_or_fresh w.state.spaces (slot_at p a)).write _ (both (map.contains_key w.state.spaces (slot_at p a)) _ (page_takes w core p d live a found)).1).0)) h
-  found_pages (call.Map page write) h = cc
-  found_pages (call.Unmap page) h = cc
-  found_pages (call.Protect page write) h = cc
-  found_pages (call.Info page) h = cc
-  found_pages (call.Offer page target write) h = cc
-  found_pages (call.Withdraw page target) h = cc
-  found_pages (call.Accept giver giver_page page) h = cc
-  found_pages (call.Spawn quota) h = cc
-  found_pages (call.Fork quota) h = cc
-  found_pages call.Exit h = cc
-  found_pages call.Quota h = cc
+  found_pages _ h = cc
 
   -- it takes stores as memory is, where the walk finds it for one
   takes_there : (a : ℕ) → finds_at (memory_of w) p Write a ≡ true → takes_stores s.spaces (memory_of w) (slot_at p a) ≡ true
@@ -100,17 +90,7 @@ module _ (s : State) (well : IsWellFormed s) (e : Event) (takes : only_takes e.c
   completing : (c : Call) → finds_call w p c ≡ true → completes (answer_of s p c) ≡ true
   completing (call.Load addr size) h = sym (goes-call g p (call.Load addr size)) ∙ goes_frameless (plan_at g p addr size Read) (frameless addr size Read h)
   completing (call.Store addr size value) h = sym (goes-call g p (call.Store addr size value)) ∙ goes_frameless (plan_at g p addr size Write) (frameless addr size Write h)
-  completing (call.Map page write) h = cc
-  completing (call.Unmap page) h = cc
-  completing (call.Protect page write) h = cc
-  completing (call.Info page) h = cc
-  completing (call.Offer page target write) h = cc
-  completing (call.Withdraw page target) h = cc
-  completing (call.Accept giver giver_page page) h = cc
-  completing (call.Spawn quota) h = cc
-  completing (call.Fork quota) h = cc
-  completing call.Exit h = cc
-  completing call.Quota h = cc
+  completing _ h = cc
 
   byte_same : (a : ℕ) → StaysMapped s e p false (page_number a) → byte_at (next s e).spaces p a ≡ byte_at s.spaces p a
   byte_same a k =
@@ -129,33 +109,13 @@ module _ (s : State) (well : IsWellFormed s) (e : Event) (takes : only_takes e.c
   same_call (call.Store addr size value) h done =
       told_planned (plan_of (next s e) p addr size Write) reply.Done done
       ∙ sym (told_planned (plan_of s p addr size Write) reply.Done (completing (call.Store addr size value) h))
-  same_call (call.Map page write) h done = cc
-  same_call (call.Unmap page) h done = cc
-  same_call (call.Protect page write) h done = cc
-  same_call (call.Info page) h done = cc
-  same_call (call.Offer page target write) h done = cc
-  same_call (call.Withdraw page target) h done = cc
-  same_call (call.Accept giver giver_page page) h done = cc
-  same_call (call.Spawn quota) h done = cc
-  same_call (call.Fork quota) h done = cc
-  same_call call.Exit h done = cc
-  same_call call.Quota h done = cc
+  same_call _ h done = cc
 
   -- its process is live in both
   owner : (t : State) → IsWellFormed t → (c : Call) → Mapped t p c → is_live t p ≡ true
   owner t fine (call.Load addr size) h = fine.owners (at_page p (page_number addr)) h.0.0 h.0.1
   owner t fine (call.Store addr size value) h = fine.owners (at_page p (page_number addr)) h.0.0 h.0.1
-  owner t fine (call.Map page write) h = absurd h
-  owner t fine (call.Unmap page) h = absurd h
-  owner t fine (call.Protect page write) h = absurd h
-  owner t fine (call.Info page) h = absurd h
-  owner t fine (call.Offer page target write) h = absurd h
-  owner t fine (call.Withdraw page target) h = absurd h
-  owner t fine (call.Accept giver giver_page page) h = absurd h
-  owner t fine (call.Spawn quota) h = absurd h
-  owner t fine (call.Fork quota) h = absurd h
-  owner t fine call.Exit h = absurd h
-  owner t fine call.Quota h = absurd h
+  owner t fine _ h = absurd h
 
   -- pages that such an access touches, and a slot that the event took
   besides : (slot : Slot) (c : Call) → Pages s e p c → is_some (map.get w.state.spaces slot) ≡ false
@@ -185,17 +145,7 @@ module _ (s : State) (well : IsWellFormed s) (e : Event) (takes : only_takes e.c
             apart = λ same. (let n : true ≡ false = sym mapped ∙ sym (ap (λ q. is_some (map.get w.state.spaces q)) same) ∙ gone in cc);
             out = out (at_page p page) k.before.0 mapped k.before.1;
           }
-  besides slot (call.Map page write) h gone out = absurd h
-  besides slot (call.Unmap page) h gone out = absurd h
-  besides slot (call.Protect page write) h gone out = absurd h
-  besides slot (call.Info page) h gone out = absurd h
-  besides slot (call.Offer page target write) h gone out = absurd h
-  besides slot (call.Withdraw page target) h gone out = absurd h
-  besides slot (call.Accept giver giver_page page) h gone out = absurd h
-  besides slot (call.Spawn quota) h gone out = absurd h
-  besides slot (call.Fork quota) h gone out = absurd h
-  besides slot call.Exit h gone out = absurd h
-  besides slot call.Quota h gone out = absurd h
+  besides slot _ h gone out = absurd h
 
 -- by the event that is the access
 module _ (s : State) (well : IsWellFormed s) (e : Event) (takes : only_takes e.call ≡ true) (w : View) (core : IsCore w) (state : w.state ≡ next s e) (a : Event) (d : ℕ)
@@ -217,17 +167,7 @@ module _ (s : State) (well : IsWellFormed s) (e : Event) (takes : only_takes e.c
       by : (c : Call) → finds_call w a.pid c ≡ true → completes (reply_found w.bytes d c) ≡ true
       by (call.Load addr size) h = refl
       by (call.Store addr size value) h = refl
-      by (call.Map page write) h = cc
-      by (call.Unmap page) h = cc
-      by (call.Protect page write) h = cc
-      by (call.Info page) h = cc
-      by (call.Offer page target write) h = cc
-      by (call.Withdraw page target) h = cc
-      by (call.Accept giver giver_page page) h = cc
-      by (call.Spawn quota) h = cc
-      by (call.Fork quota) h = cc
-      by call.Exit h = cc
-      by call.Quota h = cc
+      by _ h = cc
 
   live_after : is_live (next s e) a.pid ≡ true
   live_after = owner s well e takes w core state a.pid d live (next s e) (kept-next s e well).0 a.call (mapped_after s e a.pid a.call (next s e) refl pages_in)
