@@ -29,6 +29,7 @@ use Rattle.kernel_calls.specs.declared.calls.Call.{Call}
 use Rattle.kernel_calls.specs.declared.calls.Call.TheVariants as call
 use Rattle.kernel_calls.specs.declared.calls.Event.{Event}
 use Rattle.kernel_calls.specs.declared.calls.Reply.{Reply}
+use Rattle.kernel_calls.specs.declared.calls.Reply.TheVariants as reply
 use Rattle.table_walk.specs.declared.WalkEnd.{WalkEnd}
 use Rattle.page_words.specs.Addresses.{second_page, page_and, touched, start_number, EachTouched}
 use Rattle.page_words.specs.declared.addresses.Size.{Size}
@@ -39,15 +40,19 @@ use Rattle.std.specs.Prelude.{nat_lt}
 use Rattle.process_table.specs.Image.{memory_of}
 use Rattle.process_table.specs.View.{View}
 use Rattle.kernel_calls.specs.Translations as kept
-use Rattle.kernel_calls.specs.Translations.{Kept, translation, IsGiven, WalkGives, Ends, is_ended, is_invalidated, AreRead}
+use Rattle.kernel_calls.specs.Translations.{Kept, translation, IsGiven, WalkGives, Ends, ended_by, is_ended, is_invalidated, AreRead}
 use Rattle.kernel_calls.specs.declared.translations.Ended.{Ended}
 use Rattle.kernel_calls.specs.declared.translations.Ended.TheVariants as end
 use Rattle.kernel_calls.proofs.Leaving.{left_read}
+use Rattle.kernel_calls.proofs.LeftByProcessors.{ends_none}
+use Rattle.kernel_calls.proofs.WalkedReplies.{answered}
+use Rattle.kernel_calls.specs.Processors.{IsCore}
+use Rattle.kernel_calls.specs.Walked.{finds_event}
 use Rattle.shadow_tables.specs.Laws.{WalksAgree}
 use Rattle.shadow_tables.specs.Shadow.{Shadow, Translations, at_page, slot_order, root_frame, shadow_end}
 use Rattle.shadow_tables.specs.declared.tables.Translation.{Translation}
 use Rattle.shadow_tables.specs.declared.walk.LongEnd.{LongEnd}
-use Rattle.shadow_core.specs.Paired.{kept_at, IsShadowed, left_by, HasEntered, WalksAreTheCores, Reaches, ReachesCall, AccessesAreServed, IsServed}
+use Rattle.shadow_core.specs.Paired.{kept_at, IsShadowed, left_by, HasEntered, WalksAreTheCores, Reaches, ReachesCall, AccessesAreServed, IsServed, touch, write_back}
 
 none_some : {X : Type 0} (x : X) → ◌≡◌ {A = Option X} None (Some x) → ⊥
 none_some x e = cc
@@ -343,6 +348,22 @@ stored_set s p address value = stored-flags (spaces.with_pages s.spaces p (touch
 -- the state after an event that completes
 pub goes : (s : State) (e : Event) (r : Reply) → r ≡ answer s e → completes r ≡ true → next s e ≡ after s e.pid e.call
 goes s e r is done = next-goes s e (ap completes (sym is) ∙ done)
+
+-- a load of a byte whose walk finds a frame gives a value, and makes nothing stale
+pub loads : (v : View) → IsCore v → (p address : ℕ) → finds_at (memory_of v) p Read address ≡ true
+    → (ended_by v (touch p address) ≡ end.Nothing) × ((n : ℕ) × (answer v.state (touch p address) ≡ reply.Value n))
+loads v core p address h =
+    let found : finds_event v (touch p address) ≡ true = finds_one (memory_of v) p address Read ∙ h in
+    let home = found_at (memory_of v) p address Read h in
+    (ends_none v core (touch p address) found, (_, answered v (touch p address) home.directory core found home.live))
+
+-- and such a store is done
+pub stores : (v : View) → IsCore v → (p address value : ℕ) → finds_at (memory_of v) p Write address ≡ true
+    → (ended_by v (write_back p address value) ≡ end.Nothing) × (reply.Done ≡ answer v.state (write_back p address value))
+stores v core p address value h =
+    let found : finds_event v (write_back p address value) ≡ true = finds_one (memory_of v) p address Write ∙ h in
+    let home = found_at (memory_of v) p address Write h in
+    (ends_none v core (write_back p address value) found, sym (answered v (write_back p address value) home.directory core found home.live))
 
 -- the cell of a page whose walk finds a frame
 pub mapped_at : (image : Image) (mapped : spaces.Spaces) (p address : ℕ) (access : Access) → CoreWalksAgree image mapped → (found : Found image p address access)

@@ -1,20 +1,29 @@
-use Rattle.std.proofs.Common.{sym, refl, ap, ◌∙◌}
+use Rattle.std.proofs.Common.{◌≡◌, ℕ, sym, refl, ap, subst, ◌∙◌}
 use Rattle.address_space.specs.Spaces.{cell_or_fresh, slot_at}
-use Rattle.process_table.specs.Image.{memory_of}
-use Rattle.table_walk.specs.declared.Access.TheVariants.{Read}
+use Rattle.process_table.specs.View.{View}
 use Rattle.kernel_calls.specs.Machine.{answer, next}
-use Rattle.kernel_calls.specs.Walked.{finds_event}
+use Rattle.kernel_calls.specs.Translations.{Ends, ended_by}
+use Rattle.kernel_calls.specs.declared.translations.Ended.{Ended}
+use Rattle.kernel_calls.specs.declared.translations.Ended.TheVariants as end
+use Rattle.kernel_calls.specs.declared.calls.Reply.TheVariants as reply
+use Rattle.kernel_calls.proofs.Leaving.{is_core}
 use Rattle.shadow_core.specs.Paired.{touch}
-use Rattle.shadow_core.proofs.Pairing.{finds_one, goes, loaded_set}
+use Rattle.shadow_core.proofs.Pairing.{loads, goes, loaded_set}
 use Rattle.shadow_core.proofs.load_byte.Goals as goal
 
-pub accessed-requires : goal.accessed-requires
-accessed-requires c =
-    let v = c.args.core.now in
-    ap (finds_event v) c.load_of.ensures ∙ finds_one (memory_of v) c.args.pid c.args.address Read ∙ c.requires
+-- what the load gives, and that it makes nothing stale
+told : (c : goal.After-stands) → (ended_by c.args.core.now (touch c.args.pid c.args.address) ≡ end.Nothing)
+    × ((n : ℕ) × (answer c.args.core.now.state (touch c.args.pid c.args.address) ≡ reply.Value n))
+told c = let s = c.stands.ensures in loads c.args.core.now (is_core s.image s.walks s.ways s.well_formed) c.args.pid c.args.address c.requires
 
 pub returns-clause-state : goal.returns-clause-state
-returns-clause-state c = c.accessed.ensures.state ∙ ap (next c.args.core.now.state) c.load_of.ensures
+returns-clause-state c = c.step.ensures.state ∙ ap (next c.args.core.now.state) c.load_of.ensures
+
+pub returns-clause-ends : goal.returns-clause-ends
+returns-clause-ends c =
+    let s = c.stands.ensures in
+    let t = loads c.args.core.now (is_core s.image s.walks s.ways s.well_formed) c.args.pid c.args.address c.requires in
+    subst (λ (x : Ended). Ends x c.args.core.now c.step.new.self) (ap (ended_by c.args.core.now) c.load_of.ensures ∙ t.0) c.step.ensures.ends
 
 pub returns-clause-accessed : goal.returns-clause-accessed
 returns-clause-accessed c =
@@ -22,7 +31,7 @@ returns-clause-accessed c =
     let p = c.args.pid in
     let a = c.args.address in
     ap (λ s. (cell_or_fresh s.spaces (slot_at p a)).accessed)
-    (c.accessed.ensures.state ∙ ap (next s) c.load_of.ensures ∙ goes s (touch p a) _ (c.in-Value.ensures.reply ∙ ap (answer s) c.load_of.ensures) refl)
+    (c.step.ensures.state ∙ ap (next s) c.load_of.ensures ∙ goes s (touch p a) _ (c.in-Value.ensures.reply ∙ ap (answer s) c.load_of.ensures) refl)
     ∙ loaded_set s p a
 
 pub returns-clause-reply : goal.returns-clause-reply
