@@ -1,20 +1,12 @@
-use Rattle.std.proofs.Common.{◌≡◌, ℕ, sym, refl, ap, subst, ◌∙◌}
+use Rattle.std.proofs.Common.{sym, refl, ap, subst, ◌∙◌}
 use Rattle.address_space.specs.Spaces.{cell_or_fresh, slot_at}
-use Rattle.process_table.specs.View.{View}
 use Rattle.kernel_calls.specs.Machine.{answer, next}
 use Rattle.kernel_calls.specs.Translations.{Ends, ended_by}
 use Rattle.kernel_calls.specs.declared.translations.Ended.{Ended}
-use Rattle.kernel_calls.specs.declared.translations.Ended.TheVariants as end
-use Rattle.kernel_calls.specs.declared.calls.Reply.TheVariants as reply
 use Rattle.kernel_calls.proofs.Leaving.{is_core}
 use Rattle.shadow_core.specs.Paired.{touch}
 use Rattle.shadow_core.proofs.Pairing.{loads, goes, loaded_set}
 use Rattle.shadow_core.proofs.load_byte.Goals as goal
-
--- what the load gives, and that it makes nothing stale
-told : (c : goal.After-stands) → (ended_by c.args.core.now (touch c.args.pid c.args.address) ≡ end.Nothing)
-    × ((n : ℕ) × (answer c.args.core.now.state (touch c.args.pid c.args.address) ≡ reply.Value n))
-told c = let s = c.stands.ensures in loads c.args.core.now (is_core s.image s.walks s.ways s.well_formed) c.args.pid c.args.address c.requires
 
 pub returns-clause-state : goal.returns-clause-state
 returns-clause-state c = c.step.ensures.state ∙ ap (next c.args.core.now.state) c.load_of.ensures
@@ -36,3 +28,10 @@ returns-clause-accessed c =
 
 pub returns-clause-reply : goal.returns-clause-reply
 returns-clause-reply c = sym (c.in-Value.ensures.reply ∙ ap (answer c.args.core.now.state) c.load_of.ensures)
+
+pub unreachable-requires : goal.unreachable-requires
+unreachable-requires c =
+    let s = c.stands.ensures in
+    let v = c.args.core.now in
+    let t = loads v (is_core s.image s.walks s.ways s.well_formed) c.args.pid c.args.address c.requires in
+    c.in_default.not-Value t.1.0 (c.step.ensures.reply ∙ ap (answer v.state) c.load_of.ensures ∙ t.1.1)
