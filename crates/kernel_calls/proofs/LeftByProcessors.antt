@@ -50,7 +50,7 @@ module _ (v : View) (core : IsCore v) (sized : IsSized v) where
       let root = core.image.sound.root in
       let m = from_map (as_account v.state 0) (map.get v.state.book 0) root.0 root.1 in
       let same : quota_of v.state.book 0 ≡ root.0.quota =
-          ap (λ o. unwrap_or (option_map (λ (m : Member). m.quota) o) 0) m.1 ∙ ap (λ a. a.quota) m.2 in
+      ap (λ o. unwrap_or (option_map (λ (m : Member). m.quota) o) 0) m.1 ∙ ap (λ a. a.quota) m.2 in
       ap (λ n. 1 + n) same ∙ root.2
 
   some_frames : 0 < length v.roles
@@ -65,7 +65,7 @@ module _ (v : View) (core : IsCore v) (sized : IsSized v) where
   room : HasRoom v.directories v.bytes v.roles
   room =
       let costs : total_cost v.directories (spaces_in v.directories v.bytes) ≡ total v.state =
-          ap (total_cost v.directories) spaces_is ∙ total-book v.directories v.state live_is small in
+      ap (total_cost v.directories) spaces_is ∙ total-book v.directories v.state live_is small in
       let within = total-within v.state core.well_formed in
       let quota = root_quota in
       omega (arith, costs, within, quota)
