@@ -1,10 +1,10 @@
 -- What processors leave of a core's memory is a core's.
 use Rattle.kernel_calls.proofs.Prelude
-use Prelude.{◌≡◌, ℕ, ◌+◌, ◌<◌, ◌≤◌, true, List, length, refl, sym, ap, subst, ◌∙◌, arith, Option, Some, is_some}
+use Prelude.{◌≡◌, ℕ, ◌+◌, ◌<◌, true, List, length, refl, sym, ap, subst, ◌∙◌, arith, Some, is_some}
 use Prelude.{if◌then◌else◌, unwrap_or, option_map, is_some-map, some_value, byte_count, touched, Read, Write}
 use Prelude.{directory_at, finds_live, at_page, slot_at, Spaces, all_accessed, all_stored, bytes_of, with_touched-same}
 use Prelude.{each_byte, FramesStay, none_goes, WalksAgree, stays_most, Member, quota_of, State, is_live, container_of}
-use Prelude.{as_account, View, memory_of, total-within, IsWellFormed, after_load, after_store, answer, after, next}
+use Prelude.{as_account, View, memory_of, total-within, IsWellFormed, after_load, after_store, after, next}
 use Prelude.{completes, takes_no_frame, plan_of_call, plan_of_event, finds_call, finds_event, reply_found, Call, Event}
 use Prelude.{IsCore, Ends, Ended, ended_by, ServesCall, IsStore, StoresMarked}
 use Rattle.kernel_calls.specs.Kept.{bytes_kept}

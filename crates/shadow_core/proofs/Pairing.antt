@@ -40,7 +40,7 @@ use Rattle.std.specs.Prelude.{nat_lt}
 use Rattle.process_table.specs.Image.{memory_of}
 use Rattle.process_table.specs.View.{View}
 use Rattle.kernel_calls.specs.Translations as kept
-use Rattle.kernel_calls.specs.Translations.{Kept, translation, IsGiven, WalkGives, Ends, ended_by, is_ended, is_invalidated, AreRead}
+use Rattle.kernel_calls.specs.Translations.{Kept, translation, IsGiven, WalkGives, Ends, ended_by, is_ended, AreRead}
 use Rattle.kernel_calls.specs.declared.translations.Ended.{Ended}
 use Rattle.kernel_calls.specs.declared.translations.Ended.TheVariants as end
 use Rattle.kernel_calls.proofs.Leaving.{left_read}

@@ -34,14 +34,14 @@ use Rattle.process_table.specs.WellFormed.{IsWellFormed}
 use Rattle.quota_tree.specs.Book.{Book}
 use Rattle.process_table.specs.declared.causes.Cause.TheVariants as cause
 use Rattle.process_table.proofs.SharingLaws.{touched_user}
-use Rattle.fault_handler.specs.Plans.{plan_of, plan_at, goes_on, takes_no_frame}
+use Rattle.fault_handler.specs.Plans.{plan_of, plan_at, takes_no_frame}
 use Rattle.fault_handler.specs.declared.plans.Plan.{Plan}
 use Rattle.fault_handler.specs.declared.plans.Plan.TheVariants as plan
 use Rattle.fault_handler.proofs.Settled.{each_page}
 use Rattle.fault_handler.proofs.Walked.{walk_completes}
 use Rattle.kernel_calls.specs.Decisions.{plan_of_call}
 use Rattle.kernel_calls.specs.Kept.{Serves, ServesCall, ServesEvent, reply_kept, bytes_kept}
-use Rattle.kernel_calls.specs.Machine.{answer, answer_of, after, next, completes, planned_or}
+use Rattle.kernel_calls.specs.Machine.{answer, answer_of, after, next, completes}
 use Rattle.kernel_calls.specs.Processors.{IsCore}
 use Rattle.kernel_calls.specs.declared.calls.Call.{Call}
 use Rattle.kernel_calls.specs.declared.calls.Call.TheVariants as call

@@ -1,4 +1,4 @@
-use Rattle.std.proofs.Common.{◌≡◌, refl, sym, ap, subst, ◌∙◌}
+use Rattle.std.proofs.Common.{◌≡◌, refl, ap, subst, ◌∙◌}
 use Rattle.address_space.specs.Spaces.{cell_or_fresh, slot_at}
 use Rattle.kernel_calls.specs.Machine.{answer, next, after}
 use Rattle.kernel_calls.specs.Translations.{Ends, ended_by}
