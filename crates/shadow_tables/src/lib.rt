@@ -162,6 +162,13 @@ impl ShadowTables {
         self.tables.holdings.counts[64]
     }
 
+    /// How many frames of the pool a process's tables take.
+    pub fn taken_count(&self, pid: Pid) -> u32
+        ensures { result ≡ slice_index self.now.taken pid }
+    {
+        self.tables.holdings.counts[pid.number() as usize]
+    }
+
     /// The walk of each address of the lower half ends as the translation of its page says, which is one of the user
     /// range. The upper half of each root is the kernel's. Each frame is free or taken.
     pub fn walks(&self)
