@@ -2,7 +2,7 @@ use Rattle.std.proofs.Common.{sym, ap, ◌∙◌}
 use Rattle.page_words.specs.FiniteMap as map
 use Rattle.shadow_tables.specs.Shadow.{at_page}
 use Rattle.shadow_core.specs.Paired.{left_by}
-use Rattle.shadow_core.proofs.forget.Goals as goal
+use Rattle.shadow_core.proofs.pairs.drop_ended.Goals as goal
 
 pub returns-in-Pages-clause-translations : goal.returns-in-Pages-clause-translations
 returns-in-Pages-clause-translations c =
