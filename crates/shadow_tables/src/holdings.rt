@@ -29,7 +29,7 @@ fn number(next: &mut [u32])
     }
 }
 
-/// For each frame the one before it. It asks for all of its memory at once.
+/// For each frame the one before it. All of its memory is one request.
 fn frames_before(alloc: Global, frames: u32) -> Result<Vec<u32>, AllocError>
     ensures { IfOk result (λ next. next.items ≡ map (λ frame. frame - 1) (range_with_len 0 frames)) }
 {
