@@ -441,6 +441,20 @@ TOWER_NODISCARD bool tower_may_write(const struct tower *tower, const struct tow
 TOWER_NODISCARD bool tower_step_ending(struct tower *tower, const struct tower_event *event, struct tower_reply *reply,
                                        struct tower_ended *ended);
 
+/* Handles a page fault of process pid in user mode, for a kernel whose processors walk something else than an event would
+ * tell: it makes the access of the byte at that address, which is the TOWER_LOAD of it, or if `write` the TOWER_STORE of
+ * the byte that is there. No byte of any process changes. If the page is not mapped it is mapped, and for a write it gets
+ * a frame of its own. Accessed is set, and for a write dirty. Then the walk of the process's tables lets the access
+ * through. `reply` and `ended` become those of the event: what was ended is invalidated before anything else is done.
+ *
+ * An address of more than 32 bits is outside the user range: a fault, at 0xffffffff. At a refusal or a fault nothing
+ * changes. TOWER_NO_EVENT if pid is no process's number. False if the handle has no core; then nothing is written.
+ *
+ * Others may load and store in the page meanwhile, if their processors walk neither the process's tables nor its page's
+ * word: the store writes no byte, but only the page's word. */
+TOWER_NODISCARD bool tower_touch(struct tower *tower, uint32_t pid, uint64_t address, bool write,
+                                 struct tower_reply *reply, struct tower_ended *ended);
+
 /* How many frames the core has; 0 if the handle has no core. */
 uint32_t tower_frames(const struct tower *tower);
 

@@ -52,16 +52,19 @@ static struct tower_reply on_each(uint32_t pid, struct tower_event event) {
     return reply;
 }
 
-/* Handles a fault of a processor at a byte of an access, where the walk ends, too. The core gets an event for the
- * byte. */
+/* Handles a fault of a processor at a byte of an access, where the walk ends, too. The core gets the access of the byte,
+ * which doesn't change. What it ended is invalidated. */
 static struct tower_reply mend(struct machine *it, uint32_t pid, uint32_t at, uint32_t code) {
     uint32_t directory = 0;
     bool writes = code & 2;
     need(tower_directory(it->core, pid, &directory), "a process has a directory");
     struct walk walk = walk_of(it->memory, FRAMES, directory, at, writes);
     need(walk.kind == WALK_FAULT && walk.code == code, "a processor faults as the walk does");
-    struct tower_reply reply =
-        on(it, pid, (struct tower_event){.call = writes ? TOWER_STORE : TOWER_LOAD, .flag = 1, .first = at});
+    struct tower_event event = {.call = writes ? TOWER_STORE : TOWER_LOAD};
+    struct tower_reply reply = {0};
+    struct tower_ended ended = {0};
+    need(tower_touch(it->core, pid, at, writes, &reply, &ended), "a core answers");
+    invalidate(it->kept, it == &cached ? taken_for(&event, ended) : ended);
     bool is_same = reply.first == at && reply.second == code;
     need(reply.kind != TOWER_FAULT || is_same, "a processor faults as the core does");
     return reply;

@@ -9,7 +9,6 @@
 #include "machine.h"
 #include "svm.h"
 #include "trial.h"
-#include "walk.h"
 #include "wrong.h"
 
 enum { RUNNING_MAX = 16, NOBODY = 255, NONE_LEFT = 254 };
@@ -68,6 +67,13 @@ static void all_kept_is_given(void) {
 /* Makes an event. What it ended is invalidated before anything else is done. */
 static struct tower_reply step(struct tower_event event) {
     struct tower_reply reply = make_event(&kernel, event.pid, event);
+    all_kept_is_given();
+    return reply;
+}
+
+/* Makes the access for which a processor stopped a guest. */
+static struct tower_reply touch(uint32_t pid, uint32_t address, bool is_store) {
+    struct tower_reply reply = make_touch(&kernel, pid, address, is_store);
     all_kept_is_given();
     return reply;
 }
@@ -135,32 +141,20 @@ static void stop(uint32_t pid) {
 
 /* ---- Page faults */
 
-/* Returns whether the core has to make a store of a zero byte there. It has to if the walk finds no page, a page of
- * zeros that has no frame yet, or one that may not be written, which the core refuses. In any other page the words
- * allow a store by now, and the zero would overwrite a byte of it: only the processor's translation was old. */
-static bool is_cores_store(uint32_t pid, uint32_t address) {
-    uint32_t directory = 0;
-    need(tower_directory(&tower, pid, &directory), "a guest has a directory");
-    return walk_of(memory, FRAMES, directory, address, true).kind != WALK_FOUND;
-}
-
 static bool is_same_stop(struct stop a, struct stop b) {
     return a.address == b.address && a.code == b.code && a.eip == b.eip;
 }
 
-/* Handles a page fault: the processor stopped an access. The core gets an event for one byte of the access, a load or
- * the store of a zero. If the core completes it, the guest continues, and its processor makes the access. If the core
- * faults or refuses, the guest ends. */
+/* Handles a page fault: the processor stopped an access. The core gets it for one byte, which doesn't change. If the core
+ * completes it, the guest continues, and its processor makes the access. If the core faults or refuses, the guest
+ * ends. */
 static void page_fault(uint32_t pid, struct guest *guest) {
     struct stop at = {svm_fault_address(&guest->cpu), svm_fault_code(&guest->cpu), svm_eip(&guest->cpu)};
     bool is_store = at.code & 2;
     page_faults++;
     need(!is_same_stop(at, guest->last), "the core carried out an access that the processor stops");
     guest->last = at;
-    if (is_store && !is_cores_store(pid, at.address)) {
-        return;
-    }
-    struct tower_reply reply = step(is_store ? tower_store(pid, at.address, 1, 0) : tower_load(pid, at.address, 1));
+    struct tower_reply reply = touch(pid, at.address, is_store);
     if (reply.kind == TOWER_DONE || reply.kind == TOWER_VALUE) {
         return;
     }

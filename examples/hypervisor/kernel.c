@@ -105,6 +105,15 @@ struct tower_reply make_event(struct kernel *it, uint32_t pid, struct tower_even
     return reply;
 }
 
+struct tower_reply make_touch(struct kernel *it, uint32_t pid, uint32_t address, bool is_store) {
+    struct tower_reply reply = {0};
+    struct tower_ended ended = {0};
+    struct tower_event event = {.call = is_store ? TOWER_STORE : TOWER_LOAD};
+    need(tower_touch(it->core, pid, address, is_store, &reply, &ended), "a core answers");
+    (wrong == WRONG_EARLY ? invalidate_late : invalidate_at_home)(it, taken_for(&event, ended), NO_PROCESSOR);
+    return reply;
+}
+
 bool write_memory(struct kernel *it, uint32_t pid, uint32_t address, const uint8_t *bytes, uint32_t count) {
     uint32_t here = this_processor(), home = it->homes[pid];
     struct tower_reply stop = {0};

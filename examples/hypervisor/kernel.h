@@ -31,6 +31,10 @@ void leave_kernel(struct kernel *it);
  * invalidated the translation. While a fork copies pages, all others stand still. */
 struct tower_reply make_event(struct kernel *it, uint32_t pid, struct tower_event event);
 
+/* Makes the access of one byte for which this processor stopped a process that runs on it. It changes no byte. What it
+ * made stale is invalidated by then. */
+struct tower_reply make_touch(struct kernel *it, uint32_t pid, uint32_t address, bool is_store);
+
 /* Writes into the memory of a process that runs nowhere, as the process's own stores would. Returns whether all bytes
  * were written. What the write made stale is invalidated by then. If another processor may cache it, the identifier of
  * the process there is released. */

@@ -2,7 +2,6 @@
 
 #include "core.h"
 #include "place.h"
-#include "shadow.h"
 
 enum { ENTRIES = 512, USER_HALF = 256, TOP = 3, PRESENT = 1, WRITABLE = 2, USER = 4, LARGE = 0x80 };
 #define FRAME_BITS 0x000ffffffffff000u

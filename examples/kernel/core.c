@@ -2,8 +2,13 @@
 
 #include "place.h"
 #include "tower_images.h"
+#include "tower_region_shadow.h"
+
+/* The pool has fewer frames than all processes of the trial would fill: it becomes full at times. */
+enum { POOL_FRAMES = 96 };
 
 struct tower core = TOWER_NONE;
+struct tower_shadow shadow = TOWER_SHADOW_NONE;
 
 void open_core(void) {
     boot(&core);
@@ -11,6 +16,20 @@ void open_core(void) {
 
 uint64_t core_physical(void) {
     return physical_of(memory_of(&core));
+}
+
+/* ---- The shadow tables */
+
+void open_shadow(const uint64_t *half) {
+    static _Alignas(FRAME) uint8_t block[TOWER_SHADOW_BLOCK_BYTES(POOL_FRAMES)];
+    uint32_t status = tower_shadow_open_over(POOL_FRAMES, physical_of(block), core_physical(), half, &shadow, block,
+                                             sizeof block);
+    need(status == TOWER_SHADOW_OPENED, "shadow tables are opened");
+}
+
+uint64_t shadow_root(uint32_t pid) {
+    uint64_t root;
+    return tower_shadow_root(&shadow, pid, &root) ? root : 0;
 }
 
 /* ---- The check's memory: it requests 10 bytes for each frame, in three blocks, and frees all of them before it ends.

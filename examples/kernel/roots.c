@@ -1,8 +1,8 @@
 #include "roots.h"
 
 #include "audit.h"
+#include "core.h"
 #include "place.h"
-#include "shadow.h"
 #include "wrong.h"
 
 enum { USER_HALF = 256, ENTRIES = 512 };

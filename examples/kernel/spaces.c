@@ -1,15 +1,9 @@
 #include "spaces.h"
 
 #include "audit.h"
-#include "place.h"
 #include "roots.h"
-#include "shadow.h"
 #include "wrong.h"
 
-/* The pool has fewer frames than all processes of the trial would fill: it becomes full at times. */
-enum { POOL_FRAMES = 96 };
-
-static _Alignas(FRAME) uint8_t pool[POOL_FRAMES][FRAME];
 static struct spaces_counts counts;
 
 struct spaces_counts spaces_counts(void) {
@@ -21,26 +15,19 @@ uint32_t forgets(void) {
 }
 
 void open_spaces(void) {
-    shadow_init(pool, physical_of(pool), POOL_FRAMES, core_physical(), open_roots());
+    open_shadow(open_roots());
 }
 
 /* ---- What an event ended */
 
-/* Forgets it in the shadow tables. */
+static void count_forgotten(struct tower_ended ended) {
+    counts.pages += ended.kind == TOWER_ENDS_PAGE ? 1 : ended.kind == TOWER_ENDS_PAGES ? 2 : 0;
+    counts.processes += ended.kind == TOWER_ENDS_SPACE;
+}
+
 static void forget(struct tower_ended ended) {
-    switch (ended.kind) {
-    case TOWER_ENDS_PAGES:
-        shadow_forget_page(ended.pid, ended.second);
-        counts.pages++;
-        /* fall through */
-    case TOWER_ENDS_PAGE:
-        shadow_forget_page(ended.pid, ended.first);
-        counts.pages++;
-        break;
-    case TOWER_ENDS_SPACE:
-        shadow_forget_process(ended.pid);
-        counts.processes++;
-    }
+    need(tower_shadow_forget(&shadow, &ended), "the shadow tables forget");
+    count_forgotten(ended);
 }
 
 /* What a processor has to invalidate of it: nothing, a page, or all in place of two, which are rare. */
@@ -99,22 +86,46 @@ static void invalidate_there(const struct tower_event *event, set which, struct 
     release_these(which, WRONG_SHOOTDOWN ? (struct order){0} : order);
 }
 
-/* Makes an event that ends translations of pages, or nothing. */
-static struct tower_reply make_in_place(const struct tower_event *event, struct tower_ended will_end) {
-    struct tower_reply reply = {0};
-    struct tower_ended ended = {0};
+/* Stops the processors that an event concerns, unless they may run on. Returns the concerned ones. */
+static set before_event(const struct tower_event *event, struct tower_ended will_end) {
     set which = concerned(event, will_end);
     if (!only_takes(event)) {
         stop_these(which);
         which = WRONG_EARLY && which ? invalidate_early(which, will_end) : which;
     }
-    need(tower_step_ending(&core, event, &reply, &ended), "a core answers");
+    return which;
+}
+
+/* Invalidates what an event ended, here and on the concerned processors, which then continue. */
+static void after_event(const struct tower_event *event, struct tower_ended ended, set which) {
     struct order order = order_for(ended);
-    forget(ended);
+    count_forgotten(ended);
     if (order.forget && !WRONG_HERE) {
         invalidate_here(order.identifier, order.page);
     }
     invalidate_there(event, which, order);
+}
+
+/* A wrong version: makes an event, and forgets the page after the one that it ended. */
+static void step_and_forget_another(const struct tower_event *event, struct tower_reply *reply,
+                                    struct tower_ended *ended) {
+    need(tower_step_ending(&core, event, reply, ended), "a core answers");
+    struct tower_ended another = *ended;
+    another.first++;
+    need(tower_shadow_forget(&shadow, &another), "the shadow tables forget");
+}
+
+/* Makes an event that ends translations of pages, or nothing. */
+static struct tower_reply make_in_place(const struct tower_event *event, struct tower_ended will_end) {
+    struct tower_reply reply = {0};
+    struct tower_ended ended = {0};
+    set which = before_event(event, will_end);
+    if (WRONG_PAGE) {
+        step_and_forget_another(event, &reply, &ended);
+    } else {
+        need(tower_shadow_step(&core, &shadow, event, &reply, &ended), "a core answers");
+    }
+    after_event(event, ended, which);
     return reply;
 }
 
@@ -125,11 +136,13 @@ static struct tower_reply make_exit(const struct tower_event *event) {
     struct tower_reply reply = {0};
     struct tower_ended ended = {0};
     leave_everywhere(event->pid);
-    need(tower_step_ending(&core, event, &reply, &ended), "a core answers");
-    need(ended.kind == TOWER_ENDS_SPACE, "an exit ends what tower_ends said");
-    if (!WRONG_EXIT) {
-        forget(ended);
+    if (WRONG_EXIT) {
+        need(tower_step_ending(&core, event, &reply, &ended), "a core answers");
+    } else {
+        need(tower_shadow_step(&core, &shadow, event, &reply, &ended), "a core answers");
     }
+    need(ended.kind == TOWER_ENDS_SPACE, "an exit ends what tower_ends said");
+    count_forgotten(ended);
     return reply;
 }
 
@@ -163,18 +176,38 @@ struct tower_reply load_bytes(uint32_t pid, uint32_t address, const uint8_t *byt
     return told;
 }
 
-/* ---- Filling */
+/* ---- Faults */
 
-void fill_page(uint32_t pid, uint32_t page, bool write) {
-    struct tower_walk walk;
-    need(tower_walk(&core, pid, page << 12, write, &walk) && walk.kind == TOWER_WALK_FRAME, "the walk gives a frame");
-    if (shadow_fill(pid, page, walk.frame, write)) { /* no frame of the pool is free: all is forgotten */
-        leave_everywhere(NOBODY);
-        shadow_forget_all();
-        counts.all++;
-        need(!shadow_fill(pid, page, walk.frame, write), "the empty tables have space for a page");
+/* A fault is the load or the store of a byte. What a store ends doesn't depend on the byte. */
+static uint32_t try_fault(uint32_t pid, uint64_t address, bool write, struct tower_reply *reply) {
+    uint32_t near = address >> 32 ? UINT32_MAX : (uint32_t)address;
+    struct tower_event event = write ? tower_store(pid, near, 1, 0) : tower_load(pid, near, 1);
+    struct tower_ended will_end = {0}, ended = {0};
+    need(tower_ends(&core, &event, &will_end), "an access is an event");
+    set which = before_event(&event, will_end);
+    uint32_t handled = tower_shadow_fault(&core, &shadow, pid, address, write, reply, &ended);
+    after_event(&event, ended, which);
+    return handled;
+}
+
+/* Fewer than four frames of the pool are free: all is forgotten. */
+static void make_room(void) {
+    leave_everywhere(NOBODY);
+    need(tower_shadow_forget_all(&shadow), "the shadow tables forget");
+    counts.all++;
+}
+
+bool handle_fault(uint32_t pid, uint64_t address, bool write, struct tower_reply *reply) {
+    uint32_t handled = try_fault(pid, address, write, reply);
+    if (handled == TOWER_SHADOW_FULL) {
+        make_room();
+        handled = try_fault(pid, address, write, reply);
     }
-    counts.fills++;
-    need_root(pid);
-    invalidate_here(pid, page); /* what refused the access may be cached, from before the entry allowed it */
+    need(handled == TOWER_SHADOW_FILLED || handled == TOWER_SHADOW_STOPPED, "the empty tables have space for a page");
+    if (handled == TOWER_SHADOW_FILLED) {
+        counts.fills++;
+        need_root(pid);
+        invalidate_here(pid, (uint32_t)(address >> 12)); /* what refused the access may be cached */
+    }
+    return handled == TOWER_SHADOW_FILLED;
 }

@@ -13,7 +13,7 @@
 #define WRONG_PAGE 0 /* the shadow entry of the page after the one that was ended is forgotten */
 #endif
 #ifndef WRONG_WRITE
-#define WRONG_WRITE 0 /* each shadow entry is writable */
+#define WRONG_WRITE 0 /* each fault is handled as one of a store */
 #endif
 #ifndef WRONG_EXIT
 #define WRONG_EXIT 0 /* the shadow entries of a process that exits are kept */
@@ -25,10 +25,10 @@
 #define WRONG_ADDRESS 0 /* the core gets the lower half of an address of 64 bits */
 #endif
 #ifndef WRONG_DIRTY
-#define WRONG_DIRTY 0 /* a page that the core lets a process write is filled writable at its first load */
+#define WRONG_DIRTY 0 /* a load of a page that the process may write to is handled as a store */
 #endif
 #ifndef WRONG_SAME
-#define WRONG_SAME 0 /* others may store between the load of a byte and the store of the same byte */
+#define WRONG_SAME 0 /* a clean page is marked by a load of a byte and the store of the same byte */
 #endif
 #ifndef WRONG_EARLY
 #define WRONG_EARLY 0 /* the other processors invalidate before the event, and run on while it is made */

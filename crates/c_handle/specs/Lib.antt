@@ -1,2 +1,4 @@
 pub mod Handle
 pub mod Held
+pub mod HeldShadow
+pub mod ShadowHandle

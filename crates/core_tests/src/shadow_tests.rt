@@ -31,71 +31,91 @@ fn byte_at(shadowed: &ShadowedCore, pid: Pid, address: u64, access: Access) -> R
         .ok_or(LongEnd::Foreign)
 }
 
+/// Handles a fault, and compares how with what it is to be.
+fn check_fault<R: Abort>(
+    rt: &R,
+    shadowed: &mut ShadowedCore,
+    pid: Pid,
+    address: u64,
+    access: Access,
+    handled: Handled,
+) {
+    same(rt, &shadowed.fault(pid, address, access).0, &handled);
+}
+
+fn check_event<R: Abort>(rt: &R, shadowed: &mut ShadowedCore, pid: Pid, call: Call) {
+    same(
+        rt,
+        &shadowed.event(&event_of(pid, call)).0,
+        &Reply::Done,
+    );
+}
+
 #[test]
 fn serves_faults_of_mapped_pages(rt: HostRuntime) -> Result<(), Fail> {
-    let bytes = vec![in rt.alloc(); 0u8; 16384]?;
+    let bytes = vec![in rt.alloc(); 0u8; 32768]?;
     let kernel = vec![in rt.alloc(); 0u8; 2048]?;
-    let shadow = ShadowTables::new(rt.alloc(), bytes, 4, POOL, BLOCK, kernel)?;
+    let shadow = ShadowTables::new(rt.alloc(), bytes, 8, POOL, BLOCK, kernel)?;
     let mut shadowed = ShadowedCore::new(Core::boot(rt.alloc(), 32)?, shadow);
     let pid = Pid::new(0).ok_or("the root")?;
     let page = Page(0x40000);
+    let at = 0x40000123;
     let store = Call::Store {
         addr: Vaddr(0x40000123),
         size: Size::One,
         value: 0x5a,
     };
+    check_event(&rt, &mut shadowed, pid, Call::Map { page, write: true });
+    check_event(&rt, &mut shadowed, pid, store);
+    check_fault(&rt, &mut shadowed, pid, at, Access::Read, Handled::Filled);
     same(
         &rt,
-        &shadowed
-            .event(&event_of(pid, Call::Map { page, write: true }))
-            .0,
-        &Reply::Done,
-    );
-    same(
-        &rt,
-        &shadowed.fault(pid, Vaddr(0x50000000), Access::Read),
-        &Handled::NotAllowed,
-    );
-    same(
-        &rt,
-        &shadowed.fault(pid, Vaddr(0x40000123), Access::Write),
-        &Handled::NotAllowed,
-    );
-    same(&rt, &shadowed.event(&event_of(pid, store)).0, &Reply::Done);
-    same(
-        &rt,
-        &shadowed.fault(pid, Vaddr(0x40000123), Access::Read),
-        &Handled::Entered,
-    );
-    same(
-        &rt,
-        &byte_at(&shadowed, pid, 0x40000123, Access::Read),
+        &byte_at(&shadowed, pid, at, Access::Write),
         &Ok(0x5a),
     );
+    check_event(&rt, &mut shadowed, pid, Call::Unmap { page });
     same(
         &rt,
-        &byte_at(&shadowed, pid, 0x40000123, Access::Write),
-        &Err(LongEnd::Denied),
-    );
-    same(
-        &rt,
-        &shadowed.fault(pid, Vaddr(0x40000123), Access::Write),
-        &Handled::Entered,
-    );
-    same(
-        &rt,
-        &byte_at(&shadowed, pid, 0x40000123, Access::Write),
-        &Ok(0x5a),
-    );
-    same(
-        &rt,
-        &shadowed.event(&event_of(pid, Call::Unmap { page })).0,
-        &Reply::Done,
-    );
-    same(
-        &rt,
-        &byte_at(&shadowed, pid, 0x40000123, Access::Read),
+        &byte_at(&shadowed, pid, at, Access::Read),
         &Err(LongEnd::Missing),
     );
+    Ok(())
+}
+
+#[test]
+fn marks_a_page_before_it_may_be_written(rt: HostRuntime) -> Result<(), Fail> {
+    let bytes = vec![in rt.alloc(); 0u8; 32768]?;
+    let kernel = vec![in rt.alloc(); 0u8; 2048]?;
+    let shadow = ShadowTables::new(rt.alloc(), bytes, 8, POOL, BLOCK, kernel)?;
+    let mut shadowed = ShadowedCore::new(Core::boot(rt.alloc(), 32)?, shadow);
+    let pid = Pid::new(0).ok_or("the root")?;
+    let at = 0x40000123;
+    check_fault(&rt, &mut shadowed, pid, at, Access::Read, Handled::Filled);
+    same(
+        &rt,
+        &byte_at(&shadowed, pid, at, Access::Write),
+        &Err(LongEnd::Denied),
+    );
+    check_fault(&rt, &mut shadowed, pid, at, Access::Write, Handled::Filled);
+    same(&rt, &byte_at(&shadowed, pid, at, Access::Write), &Ok(0));
+    Ok(())
+}
+
+#[test]
+fn stops_faults_outside_and_in_a_full_pool(rt: HostRuntime) -> Result<(), Fail> {
+    let bytes = vec![in rt.alloc(); 0u8; 16384]?;
+    let kernel = vec![in rt.alloc(); 0u8; 2048]?;
+    let shadow = ShadowTables::new(rt.alloc(), bytes, 4, POOL, BLOCK, kernel)?;
+    let mut shadowed = ShadowedCore::new(Core::boot(rt.alloc(), 32)?, shadow);
+    let pid = Pid::new(0).ok_or("the root")?;
+    let outside = Handled::Fault {
+        addr: Vaddr(u32::MAX),
+        code: 4,
+    };
+    check_fault(&rt, &mut shadowed, pid, 0x1_4000_0000, Access::Read, outside);
+    check_fault(&rt, &mut shadowed, pid, 0x4000_0000, Access::Read, Handled::Filled);
+    check_fault(&rt, &mut shadowed, pid, 0x4000_0000, Access::Write, Handled::Full);
+    shadowed.forget_all();
+    check_fault(&rt, &mut shadowed, pid, 0x4000_0000, Access::Write, Handled::Filled);
     Ok(())
 }

@@ -13,6 +13,7 @@ pub mod Peeked
 pub mod Prelude
 pub mod StoresEnd
 pub mod TakenTwice
+pub mod Touches
 pub mod TransferLemmas
 pub mod TransferSteps
 pub mod Unmaps

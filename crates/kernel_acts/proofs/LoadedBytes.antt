@@ -53,7 +53,7 @@ right_protected : (S : Spaces) (slot : Slot) (write : Bool) (q : Slot) → q ≢
 right_protected S slot write q apart = grind (arith, get-inserted_other)
 
 module _ (S : Spaces) (own : Slot) (at : ℕ) (new : List ℕ) where
-  abbrev written : List ℕ
+  abbrev pub written : List ℕ
   written = write_at (bytes_in S own) at new
 
   abbrev cell : Cell
@@ -71,11 +71,11 @@ module _ (S : Spaces) (own : Slot) (at : ℕ) (new : List ℕ) where
   own_right : right_in (stored S own at new) own ≡ Some (cell_or_fresh S own).write
   own_right = ap (option_map (λ (c : Cell). c.write)) (get-inserted (set_bytes S (group_at S own) written) own cell)
 
-  own_bytes : bytes_in (stored S own at new) own ≡ written
+  pub own_bytes : bytes_in (stored S own at new) own ≡ written
   own_bytes = ap (λ (x : Option Cell). (unwrap_or x (fresh own true)).bytes) (get-inserted (set_bytes S (group_at S own) written) own cell)
 
   -- another slot keeps its bytes, or has those of the group
-  beside_bytes : (q : Slot) → q ≢ own → (bytes_in (stored S own at new) q ≡ bytes_in S q) ⊎ ((set.contains (group_at S own) q ≡ true) × (bytes_in (stored S own at new) q ≡ written))
+  pub beside_bytes : (q : Slot) → q ≢ own → (bytes_in (stored S own at new) q ≡ bytes_in S q) ⊎ ((set.contains (group_at S own) q ≡ true) × (bytes_in (stored S own at new) q ≡ written))
   beside_bytes q apart = grind (arith, beside, group_at)
 
 module _ (s : State) (p a : ℕ) (part : List ℕ) where

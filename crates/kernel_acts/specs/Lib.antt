@@ -3,4 +3,5 @@ pub mod Installed
 pub mod Loaded
 pub mod Steps
 pub mod TakenBack
+pub mod Touched
 pub mod Transfers

@@ -1,8 +1,9 @@
 -- What an event, a fault and a walk are to a core and its shadow.
-use Rattle.std.proofs.Common.{◌≡◌, ◌≢◌, ℕ, ◌+◌, ◌*◌, ◌%◌, ◌^◌, ◌<◌, inl, inr, Bool, true, false, not, cond, List, [], ◌∷◌, length, Option, Some, None, Result, Ok, Err, refl, sym, ap, subst, ◌∙◌, arith}
-use Rattle.std.specs.Prelude.{◌==◌, if◌then◌else◌, ◌&&◌, IsSome, IfSome}
+use Rattle.std.proofs.Common.{◌≡◌, ◌≢◌, ℕ, zero, suc, ◌+◌, ◌*◌, ◌%◌, ◌^◌, ◌<◌, ◌≤◌, inl, inr, Bool, true, false, not, cond, List, [], ◌∷◌, length, Option, Some, None, Result, Ok, Err, refl, sym, ap, subst, ◌∙◌, arith}
+use Rattle.std.specs.Prelude.{◌==◌, if◌then◌else◌, ◌&&◌, IsSome, IfSome, sum, slice_set}
 use Rattle.std.specs.Option.{option_map}
 use Rattle.std.proofs.lemmas.Bool.{cases_eq}
+use Rattle.std.proofs.lemmas.List.Sums.{sum_by-cons}
 use Rattle.std.proofs.lemmas.Bool.Decides.{nat_tests}
 use Rattle.page_words.specs.Addresses.{page_number, slot_number, index_number, offset_number, IsUserPage}
 use Rattle.page_words.specs.FiniteMap as map
@@ -19,19 +20,23 @@ use Rattle.address_space.specs.Spaces as spaces
 use Rattle.address_space.specs.Image.{Image, directory_at, is_lazy_at}
 use Rattle.address_space.specs.ByWalk.{finds, finds_at}
 use Rattle.address_space.specs.Walks.{WalkEndsBy, WalksAgree as CoreWalksAgree}
-use Rattle.address_space.proofs.steps.Bytes.{stored-flags}
 use Rattle.process_table.specs.State.{State}
-use Rattle.process_table.specs.Calls.{after_load, after_store}
-use Rattle.kernel_calls.specs.Machine.{answer, after, next, completes}
-use Rattle.kernel_calls.proofs.Decided.{next-goes}
+use Rattle.kernel_calls.specs.Cleaned.{is_dirty_at}
+use Rattle.kernel_calls.specs.Machine.{answer, completes}
+use Rattle.kernel_acts.specs.Touched.{near, touch_of, AreMarked}
+use Rattle.kernel_acts.specs.Transfers.{load_byte}
+use Rattle.fault_handler.specs.Plans.{plan_at}
+use Rattle.fault_handler.specs.declared.plans.Plan.{Plan}
+use Rattle.fault_handler.specs.declared.plans.Plan.TheVariants as plan
 use Rattle.kernel_calls.specs.Kept.{Serves, ServesCall}
 use Rattle.kernel_calls.specs.declared.calls.Call.{Call}
 use Rattle.kernel_calls.specs.declared.calls.Call.TheVariants as call
-use Rattle.kernel_calls.specs.declared.calls.Event.{Event}
 use Rattle.kernel_calls.specs.declared.calls.Reply.{Reply}
 use Rattle.kernel_calls.specs.declared.calls.Reply.TheVariants as reply
+use Rattle.shadow_core.specs.declared.pairs.Handled.{Handled}
+use Rattle.shadow_core.specs.declared.pairs.Handled.TheVariants.{Filled, Full, Fault, Refused}
 use Rattle.table_walk.specs.declared.WalkEnd.{WalkEnd}
-use Rattle.page_words.specs.Addresses.{second_page, page_and, touched, start_number, EachTouched}
+use Rattle.page_words.specs.Addresses.{second_page, start_number, EachTouched}
 use Rattle.page_words.specs.declared.addresses.Size.{Size}
 use Rattle.page_words.specs.declared.addresses.Size.TheVariants.{One}
 use Rattle.std.specs.Option.{unwrap_or}
@@ -40,19 +45,16 @@ use Rattle.std.specs.Prelude.{nat_lt}
 use Rattle.process_table.specs.Image.{memory_of}
 use Rattle.process_table.specs.View.{View}
 use Rattle.kernel_calls.specs.Translations as kept
-use Rattle.kernel_calls.specs.Translations.{Kept, translation, IsGiven, WalkGives, Ends, ended_by, is_ended, AreRead}
+use Rattle.kernel_calls.specs.Translations.{translation, IsGiven, WalkGives, Ends, ended_by, is_all_of, of_pages, of_plan, page_filled, second_filled, is_ended, AreRead}
 use Rattle.kernel_calls.specs.declared.translations.Ended.{Ended}
 use Rattle.kernel_calls.specs.declared.translations.Ended.TheVariants as end
-use Rattle.kernel_calls.proofs.Leaving.{left_read}
-use Rattle.kernel_calls.proofs.LeftByProcessors.{ends_none}
-use Rattle.kernel_calls.proofs.WalkedReplies.{answered}
+use Rattle.kernel_calls.proofs.Leaving.{left_read, nothing_ends}
 use Rattle.kernel_calls.specs.Processors.{IsCore}
-use Rattle.kernel_calls.specs.Walked.{finds_event}
 use Rattle.shadow_tables.specs.Laws.{WalksAgree}
-use Rattle.shadow_tables.specs.Shadow.{Shadow, Translations, at_page, slot_order, root_frame, shadow_end}
+use Rattle.shadow_tables.specs.Shadow.{Shadow, Translations, IsFixed, at_page, slot_order, root_frame, root_of, frame_address, shadow_end}
 use Rattle.shadow_tables.specs.declared.tables.Translation.{Translation}
 use Rattle.shadow_tables.specs.declared.walk.LongEnd.{LongEnd}
-use Rattle.shadow_core.specs.Paired.{kept_at, IsShadowed, left_by, HasEntered, WalksAreTheCores, Reaches, ReachesCall, AccessesAreServed, IsServed, touch, write_back}
+use Rattle.shadow_core.specs.Paired.{kept_at, IsShadowed, left_by, HasEntered, HasFilled, IsStopped, stop_of, handled_of, RootsStay, WalksAreTheCores, Reaches, ReachesCall, AccessesAreServed, IsServed}
 
 none_some : {X : Type 0} (x : X) → ◌≡◌ {A = Option X} None (Some x) → ⊥
 none_some x e = cc
@@ -110,6 +112,14 @@ left_get (end.Space q) m p page t is = elim (cases_eq p q) [
     spared : (p q : ℕ) → p ≢ q → (p == q) ≡ false
     spared p q n = grind (arith, nat_tests)
 
+-- fewer frames are taken where a process's are freed
+pub sum_cleared : (xs : List ℕ) (i : ℕ) → sum (slice_set xs i 0) ≤ sum xs
+sum_cleared [] i = omega arith
+sum_cleared (x ∷ xs) zero = omega (arith, sum_by-cons (λ (n : ℕ). n) 0 xs, sum_by-cons (λ (n : ℕ). n) x xs)
+sum_cleared (x ∷ xs) (suc i) =
+    let rest = sum_cleared xs i in
+    omega (arith, rest, sum_by-cons (λ (n : ℕ). n) x xs, sum_by-cons (λ (n : ℕ). n) x (slice_set xs i 0))
+
 -- ---- After an event
 
 -- what the walks gave, and an event didn't end, they give afterwards
@@ -125,6 +135,13 @@ shadowed_after v w s u ended shadowed ends left size = record {
   given = λ p page t is.
       let was = left_get ended s.translations p page t (ap (λ m. map.get m (at_page p page)) (sym left) ∙ is) in
       given_after v w ended (kept_at p page t) ends was.1 (shadowed.given p page t was.0);
+  enough = omega (arith, size, shadowed.enough);
+}
+
+-- what is left of the shadow is of the core as it is
+pub shadowed_left : (v : View) (s u : Shadow) (ended : Ended) → IsShadowed v s → u.translations ≡ left_by ended s.translations → length u.bytes ≡ length s.bytes → IsShadowed v u
+shadowed_left v s u ended shadowed left size = record {
+  given = λ p page t is. shadowed.given p page t (left_get ended s.translations p page t (ap (λ m. map.get m (at_page p page)) (sym left) ∙ is)).0;
   enough = omega (arith, size, shadowed.enough);
 }
 
@@ -189,29 +206,22 @@ same_page bytes directory a b frame access other e may is =
 pub frame_inside : (bytes : List ℕ) (directory address frame : ℕ) (access : Access) → walk_of bytes directory address access ≡ Ok frame → 4096 * frame < length bytes
 frame_inside bytes directory address frame access is = ((walks_find_what_leads bytes directory address access frame).0 is).inside
 
--- what the walk finds for an access whose flags are set is given
-pub is_given : (v : View) (p address directory frame : ℕ) (access : Access) (cell : spaces.Cell) → IsUserPage (page_number address) → directory_at (memory_of v) p ≡ Some directory → walk_of v.bytes directory address access ≡ Ok frame
-    → map.get v.state.spaces (spaces.at_page p (page_number address)) ≡ Some cell → cell.accessed ≡ true → (is_write access ≡ true → cell.dirty ≡ true)
-    → IsGiven v (kept_at p (page_number address) (record { frame = frame; write = is_write access }))
-is_given v p address directory frame access cell user live walk mapped accessed dirty = record {
+-- what the walk finds for a page whose flags are set is given
+pub is_given : (v : View) (p address directory : ℕ) (t : Translation) (cell : spaces.Cell) → IsUserPage (page_number address) → directory_at (memory_of v) p ≡ Some directory
+    → walk_of v.bytes directory address Read ≡ Ok t.frame → (t.write ≡ true → walk_of v.bytes directory address Write ≡ Ok t.frame)
+    → map.get v.state.spaces (spaces.at_page p (page_number address)) ≡ Some cell → cell.accessed ≡ true → (t.write ≡ true → cell.dirty ≡ true)
+    → IsGiven v (kept_at p (page_number address) t)
+is_given v p address directory t cell user live read written mapped accessed dirty = record {
   page = omega (arith, user.1);
   directory = directory;
   live = live;
-  read = λ a small page. same_page v.bytes directory address a frame access Read (sym page) (λ e. cc) walk;
-  written = λ write a small page. same_page v.bytes directory address a frame access Write (sym page) (λ _. writes access write) walk;
+  read = λ a small page. same_page v.bytes directory address a t.frame Read Read (sym page) (λ e. e) read;
+  written = λ write a small page. same_page v.bytes directory address a t.frame Write Write (sym page) (λ e. e) (written write);
   cell = cell;
   mapped = mapped;
   accessed = accessed;
   dirty = dirty;
 }
-  where
-    writes : (access : Access) → is_write access ≡ true → access ≡ Write
-    writes Read e = cc
-    writes Write e = refl
-
--- a core whose walks still give what they gave
-pub shadowed_still : (v w : View) (s : Shadow) → IsShadowed v s → ((t : kept.Translation) → IsGiven v t → IsGiven w t) → IsShadowed w s
-shadowed_still v w s shadowed stays = record { given = λ p page t is. stays (kept_at p page t) (shadowed.given p page t is); enough = shadowed.enough }
 
 -- a translation more
 pub shadowed_more : (v : View) (s u : Shadow) (p page : ℕ) (t : Translation) → IsShadowed v s → HasEntered s.translations p page t u.translations → length u.bytes ≡ length s.bytes → IsGiven v (kept_at p page t) → IsShadowed v u
@@ -240,36 +250,26 @@ entered-insert m new p page t is = record {
     some_same u t e = cc
 
 -- the processor completes the access
-pub served : (v : View) (s : Shadow) (p address frame : ℕ) (access : Access) → WalksAgree s → IsSome (root_frame s p) → address < 2 ^ 47
-    → map.get s.translations (at_page p (page_number address)) ≡ Some (record { frame = frame; write = is_write access }) → IsServed (record { core = v; shadow = s }) p address access
-served v s p address frame access agree rooted lower there = by (root_frame s p) refl rooted
+pub served : (v : View) (s : Shadow) (p address : ℕ) (access : Access) (t : Translation) → WalksAgree s → IsSome (root_of s p) → address < 2 ^ 47
+    → map.get s.translations (at_page p (page_number address)) ≡ Some t → (is_write access ≡ true → t.write ≡ true) → IsServed (record { core = v; shadow = s }) p address access
+served v s p address access t agree rooted lower there may = by (root_frame s p) refl rooted
   where
-    reaches : (access : Access) → shadow_end s.block (Some (record { frame = frame; write = is_write access })) address access ≡ Ok (s.block + 4096 * frame + address % 4096)
-    reaches Read = refl
-    reaches Write = refl
+    reaches : (access : Access) (write : Bool) → (is_write access ≡ true → write ≡ true)
+        → shadow_end s.block (Some (record { frame = t.frame; write = write })) address access ≡ Ok (s.block + 4096 * t.frame + address % 4096)
+    reaches Read write may = refl
+    reaches Write true may = refl
+    reaches Write false may = absurd (let e = may refl in cc)
 
-    by : (o : Option ℕ) → root_frame s p ≡ o → IsSome o → IsServed (record { core = v; shadow = s }) p address access
+    by : (o : Option ℕ) → root_frame s p ≡ o → IsSome (option_map (frame_address s.pool) o) → IsServed (record { core = v; shadow = s }) p address access
     by None is none = absurd (cc)
     by (Some root) is some = (
       root,
-      s.block + 4096 * frame + address % 4096,
+      s.block + 4096 * t.frame + address % 4096,
       is,
-      agree p root address access is lower ∙ ap (λ o. shadow_end s.block o address access) there ∙ reaches access,
+      agree p root address access is lower ∙ ap (λ o. shadow_end s.block o address access) there ∙ reaches access t.write may,
     )
 
 -- ---- What a walk finds
-
--- a byte lies in one page
-second_none : (address : ℕ) → second_page address One ≡ None
-second_none address = grind (arith, nat_tests)
-
-pub finds_one : (image : Image) (p address : ℕ) (access : Access) → finds image p address One access ≡ finds_at image p access address
-finds_one image p address access =
-    ap (λ x. finds_at image p access address && unwrap_or (option_map (λ page. finds_at image p access (start_number page)) x) true) (second_none address)
-    ∙ and_true (finds_at image p access address)
-  where
-    and_true : (b : Bool) → (b && true) ≡ b
-    and_true b = grind arith
 
 -- a walk that finds a frame
 pub record Found (image : Image) (p address : ℕ) (access : Access) : Type 0 where
@@ -320,50 +320,24 @@ reads_too image p address access e =
       walk = same_page image.bytes found.directory address address found.frame access Read refl (λ w. cc) found.walk;
     })
 
--- what ends nothing leaves what walks find
-pub finds_still : (v w : View) (p address : ℕ) (access : Access) → Ends end.Nothing v w → finds_at (memory_of v) p access address ≡ true → finds_at (memory_of w) p access address ≡ true
-finds_still v w p address access ends e =
-    let found = found_at (memory_of v) p address access e in
-    let now = ends.translations p found.directory address found.frame access found.small refl (found.live, found.walk) in
-    finds_found (memory_of w) p address access (record { small = found.small; directory = found.directory; live = now.0; frame = found.frame; walk = now.1 })
+-- where the walk lets a write through, it finds the frame that a read does
+pub write_walk : (v : View) (p address directory frame : ℕ) → finds_at (memory_of v) p Write address ≡ true → directory_at (memory_of v) p ≡ Some directory
+    → walk_of v.bytes directory address Read ≡ Ok frame → walk_of v.bytes directory address Write ≡ Ok frame
+write_walk v p address directory frame finds live read =
+    let found = found_at (memory_of v) p address Write finds in
+    let same : found.directory ≡ directory = some_same found.directory directory (sym found.live ∙ live) in
+    let written : walk_of v.bytes directory address Write ≡ Ok found.frame = sym (ap (λ d. walk_of v.bytes d address Write) same) ∙ found.walk in
+    let first = same_page v.bytes directory address address found.frame Write Read refl (λ e. cc) written in
+    let frames : found.frame ≡ frame = ok_same found.frame frame (sym first ∙ read) in
+    written ∙ ap Ok frames
+  where
+    some_same : (a b : ℕ) → ◌≡◌ {A = Option ℕ} (Some a) (Some b) → a ≡ b
+    some_same a b e = cc
 
--- ---- The flags that a byte's access sets
+    ok_same : (a b : ℕ) → ◌≡◌ {A = Result ℕ WalkEnd} (Ok a) (Ok b) → a ≡ b
+    ok_same a b e = cc
 
-accessed_set : (S : spaces.Spaces) (slot : spaces.Slot) → (spaces.cell_or_fresh (spaces.accessed S slot) slot).accessed ≡ true
-accessed_set S slot =
-    ap (λ o. (unwrap_or o (spaces.fresh slot true)).accessed)
-    (get-insert S slot (record (spaces.cell_or_fresh S slot) { accessed = true }) slot
-    ∙ ap (λ b. cond b (Some (record (spaces.cell_or_fresh S slot) { accessed = true })) (map.get S slot)) (same_itself spaces.slot_order slot))
-
-pub loaded_set : (s : State) (p address : ℕ) → (spaces.cell_or_fresh (after_load s p address One).spaces (spaces.slot_at p address)).accessed ≡ true
-loaded_set s p address =
-    ap (λ x. (spaces.cell_or_fresh (spaces.all_accessed (spaces.with_pages s.spaces p (page_and (page_number address) x)) p (page_and (page_number address) x)) (spaces.slot_at p address)).accessed) (second_none address)
-    ∙ accessed_set (spaces.with_page s.spaces p (page_number address)) (spaces.slot_at p address)
-
-pub stored_set : (s : State) (p address value : ℕ)
-    → ((spaces.cell_or_fresh (after_store s p address One value).spaces (spaces.slot_at p address)).accessed ≡ true)
-    × ((spaces.cell_or_fresh (after_store s p address One value).spaces (spaces.slot_at p address)).dirty ≡ true)
-stored_set s p address value = stored-flags (spaces.with_pages s.spaces p (touched address One)) (spaces.slot_at p address) (offset_number address) (value % 256 ∷ [])
-
--- the state after an event that completes
-pub goes : (s : State) (e : Event) (r : Reply) → r ≡ answer s e → completes r ≡ true → next s e ≡ after s e.pid e.call
-goes s e r is done = next-goes s e (ap completes (sym is) ∙ done)
-
--- a load of a byte whose walk finds a frame gives a value, and makes nothing stale
-pub loads : (v : View) → IsCore v → (p address : ℕ) → finds_at (memory_of v) p Read address ≡ true
-    → (ended_by v (touch p address) ≡ end.Nothing) × ((n : ℕ) × (answer v.state (touch p address) ≡ reply.Value n))
-loads v core p address h =
-    let found : finds_event v (touch p address) ≡ true = finds_one (memory_of v) p address Read ∙ h in
-    let home = found_at (memory_of v) p address Read h in
-    (ends_none v core (touch p address) found, (_, answered v (touch p address) home.directory core found home.live))
-
--- and such a store is done
-pub stores : (v : View) → IsCore v → (p address value : ℕ) → finds_at (memory_of v) p Write address ≡ true
-    → (ended_by v (write_back p address value) ≡ end.Nothing) × (reply.Done ≡ answer v.state (write_back p address value))
-stores v core p address value h =
-    let found : finds_event v (write_back p address value) ≡ true = finds_one (memory_of v) p address Write ∙ h in
-    let home = found_at (memory_of v) p address Write h in
-    (ends_none v core (write_back p address value) found, sym (answered v (write_back p address value) home.directory core found home.live))
+-- ---- The page's cell
 
 -- the cell of a page whose walk finds a frame
 pub mapped_at : (image : Image) (mapped : spaces.Spaces) (p address : ℕ) (access : Access) → CoreWalksAgree image mapped → (found : Found image p address access)
@@ -375,13 +349,139 @@ mapped_at image mapped p address access agree found = by (map.get mapped (spaces
     by None there ends = absurd (let e = sym found.walk ∙ ends in cc)
     by (Some cell) there ends = (cell, there)
 
-pub writes_only : (access : Access) → is_write access ≡ true → access ≡ Write
-writes_only Read e = cc
-writes_only Write e = refl
+-- dirty of a page that has it
+pub dirty_there : (s : State) (slot : spaces.Slot) → (spaces.cell_or_fresh s.spaces slot).dirty ≡ true → is_dirty_at s slot ≡ true
+dirty_there s slot h = by (map.get s.spaces slot) h
+  where
+    by : (x : Option spaces.Cell) → (unwrap_or x (spaces.fresh slot true)).dirty ≡ true → unwrap_or (option_map (λ (c : spaces.Cell). c.dirty) x) false ≡ true
+    by None e = cc
+    by (Some c) e = e
 
-pub reads_only : (access : Access) → is_write access ≡ false → access ≡ Read
-reads_only Read e = refl
-reads_only Write e = cc
+-- a page that was accessed has its translation
+pub given_there : (v : View) (p address directory : ℕ) (t : Translation) → CoreWalksAgree (memory_of v) v.state.spaces → IsUserPage (page_number address) → finds_at (memory_of v) p Read address ≡ true
+    → (spaces.cell_or_fresh v.state.spaces (spaces.slot_at p address)).accessed ≡ true → WalkGives (memory_of v) p directory address Read t.frame
+    → t.write ≡ (finds_at (memory_of v) p Write address && is_dirty_at v.state (spaces.slot_at p address)) → IsGiven v (kept_at p (page_number address) t)
+given_there v p address directory t agree user finds accessed walk write =
+    let slot = spaces.slot_at p address in
+    let cell = mapped_at (memory_of v) v.state.spaces p address Read agree (found_at (memory_of v) p address Read finds) in
+    let here : spaces.cell_or_fresh v.state.spaces slot ≡ cell.0 = ap (λ o. unwrap_or o (spaces.fresh slot true)) cell.1 in
+    is_given v p address directory t cell.0 user walk.0 walk.1
+    (λ w. write_walk v p address directory t.frame (both_true _ _ (sym write ∙ w)).0 walk.0 walk.1)
+    cell.1 (sym (ap (λ (c : spaces.Cell). c.accessed) here) ∙ accessed)
+    (λ w. sym (ap (λ (o : Option spaces.Cell). unwrap_or (option_map (λ (c : spaces.Cell). c.dirty) o) false) cell.1) ∙ (both_true _ _ (sym write ∙ w)).1)
+  where
+    both_true : (a b : Bool) → (a && b) ≡ true → (a ≡ true) × (b ≡ true)
+    both_true a b e = grind arith
+
+-- ---- A fill
+
+pub has_filled : (w : View) (s u : Shadow) (p address page : ℕ) (access : Access) (t : Translation) → page ≡ page_number address → IsUserPage (page_number address)
+    → IsGiven w (kept_at p (page_number address) t) → t.write ≡ (finds_at (memory_of w) p Write address && is_dirty_at w.state (spaces.slot_at p address))
+    → finds_at (memory_of w) p access address ≡ true → AreMarked w.state.spaces (spaces.slot_at p address) access
+    → u.translations ≡ map.insert s.translations (at_page p page) t → IsSome (root_of u p) → WalksAgree u → HasFilled w s.translations u p address access
+has_filled w s u p address page access t same user given write finds marked inserted rooted agree =
+    let is : u.translations ≡ map.insert s.translations (at_page p (page_number address)) t = inserted ∙ ap (λ n. map.insert s.translations (at_page p n) t) same in
+    let entered = entered-insert s.translations u.translations p (page_number address) t is in
+    record {
+      translation = t;
+      is = is;
+      given = given;
+      write = write;
+      served = served w u p address access t agree rooted (omega (arith, user.1)) entered.is (may access finds marked);
+    }
+  where
+    may : (a : Access) → finds_at (memory_of w) p a address ≡ true → AreMarked w.state.spaces (spaces.slot_at p address) a → is_write a ≡ true → t.write ≡ true
+    may Read f m is = cc
+    may Write f m is =
+        let dirty = dirty_there w.state (spaces.slot_at p address) (m.dirty refl) in
+        write ∙ (λ i. f i && dirty i)
+
+-- a core with one translation more
+pub shadowed_fill : (w : View) (s u : Shadow) (p address page : ℕ) (t : Translation) → page ≡ page_number address → IsShadowed w s → u.translations ≡ map.insert s.translations (at_page p page) t
+    → length u.bytes ≡ length s.bytes → IsGiven w (kept_at p (page_number address) t) → IsShadowed w u
+shadowed_fill w s u p address page t same shadowed inserted size given =
+    let is : u.translations ≡ map.insert s.translations (at_page p (page_number address)) t = inserted ∙ ap (λ n. map.insert s.translations (at_page p n) t) same in
+    shadowed_more w s u p (page_number address) t shadowed (entered-insert s.translations u.translations p (page_number address) t is) size given
+
+-- ---- A fault
+
+-- where nothing changes
+pub still_ends : (v : View) → IsCore v → Ends end.Nothing v v
+still_ends v now = nothing_ends v v now now refl (record {
+  directories = λ p d some live. live;
+  tables = λ slot d f t stays way table. table;
+  ways = λ slot d f stays way. way;
+})
+
+pub fixed_then : (s t u : Shadow) → IsFixed s t → IsFixed t u → IsFixed s u
+fixed_then s t u first second = record {
+  pool = second.pool ∙ first.pool;
+  block = second.block ∙ first.block;
+  kernel = second.kernel ∙ first.kernel;
+  size = second.size ∙ first.size;
+}
+
+-- no access of a byte ends all of a process
+pub touch_keeps_roots : (v : View) (s : State) (p address q : ℕ) (access : Access) → is_all_of (ended_by v (touch_of s p address access)) q ≡ false
+touch_keeps_roots v s p address q Read = by (completes (answer v.state (load_byte p (near address))))
+  where
+    by : (b : Bool) → is_all_of (if b then end.Nothing else end.Nothing) q ≡ false
+    by true = refl
+    by false = refl
+touch_keeps_roots v s p address q Write = by (completes (answer v.state (touch_of s p address Write)))
+  where
+    pages : (x y : Option ℕ) → is_all_of (of_pages p x y) q ≡ false
+    pages None None = refl
+    pages (Some x) None = refl
+    pages None (Some y) = refl
+    pages (Some x) (Some y) = refl
+
+    plans : (x : Plan) → is_all_of (of_plan p (near address) One x) q ≡ false
+    plans (plan.Ready first second) = pages (page_filled (page_number (near address)) first) (second_filled (second_page (near address) One) second)
+    plans _ = refl
+
+    by : (b : Bool) → is_all_of (if b then of_plan p (near address) One (plan_at v p (near address) One Write) else end.Nothing) q ≡ false
+    by true = plans (plan_at v p (near address) One Write)
+    by false = refl
+
+-- roots stay where no process is gone, and then where a translation is filled
+pub roots_then : (ended : Ended) (s t u : Shadow) → ((q : ℕ) → is_all_of ended q ≡ false) → ((q : ℕ) → is_all_of ended q ≡ false → root_frame t q ≡ root_frame s q) → RootsStay t u → RootsStay s u
+roots_then ended s t u none forgotten filled q frame is = filled q frame (forgotten q (none q) ∙ is)
+
+-- a fault that was stopped isn't full, nor filled
+pub stopped_alone : (h : Handled) → IsStopped h → (h ≡ Full → ⊥) × (h ≡ Filled → ⊥)
+stopped_alone (Fault addr code) is = (λ e. cc, λ e. cc)
+stopped_alone (Refused cause) is = (λ e. cc, λ e. cc)
+stopped_alone Filled is = absurd is
+stopped_alone Full is = absurd is
+
+-- the translations that a fill adds to, named otherwise
+pub filled_onto : (w : View) (before after : Translations) (u : Shadow) (p address : ℕ) (access : Access) → before ≡ after → HasFilled w before u p address access → HasFilled w after u p address access
+filled_onto w before after u p address access same filled = subst (λ (m : Translations). HasFilled w m u p address access) same filled
+
+-- ---- A reply that stops a fault
+
+pub stops : (r : Reply) (h : Handled) → stop_of r ≡ Some h → (completes r ≡ false) × (IsStopped h × (handled_of r ≡ h))
+stops (reply.Fault addr code) h is = (refl, stopped h (Fault addr code) (same_some _ _ is) tt)
+  where
+    same_some : (a b : Handled) → ◌≡◌ {A = Option Handled} (Some a) (Some b) → a ≡ b
+    same_some a b e = cc
+
+    stopped : (h k : Handled) → k ≡ h → IsStopped k → IsStopped h × (k ≡ h)
+    stopped h k e i = (subst IsStopped e i, e)
+stops (reply.Refused cause) h is = (refl, stopped h (Refused cause) (same_some _ _ is) tt)
+  where
+    same_some : (a b : Handled) → ◌≡◌ {A = Option Handled} (Some a) (Some b) → a ≡ b
+    same_some a b e = cc
+
+    stopped : (h k : Handled) → k ≡ h → IsStopped k → IsStopped h × (k ≡ h)
+    stopped h k e i = (subst IsStopped e i, e)
+stops _ h is = cc
+
+pub goes_through : (r : Reply) → stop_of r ≡ None → (completes r ≡ true) × (handled_of r ≡ Filled)
+goes_through (reply.Fault addr code) none = cc
+goes_through (reply.Refused cause) none = cc
+goes_through _ none = (refl, refl)
 
 -- ---- Accesses
 

@@ -1,16 +1,17 @@
 -- A core and shadow tables of it: each translation of the shadow is one that the core's walk gives now.
-use Rattle.std.proofs.Common.{◌≡◌, ℕ, ◌+◌, ◌*◌, ◌^◌, ◌<◌, ◌≤◌, ◌⊎◌, not, ◌==◌, List, [], ◌∷◌, length, Bool, true, false, Some, Ok, refl}
+use Rattle.std.proofs.Common.{◌≡◌, ℕ, ◌+◌, ◌*◌, ◌^◌, ◌<◌, ◌≤◌, ◌⊎◌, not, ◌==◌, ◌&&◌, length, Option, Some, None, Ok, refl}
 use Rattle.std.specs.Coded.{Coded, code_by, coded×}
-use Rattle.page_words.specs.Addresses.{offset_number, start_number, EachTouched}
+use Rattle.std.specs.Option.{unwrap_or}
+use Rattle.page_words.specs.Addresses.{page_number, offset_number, start_number, EachTouched}
 use Rattle.page_words.specs.FiniteMap as map
 use Rattle.table_walk.specs.declared.Access.{Access}
 use Rattle.table_walk.specs.declared.Access.TheVariants.{Read, Write}
-use Rattle.table_walk.specs.Walk.{is_write}
+use Rattle.address_space.specs.ByWalk.{finds_at}
 use Rattle.address_space.specs.Spaces as spaces
 use Rattle.process_table.specs.Image.{memory_of}
 use Rattle.process_table.specs.View.{View, view_code}
-use Rattle.process_table.specs.State.{State}
-use Rattle.kernel_calls.specs.Machine.{answer}
+use Rattle.kernel_calls.specs.Cleaned.{is_dirty_at}
+use Rattle.kernel_calls.specs.declared.calls.Reply.{Reply}
 use Rattle.kernel_calls.specs.declared.calls.Reply.TheVariants as reply
 use Rattle.kernel_calls.specs.Kept.{ServesEvent}
 use Rattle.kernel_calls.specs.declared.calls.Call.{Call}
@@ -20,12 +21,11 @@ use Rattle.kernel_calls.specs.declared.calls.Call.TheVariants as call
 use Rattle.kernel_calls.specs.declared.calls.Event.{Event}
 use Rattle.kernel_calls.specs.declared.translations.Ended.{Ended}
 use Rattle.kernel_calls.specs.declared.translations.Ended.TheVariants as end
-use Rattle.page_words.specs.declared.addresses.Size.TheVariants as size
 use Rattle.shadow_tables.specs.LongWalk.{long_walk}
 use Rattle.shadow_tables.specs.Shadow.{Shadow, shadow_code, Translations, at_page, frame_address, root_frame}
 use Rattle.shadow_tables.specs.declared.tables.Translation.{Translation}
-use Rattle.shadow_core.specs.declared.Handled.{Handled}
-use Rattle.shadow_core.specs.declared.Handled.TheVariants.{NotAllowed, Entered, Renewed}
+use Rattle.shadow_core.specs.declared.pairs.Handled.{Handled}
+use Rattle.shadow_core.specs.declared.pairs.Handled.TheVariants.{Filled, Full, Fault, Refused}
 
 -- a core, and the shadow of its tables
 pub record Paired : Type 0 where
@@ -91,30 +91,34 @@ ReachesCall w p frames _ = ⊥
 abbrev pub AccessesAreServed : Paired → Type 0
 AccessesAreServed w = (frames : ℕ → ℕ) (e : Event) → ReachesCall w e.pid frames e.call → ServesEvent w.core frames e
 
--- a load of a byte, which sets accessed of its page
-abbrev pub touch : ℕ → ℕ → Event
-touch p address = record { cpu = 0; pid = p; call = call.Load address size.One }
+-- how a fault ends at a reply of the core's that stops the access
+abbrev pub stop_of : Reply → Option Handled
+stop_of (reply.Fault addr code) = Some (Fault addr code)
+stop_of (reply.Refused cause) = Some (Refused cause)
+stop_of _ = None
 
--- a store of a byte
-abbrev pub write_back : ℕ → ℕ → ℕ → Event
-write_back p address value = record { cpu = 0; pid = p; call = call.Store address size.One value }
+-- how a fault ends at a reply of the core's
+abbrev pub handled_of : Reply → Handled
+handled_of r = unwrap_or (stop_of r) Filled
 
--- no event, a load of the byte there, or that load and a store of what it found
-pub data IsTouched (s : State) (p address : ℕ) : List Event → Type 0 where
-  nothing : IsTouched s p address []
-  loaded : IsTouched s p address (touch p address ∷ [])
-  stored : (value : ℕ) → answer s (touch p address) ≡ reply.Value value → IsTouched s p address (touch p address ∷ write_back p address value ∷ [])
+-- a fault that ends so leaves all as it is
+abbrev pub IsStopped : Handled → Type 0
+IsStopped (Fault addr code) = Unit {0}
+IsStopped (Refused cause) = Unit {0}
+IsStopped _ = ⊥
 
--- accessed of the page of an address is set, and for a write dirty
-pub record AreSet (mapped : spaces.Spaces) (p address : ℕ) (access : Access) : Type 0 where
-  pub accessed : (spaces.cell_or_fresh mapped (spaces.slot_at p address)).accessed ≡ true
-  pub dirty : is_write access ≡ true → (spaces.cell_or_fresh mapped (spaces.slot_at p address)).dirty ≡ true
+-- The page of an address has its translation, which the core's walk gives, in place of any other. It allows writes if the
+-- walk does and the page is dirty. A processor's walk of the shadow completes the access.
+pub record HasFilled (w : View) (before : Translations) (u : Shadow) (p address : ℕ) (access : Access) : Type 0 where
+  pub translation : Translation
+  pub is : u.translations ≡ map.insert before (at_page p (page_number address)) translation
+  pub given : IsGiven w (kept_at p (page_number address) translation)
+  pub write : translation.write ≡ (finds_at (memory_of w) p Write address && is_dirty_at w.state (spaces.slot_at p address))
+  pub served : IsServed (record { core = w; shadow = u }) p address access
 
--- whether a fault ended with an entered translation
-abbrev pub is_entered : Handled → Bool
-is_entered NotAllowed = false
-is_entered Entered = true
-is_entered Renewed = true
+-- each translation is one that there was
+abbrev pub IsLess : Shadow → Shadow → Type 0
+IsLess old new = (p page : ℕ) (t : Translation) → map.get new.translations (at_page p page) ≡ Some t → map.get old.translations (at_page p page) ≡ Some t
 
 -- each root stays
 abbrev pub RootsStay : Shadow → Shadow → Type 0

@@ -1,5 +1,5 @@
 //! Whose each frame of the pool is: for each process, and for the free frames, a list through one number a frame.
-ghost use Rattle.std.specs.Prelude.{◌≡◌, ℕ, ◌+◌, ◌-◌, ◌<◌, ◌^◌, ◌↔◌, IfSome, IfOk, IsNone, map, replicate, slice_set};
+ghost use Rattle.std.specs.Prelude.{◌≡◌, ℕ, ◌+◌, ◌-◌, ◌<◌, ◌^◌, ◌↔◌, IfSome, IfOk, IsNone, length, map, replicate, slice_set};
 ghost use Rattle.std.specs.List.{range_with_len};
 ghost use Rattle.shadow_tables.specs.Holdings.{Places, with_place, count_of, frame_count, IsNth, AreHeld, IsHeld, IsTakenBy, IsReleased, opening_places};
 
@@ -19,13 +19,23 @@ pub(crate) struct Holdings {
     pub counts: [u32; 65],
 }
 
-/// For each frame the one before it.
+/// Writes for each frame the one before it.
+fn number(next: &mut [u32])
+    requires { length next.old < 2 ^ 32 }
+    ensures { next.new ≡ map (λ frame. frame - 1) (range_with_len 0 (length next.old)) }
+{
+    for (frame, before) in next.iter_mut().enumerate() {
+        *before = (frame as u32).saturating_sub(1);
+    }
+}
+
+/// For each frame the one before it. All of its memory is one request.
 fn frames_before(alloc: Global, frames: u32) -> Result<Vec<u32>, AllocError>
     ensures { IfOk result (λ next. next.items ≡ map (λ frame. frame - 1) (range_with_len 0 frames)) }
 {
-    (0..frames)
-        .map(|frame| frame.saturating_sub(1))
-        .collect(alloc)
+    let mut next = vec![in alloc; 0u32; frames as usize]?;
+    number(next.as_mut_slice());
+    Ok(next)
 }
 
 impl Holdings {

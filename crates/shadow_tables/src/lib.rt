@@ -1,8 +1,8 @@
 //! Shadow page tables: four-level tables for a processor in long mode, which hold for each of 64 processes some of the
 //! translations that 32-bit tables give.
 //!
-//! They are a cache, as a TLB is: an entry is filled when the processor faults, and forgotten when an event ends the
-//! translation. A caller may forget more at any time. The tables lie in a pool of frames that the caller gives.
+//! They are a cache, as a TLB is: an entry is filled when the processor faults, and forgotten when an event makes the
+//! translation stale. A caller may forget more at any time. The tables lie in a pool of frames that the caller gives.
 //!
 //! The words are those of the Intel SDM, volume 3, 4-level paging, with 4 KiB pages. Each word has its accessed flag
 //! set beforehand, and its dirty flag if it is writable, so that a processor writes none of them.
@@ -160,6 +160,13 @@ impl ShadowTables {
         ensures { result ≡ self.now.free }
     {
         self.tables.holdings.counts[64]
+    }
+
+    /// How many frames of the pool a process's tables take.
+    pub fn taken_count(&self, pid: Pid) -> u32
+        ensures { result ≡ slice_index self.now.taken pid }
+    {
+        self.tables.holdings.counts[pid.number() as usize]
     }
 
     /// The walk of each address of the lower half ends as the translation of its page says, which is one of the user

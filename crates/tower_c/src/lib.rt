@@ -22,10 +22,13 @@ mod numbers;
 mod pages;
 mod pending;
 mod runs;
+mod shadow_faults;
+mod shadows;
+mod touching;
 mod transfers;
 mod writing;
 
-pub use c_handle::{Passes, Tower};
+pub use c_handle::{Passes, Tower, TowerShadow};
 use c_handle::{put, take};
 pub use cleaning::{tower_clean, tower_next_dirty, tower_peek};
 pub use families::{TowerProcesses, tower_children, tower_end};
@@ -42,8 +45,14 @@ use page_words::{Frame, Vaddr, WIDE_FRAMES, is_frame_count};
 pub use pages::{TowerPage, tower_next_page};
 pub use pending::{TowerOffer, tower_next_offer};
 pub use runs::tower_run_until;
+pub use shadow_faults::{tower_shadow_fault, tower_shadow_step};
+pub use shadows::{
+    TowerTranslation, tower_shadow_close, tower_shadow_forget, tower_shadow_forget_all, tower_shadow_free_frames,
+    tower_shadow_open, tower_shadow_pool, tower_shadow_root, tower_shadow_taken_frames, tower_shadow_translation,
+};
 use std::alloc::Global;
 use table_walk::walk;
+pub use touching::tower_touch;
 pub use transfers::{tower_read, tower_write};
 pub use writing::tower_may_write;
 

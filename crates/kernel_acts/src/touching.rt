@@ -1,0 +1,130 @@
+//! A processor's page fault: the access of one byte, as an event that changes no byte.
+
+ghost use Rattle.std.specs.Prelude.{◌≡◌, ℕ, true, false};
+ghost use Rattle.page_words.specs.Addresses.{IsUserPage, page_number};
+ghost use Rattle.table_walk.specs.declared.Access.TheVariants as access;
+ghost use Rattle.address_space.specs.ByWalk.{finds_at};
+ghost use Rattle.address_space.specs.Spaces.{byte_at, slot_at};
+ghost use Rattle.process_table.specs.Image.{StandsFor, image_of, memory_of};
+ghost use Rattle.kernel_calls.specs.Machine.{answer, next, completes};
+ghost use Rattle.kernel_calls.specs.Translations.{ended_by, Ends};
+ghost use Rattle.kernel_calls.specs.declared.calls.Reply.TheVariants as reply;
+ghost use Rattle.kernel_calls.specs.declared.translations.Ended.TheVariants as end;
+ghost use Rattle.kernel_acts.specs.Touched.{near, touch_of, access_of_byte, AreMarked, TakesNoStore, Touches};
+ghost use Rattle.kernel_acts.specs.Transfers.{load_byte, store_byte};
+
+use kernel_calls::{Call, Core, Ended, Event, Reply};
+use page_words::{Pid, Size, Vaddr};
+use table_walk::Access;
+
+/// The address as one of 32 bits. Any above is the highest one, which is outside the user range.
+fn near(address: u64) -> Vaddr
+    ensures { result ≡ near address }
+{
+    if address < 0x1_0000_0000 {
+        Vaddr(address as u32)
+    } else {
+        Vaddr(u32::MAX)
+    }
+}
+
+/// The Load of a byte.
+fn load_of(pid: Pid, addr: Vaddr) -> Event
+    ensures { result ≡ load_byte pid addr }
+{
+    let size = Size::One;
+    let call = Call::Load { addr, size };
+    Event { cpu: 0, pid, call }
+}
+
+/// The Store of a zero.
+fn store_of_zero(pid: Pid, addr: Vaddr) -> Event
+    ensures { result ≡ store_byte pid addr 0 }
+{
+    let (size, value) = (Size::One, 0);
+    let call = Call::Store { addr, size, value };
+    Event { cpu: 0, pid, call }
+}
+
+/// The Load of a byte, which sets accessed of its page.
+fn touch_to_read(core: &mut Core, pid: Pid, address: Vaddr) -> (Reply, Ended)
+    ensures { Touches core.old (load_byte pid address) pid address access.Read result.0 result.1 core.new }
+{
+    core.stands();
+    let told = core.step_ending(&load_of(pid, address));
+    core.stands();
+    told
+}
+
+/// Sets accessed and dirty of a page that takes stores as memory is, as the Store of the byte that is there does. No
+/// byte is written. Returns whether the page is such a one; otherwise nothing changes.
+fn mark_written(core: &mut Core, pid: Pid, address: Vaddr) -> bool
+    ensures marked { result ≡ true → Touches core.old (access_of_byte core.old.state pid address access.Write)
+        pid address access.Write reply.Done end.Nothing core.new }
+    ensures none { result ≡ false → TakesNoStore core.old pid address }
+    ensures kept { result ≡ false → core.new ≡ core.old }
+{
+    core.stands();
+    let marked = core.store_taken(pid, address, &[]);
+    core.stands();
+    marked
+}
+
+/// The Store of the byte that is there, in a page that takes no store as memory is: it has zeros, or the Store doesn't
+/// complete.
+fn store_zero(core: &mut Core, pid: Pid, address: Vaddr) -> (Reply, Ended)
+    requires { TakesNoStore core.old pid address }
+    ensures { Touches core.old (access_of_byte core.old.state pid address access.Write) pid address access.Write
+        result.0 result.1 core.new }
+{
+    core.stands();
+    let told = core.step_ending(&store_of_zero(pid, address));
+    core.stands();
+    told
+}
+
+/// The Store of the byte that is there, which sets accessed and dirty of its page.
+fn touch_to_write(core: &mut Core, pid: Pid, address: Vaddr) -> (Reply, Ended)
+    ensures { Touches core.old (access_of_byte core.old.state pid address access.Write) pid address access.Write
+        result.0 result.1 core.new }
+{
+    if mark_written(core, pid, address) {
+        return (Reply::Done, Ended::Nothing);
+    }
+    store_zero(core, pid, address)
+}
+
+/// The Load of a byte, or the Store of the byte that is there.
+fn touch_byte(core: &mut Core, pid: Pid, address: Vaddr, access: Access) -> (Reply, Ended)
+    ensures { Touches core.old (access_of_byte core.old.state pid address access) pid address access
+        result.0 result.1 core.new }
+{
+    match access {
+        Access::Read => touch_to_read(core, pid, address),
+        Access::Write => touch_to_write(core, pid, address),
+    }
+}
+
+/// Makes the access of one byte for which a processor faulted: its Load, or the Store of the byte that is there. It
+/// changes no byte. It maps the page or gives it a frame, if it has none, and sets accessed, and for a write dirty. Then
+/// the processor's walk lets the access through. The translations that it ended are the result's second part. Each
+/// processor that cached one invalidates it before anything else is done.
+///
+/// An address of more than 32 bits is taken as the highest one, which is outside the user range. A refusal or a fault
+/// changes nothing.
+pub fn touch(core: &mut Core, pid: Pid, address: u64, access: Access) -> (Reply, Ended)
+    ensures reply { result.0 ≡ answer core.old.state (touch_of core.old.state pid address access) }
+    ensures ended { result.1 ≡ ended_by core.old (touch_of core.old.state pid address access) }
+    ensures state { core.new.state ≡ next core.old.state (touch_of core.old.state pid address access) }
+    ensures ends { Ends result.1 core.old core.new }
+    ensures kept { completes result.0 ≡ false → core.new ≡ core.old }
+    ensures bytes { (p at : ℕ) → byte_at core.new.state.spaces p at ≡ byte_at core.old.state.spaces p at }
+    ensures user { completes result.0 ≡ true → IsUserPage (page_number address) }
+    ensures finds { completes result.0 ≡ true → finds_at (memory_of core.new) pid access address ≡ true }
+    ensures marked { completes result.0 ≡ true → AreMarked core.new.state.spaces (slot_at pid address) access }
+    ensures stands { StandsFor (image_of core.new) core.new.state }
+{
+    let told = touch_byte(core, pid, near(address), access);
+    core.stands();
+    told
+}

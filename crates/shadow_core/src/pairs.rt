@@ -1,0 +1,243 @@
+//! A core and shadow tables of it, each with its own owner: what an event and a fault are to both.
+
+ghost use Rattle.std.specs.Prelude.{◌≡◌, ℕ, ◌<◌, ◌≤◌, ◌^◌, ◌&&◌, ◌↔◌, true, false, sum};
+ghost use Rattle.page_words.specs.Addresses.{IsUserPage, page_number};
+ghost use Rattle.table_walk.specs.declared.Access.TheVariants as access;
+ghost use Rattle.address_space.specs.ByWalk.{finds_at};
+ghost use Rattle.address_space.specs.Spaces.{byte_at, cell_or_fresh, slot_at};
+ghost use Rattle.process_table.specs.Image.{StandsFor, image_of, memory_of};
+ghost use Rattle.kernel_calls.specs.Cleaned.{is_dirty_at};
+ghost use Rattle.kernel_calls.specs.Machine.{answer, next};
+ghost use Rattle.kernel_calls.specs.Translations.{Ends, ended_by, is_all_of, IsGiven, WalkGives};
+ghost use Rattle.kernel_calls.specs.declared.translations.Ended.TheVariants as end;
+ghost use Rattle.kernel_acts.specs.Touched.{touch_of, AreMarked};
+ghost use Rattle.shadow_tables.specs.Shadow.{IsFixed, root_frame};
+ghost use Rattle.shadow_core.specs.Paired.{IsShadowed, kept_at, left_by, stop_of, handled_of, IsStopped, HasFilled, RootsStay};
+ghost use Rattle.shadow_core.specs.Paired.{TranslationsAreRead, WalksAreTheCores, AccessesAreServed};
+
+use kernel_acts::touch;
+use kernel_calls::{Core, Ended, Event, Reply};
+use page_words::{Frame, Pid, Vaddr, page_of};
+use process_table::Cause;
+use shadow_tables::{ShadowTables, Translation};
+use table_walk::{Access, walk};
+
+/// How many frames of the pool are free at least, where a fault is handled: a root and three tables.
+pub const LEAST_FREE: u32 = 4;
+
+/// How a fault of a processor was handled.
+#[derive(Clone, Copy, Debug, PartialEq, Eq)]
+pub enum Handled {
+    /// The translation is there. The processor completes the access.
+    Filled,
+    /// Fewer than four frames of the pool are free. Nothing changed: the core makes no event either. The caller forgets
+    /// all, or a process, and repeats the fault.
+    Full,
+    /// The access is the process's fault, with the processor's error code. The address is the highest one for any of
+    /// more than 32 bits.
+    Fault { addr: Vaddr, code: u8 },
+    /// The core refuses the access.
+    Refused(Cause),
+}
+
+/// Forgets what an event ended.
+pub fn forget(shadow: &mut ShadowTables, ended: &Ended)
+    ensures translations { shadow.new.translations ≡ left_by ended.now shadow.old.translations }
+    ensures roots { (p : ℕ) → is_all_of ended.now p ≡ false → root_frame shadow.new p ≡ root_frame shadow.old p }
+    ensures free { shadow.old.free ≤ shadow.new.free }
+    ensures fixed { IsFixed shadow.old shadow.new }
+{
+    shadow.walks();
+    drop_ended(shadow, ended);
+    shadow.walks();
+}
+
+/// Forgets what an event ended. No frame is taken for it.
+#[tactic(auto, using(crate::proofs::Pairing::sum_cleared))]
+fn drop_ended(shadow: &mut ShadowTables, ended: &Ended)
+    ensures translations { shadow.new.translations ≡ left_by ended.now shadow.old.translations }
+    ensures roots { (p : ℕ) → is_all_of ended.now p ≡ false → root_frame shadow.new p ≡ root_frame shadow.old p }
+    ensures taken { sum shadow.new.taken ≤ sum shadow.old.taken }
+    ensures fixed { IsFixed shadow.old shadow.new }
+{
+    match ended {
+        Ended::Nothing => {}
+        Ended::Page { pid, page } => shadow.forget_page(*pid, *page),
+        Ended::Pages { pid, first, second } => {
+            shadow.forget_page(*pid, *first);
+            shadow.forget_page(*pid, *second);
+        }
+        Ended::Space { pid } => shadow.forget_process(*pid),
+    }
+}
+
+/// Carries out an event, forgets the translations that it ended, and returns these. Each processor that cached one
+/// invalidates it before anything else is done. If the event ends a process, no processor may have its root.
+pub fn carry_out(core: &mut Core, shadow: &mut ShadowTables, event: &Event) -> (Reply, Ended)
+    requires { IsShadowed core.old shadow.old }
+    ensures kept { IsShadowed core.new shadow.new }
+    ensures reply { result.0 ≡ answer core.old.state event.now }
+    ensures ended { result.1 ≡ ended_by core.old event.now }
+    ensures state { core.new.state ≡ next core.old.state event.now }
+    ensures ends { Ends result.1 core.old core.new }
+    ensures left { shadow.new.translations ≡ left_by result.1 shadow.old.translations }
+    ensures stands { StandsFor (image_of core.new) core.new.state }
+    ensures roots { (p : ℕ) → is_all_of result.1 p ≡ false → root_frame shadow.new p ≡ root_frame shadow.old p }
+    ensures free { shadow.old.free ≤ shadow.new.free }
+    ensures fixed { IsFixed shadow.old shadow.new }
+{
+    let told = core.step_ending(event);
+    forget(shadow, &told.1);
+    told
+}
+
+/// Whether the walk finds a frame for a store.
+fn lets_write(core: &Core, pid: Pid, address: Vaddr) -> bool
+    ensures { result ≡ finds_at (memory_of core.now) pid access.Write address }
+{
+    match core.directory(pid) {
+        Some(directory) => walk(core.memory(), directory, address, Access::Write).is_ok(),
+        None => false,
+    }
+}
+
+/// The frame that the walk finds for a load.
+fn frame_of(core: &Core, pid: Pid, address: Vaddr) -> Frame
+    requires { finds_at (memory_of core.now) pid access.Read address ≡ true }
+    ensures walk { (directory : ℕ) × WalkGives (memory_of core.now) pid directory address access.Read result }
+    ensures bound { result < 2 ^ 20 }
+{
+    core.stands();
+    let directory = core.directory(pid).unwrap();
+    let memory = core.memory();
+    let frames = memory.frames();
+    let Ok(frame) = walk(memory, directory, address, Access::Read) else {
+        unreachable!()
+    };
+    prove!(frame.0 < frames);
+    frame
+}
+
+/// Whether the translation of a page allows writes: the walk does, and the page is dirty. A processor sets dirty in the
+/// shadow only.
+fn may_write(core: &Core, pid: Pid, address: Vaddr) -> bool
+    requires { IsUserPage (page_number address) }
+    ensures { result ≡ (finds_at (memory_of core.now) pid access.Write address
+        && is_dirty_at core.now.state (slot_at pid address)) }
+{
+    lets_write(core, pid, address) && core.is_dirty(pid, page_of(address))
+}
+
+/// The translation of a page that was accessed: what the walk gives.
+fn translation_of(core: &Core, pid: Pid, address: Vaddr) -> Translation
+    requires finds { finds_at (memory_of core.now) pid access.Read address ≡ true }
+    requires accessed { (cell_or_fresh core.now.state.spaces (slot_at pid address)).accessed ≡ true }
+    requires user { IsUserPage (page_number address) }
+    ensures given { IsGiven core.now (kept_at pid (page_number address) result) }
+    ensures write { result.write ≡ (finds_at (memory_of core.now) pid access.Write address
+        && is_dirty_at core.now.state (slot_at pid address)) }
+    ensures bound { result.frame < 2 ^ 20 }
+{
+    core.stands();
+    let frame = frame_of(core, pid, address);
+    let write = may_write(core, pid, address);
+    Translation { frame, write }
+}
+
+/// Fills the translation of a page that was accessed.
+fn fill(core: &Core, shadow: &mut ShadowTables, pid: Pid, address: Vaddr, access: Access)
+    requires shadowed { IsShadowed core.now shadow.old }
+    requires user { IsUserPage (page_number address) }
+    requires finds { finds_at (memory_of core.now) pid access address ≡ true }
+    requires marked { AreMarked core.now.state.spaces (slot_at pid address) access }
+    requires room { LEAST_FREE ≤ shadow.old.free }
+    ensures kept { IsShadowed core.now shadow.new }
+    ensures filled { HasFilled core.now shadow.old.translations shadow.new pid address access }
+    ensures roots { RootsStay shadow.old shadow.new }
+    ensures fixed { IsFixed shadow.old shadow.new }
+{
+    let translation = translation_of(core, pid, address);
+    let Ok(()) = shadow.fill(
+        pid,
+        page_of(address),
+        translation.frame,
+        translation.write,
+    ) else {
+        unreachable!()
+    };
+    shadow.walks();
+}
+
+/// How a fault ends at a reply that stops the access; None at any other.
+fn stop_of(reply: &Reply) -> Option<Handled>
+    ensures { result ≡ stop_of reply.now }
+{
+    match reply {
+        Reply::Fault { addr, code } => Some(Handled::Fault {
+            addr: *addr,
+            code: *code,
+        }),
+        Reply::Refused(cause) => Some(Handled::Refused(*cause)),
+        _ => None,
+    }
+}
+
+/// Handles a fault of a processor in user mode, at an address of 64 bits. It makes the access of the byte there as
+/// `kernel_acts::touch` does, which changes no byte. Then it forgets what that ended, and fills the page's translation.
+/// The second result is what ended: each processor that cached it invalidates it, and what it cached of the page that
+/// faulted, before anything else is done.
+///
+/// Full comes first: nothing changes then. A fault of the process or a refusal changes nothing either.
+pub fn handle_fault(
+    core: &mut Core,
+    shadow: &mut ShadowTables,
+    pid: Pid,
+    address: u64,
+    access: Access,
+) -> (Handled, Ended)
+    requires { IsShadowed core.old shadow.old }
+    ensures kept { IsShadowed core.new shadow.new }
+    ensures full { (result.0 ≡ Handled.Full) ↔ (shadow.old.free < LEAST_FREE) }
+    ensures unchanged { shadow.old.free < LEAST_FREE
+        → (result.1 ≡ end.Nothing) × (core.new ≡ core.old) × (shadow.new ≡ shadow.old) }
+    ensures handled { LEAST_FREE ≤ shadow.old.free
+        → result.0 ≡ handled_of (answer core.old.state (touch_of core.old.state pid address access)) }
+    ensures ended { LEAST_FREE ≤ shadow.old.free
+        → result.1 ≡ ended_by core.old (touch_of core.old.state pid address access) }
+    ensures state { LEAST_FREE ≤ shadow.old.free
+        → core.new.state ≡ next core.old.state (touch_of core.old.state pid address access) }
+    ensures ends { Ends result.1 core.old core.new }
+    ensures bytes { (p at : ℕ) → byte_at core.new.state.spaces p at ≡ byte_at core.old.state.spaces p at }
+    ensures stopped { IsStopped result.0 → (core.new ≡ core.old) × (shadow.new ≡ shadow.old) }
+    ensures filled { result.0 ≡ Handled.Filled
+        → HasFilled core.new (left_by result.1 shadow.old.translations) shadow.new pid address access }
+    ensures stands { StandsFor (image_of core.new) core.new.state }
+    ensures roots { RootsStay shadow.old shadow.new }
+    ensures fixed { IsFixed shadow.old shadow.new }
+{
+    core.stands();
+    if shadow.free_count() < LEAST_FREE {
+        return (Handled::Full, Ended::Nothing);
+    }
+    let (reply, ended) = touch(core, pid, address, access);
+    if let Some(handled) = stop_of(&reply) {
+        return (handled, ended);
+    }
+    forget(shadow, &ended);
+    fill(core, shadow, pid, Vaddr(address as u32), access);
+    (Handled::Filled, ended)
+}
+
+/// Walks of the core read all that the shadow keeps. Where a processor's walk of the shadow reaches a page, the core's
+/// walk gives the frame there, now. An access that a processor completes through the shadow is served as by translations
+/// that it kept from walks of the core. Such an access is its event, as
+/// `kernel_calls::kept_translations_serve_accesses` states.
+pub fn walks(core: &Core, shadow: &ShadowTables)
+    requires { IsShadowed core.now shadow.now }
+    ensures read { TranslationsAreRead (record { core = core.now; shadow = shadow.now }) }
+    ensures walks { WalksAreTheCores (record { core = core.now; shadow = shadow.now }) }
+    ensures accesses { AccessesAreServed (record { core = core.now; shadow = shadow.now }) }
+{
+    shadow.walks();
+    let _ = core;
+}

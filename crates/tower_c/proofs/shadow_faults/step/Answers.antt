@@ -1,0 +1,14 @@
+use Rattle.std.proofs.Common.{subst, Option}
+use Rattle.kernel_calls.proofs.Leaving.{is_core}
+use Rattle.kernel_calls.specs.Translations.{Ends}
+use Rattle.kernel_calls.specs.declared.calls.Event.{Event}
+use Rattle.tower_c.specs.Border.{ends_in}
+use Rattle.tower_c.proofs.TouchLemmas.{still_ends}
+use Rattle.tower_c.proofs.shadow_faults.step.Goals as goal
+
+-- where nothing is done, nothing is ended
+pub returns-in_default-clause-ends : goal.returns-in_default-clause-ends
+returns-in_default-clause-ends c =
+    let v = c.args.core.now in
+    let now = c.stands.ensures in
+    subst (λ (x : Option Event). Ends (ends_in v x) v v) c.in_default.ensures (still_ends v (is_core now.image now.walks now.ways now.well_formed))
