@@ -1,17 +1,20 @@
 -- Turns that a core takes with its processors: each is a step, whatever the processors keep then.
 use Rattle.std.specs.Option.{option_to_list}
-use Rattle.std.specs.Prelude.{◌≡◌, ◌⊎◌, ℕ, Bool, false, List, [], ◌∷◌, ◌++◌, Option, Some, None}
+use Rattle.std.specs.Prelude.{◌≡◌, ◌⊎◌, ℕ, Bool, true, false, List, [], ◌∷◌, ◌++◌, Option, Some, None}
 use Rattle.page_words.specs.Addresses.{IsUserPage}
 use Rattle.address_space.specs.ByWalk.{with_walked}
 use Rattle.address_space.specs.Image.{directory_at}
+use Rattle.address_space.specs.Stays.{FramesStay, LooseStay}
 use Rattle.process_table.specs.Image.{memory_of}
 use Rattle.process_table.specs.State.{State}
 use Rattle.process_table.specs.View.{View}
-use Rattle.kernel_calls.specs.Kept.{ServesEvent, IsStore}
-use Rattle.kernel_calls.specs.Machine.{answer, answers, next, end_of}
-use Rattle.kernel_calls.specs.Processors.{IsCore, Processors, all_left_by, LetCall, Step, Steps}
-use Rattle.kernel_calls.specs.Translations.{AreRead, ended_by}
+use Rattle.kernel_calls.specs.Gone.{gone_by, gives_back}
+use Rattle.kernel_calls.specs.Kept.{ServesEvent, IsStore, bytes_kept}
+use Rattle.kernel_calls.specs.Machine.{answer, answers, next, end_of, completes}
+use Rattle.kernel_calls.specs.Processors.{IsCore, Processors, all_left_by, IsWalked, LetCall, Step, Steps}
+use Rattle.kernel_calls.specs.Translations.{AreRead, Ends, ended_by}
 use Rattle.kernel_calls.specs.Walked.{finds_event}
+use Rattle.kernel_calls.specs.Written.{WritesItsOwn}
 use Rattle.kernel_calls.specs.declared.calls.Event.{Event}
 use Rattle.kernel_calls.specs.declared.calls.Reply.{Reply}
 use Rattle.kernel_calls.specs.declared.translations.Ended.{Ended}
@@ -19,14 +22,21 @@ use Rattle.kernel_calls.specs.declared.translations.Ended.TheVariants as end
 use Rattle.kernel_calls.specs.declared.turns.Turn.{Turn}
 use Rattle.kernel_calls.specs.declared.turns.Turn.TheVariants as turn
 
--- the core carries out an event, and reports what it ended
-abbrev pub IsCall : View → Event → Reply → Ended → View → Type 0
-IsCall v e r ended w = (ended ≡ ended_by v e)
-    × ((keeps : Processors) → Step v keeps (e ∷ []) (r ∷ []) w (all_left_by ended keeps))
+-- The core carries out an event, and reports what it ended: a step, whatever processors keep. A refusal changes nothing.
+-- Each way that the event doesn't take leads where it led, and the event writes only what it may write
+-- (`Core::step_ending`).
+pub record IsCall (v : View) (e : Event) (r : Reply) (ended : Ended) (w : View) : Type 0 where
+  pub told : ended ≡ ended_by v e
+  pub step : (keeps : Processors) → Step v keeps (e ∷ []) (r ∷ []) w (all_left_by ended keeps)
+  pub kept : completes r ≡ false → w ≡ v
+  pub stay : FramesStay (gone_by v.state e) (memory_of v) (memory_of w)
+  pub loose : gives_back e.call ≡ true → LooseStay (memory_of v) (memory_of w)
+  pub writes : WritesItsOwn v w e
 
--- a processor makes an access by its walk, where that finds a frame for each page; where not, nothing is done
+-- a processor makes an access by its walk, where that finds a frame for each page, with its marks and its bytes; where
+-- not, nothing is done
 abbrev pub IsWalk : View → Event → Option Reply → View → Type 0
-IsWalk v e (Some r) w = (keeps : Processors) → Step v keeps (e ∷ []) (r ∷ []) w keeps
+IsWalk v e (Some r) w = IsWalked v e r w
 IsWalk v e None w = (finds_event v e ≡ false) × (w ≡ v)
 
 -- a store that a processor makes by translations that it keeps: it is the event, whichever these are, and a step of
@@ -35,6 +45,11 @@ pub record IsMade (v : View) (e : Event) (r : Reply) (w : View) : Type 0 where
   pub reply : r ≡ answer v.state e
   pub state : w.state ≡ next v.state e
   pub core : IsCore w
+  -- it writes its bytes in the frames of whatever translations serve it, and marks no word
+  pub bytes : (frames : ℕ → ℕ) → ServesEvent v frames e → w.bytes ≡ bytes_kept frames v.bytes e.call
+  pub directories : w.directories ≡ v.directories
+  pub roles : w.roles ≡ v.roles
+  pub ends : Ends end.Nothing v w
   pub step : (keeps : Processors) (i : ℕ) (frames : ℕ → ℕ) → AreRead v (keeps i) → LetCall (keeps i) e.pid frames e.call
       → Step v keeps (e ∷ []) (r ∷ []) w keeps
 

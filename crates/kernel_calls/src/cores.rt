@@ -29,7 +29,8 @@ ghost use Rattle.kernel_calls.specs.Machine.{answer, next, answers, end_of, comp
 ghost use Rattle.kernel_calls.specs.Decisions.{decision_of, charge_in, charge_after, plan_of_event};
 ghost use Rattle.kernel_calls.specs.declared.translations.Ended.TheVariants as end;
 ghost use Rattle.kernel_calls.specs.Gone.{gone_by, gives_back};
-ghost use Rattle.kernel_calls.specs.Translations.{EndsInOrder, ended_by, Ends};
+ghost use Rattle.kernel_calls.specs.Along.{EndsInOrder};
+ghost use Rattle.kernel_calls.specs.Translations.{ended_by, Ends};
 ghost use Rattle.kernel_calls.specs.Walked.{finds_event, reply_found, bytes_accessed};
 ghost use Rattle.kernel_calls.specs.Kept.{ServesEvent, StoresMarked, bytes_kept};
 ghost use Rattle.kernel_calls.specs.Written.{WritesItsOwn};
@@ -261,6 +262,7 @@ impl Core {
     {
         for (i, event) in events.iter().enumerate() {
             replies[i] = self.step(event);
+            self.stands();
         }
     }
 

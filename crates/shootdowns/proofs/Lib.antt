@@ -1,5 +1,8 @@
 pub mod Accesses
 pub mod Alike
+pub mod CleanStores
+pub mod Dirtied
+pub mod DirtyCells
 pub mod Filled
 pub mod InOrder
 pub mod Kept
@@ -8,6 +11,8 @@ pub mod Played
 pub mod Refilled
 pub mod Rewritten
 pub mod Rows
+pub mod StaleAccesses
+pub mod Standing
 pub mod Stored
 pub mod Swapped
 pub mod Taking
