@@ -23,11 +23,11 @@ use Rattle.kernel_calls.specs.declared.calls.Call.{Call}
 use Rattle.kernel_calls.specs.declared.calls.Event.{Event}
 use Rattle.kernel_calls.specs.declared.calls.Reply.{Reply}
 use Rattle.kernel_calls.specs.declared.translations.Ended.{Ended}
-use Rattle.kernel_calls.proofs.MixedRuns.{one, read_at}
+use Rattle.kernel_calls.proofs.MixedRuns.{read_at}
 use Rattle.kernel_calls.proofs.Runs.{kept-next}
-use Rattle.shootdowns.specs.Windows.{only_takes, Acknowledged, usable, under_way, none, takes_right, LetsWrite, LetStore, IsStaleClean, with_dirty, all_dirty}
+use Rattle.shootdowns.specs.Windows.{Acknowledged, usable, under_way, takes_right, LetsWrite, LetStore, IsStaleClean, with_dirty, all_dirty}
 use Rattle.shootdowns.proofs.Accesses.{frame_at, word_mapped, table_of_word, lazy_zero, role_served, frame_served, takes_served, served_live, goes_frameless, told_planned, frame_is}
-use Rattle.shootdowns.proofs.Alike.{Alike, with_state, FlagsGrow, flags_read, alike_then, again}
+use Rattle.shootdowns.proofs.Alike.{Alike, with_state, FlagsGrow, flags_read, alike_then}
 use Rattle.shootdowns.proofs.Filled.{fill, filled_state, get_filled}
 use Rattle.shootdowns.proofs.Onward.{stands_at}
 use Rattle.shootdowns.proofs.Turned.{Grows, Has}
@@ -365,6 +365,18 @@ module _ (x : Ended) (done : Acknowledged) (e : Event) (r : Reply) (keeps : Proc
           serves1 : Serves (with_state v s1) a.pid (page_number addr) (frames (page_number addr)) Write
           serves1 = dirty_serves v s1 (keeps i) a.pid (page_number addr) (frames (page_number addr)) (g1.taken.read i) l.0 (own_dirty (at_page a.pid (page_number addr)) s)
 
+          takes_of : (z : State) {u : View} → Going x done e r z u keeps v → EachTouched addr size (λ page. Serves (with_state v z) a.pid page (frames page) Write) → Takes v z
+          takes_of z gz served = record {
+            alike = gz.taken.alike;
+            well = gz.taken.well;
+            live = served_live v gz.taken.before z gz.taken.alike gz.taken.well w.bytes frames a (subst (ServesCall (with_state v z) a.pid frames) (sym is) served);
+            pages = each_page addr size (λ page. Serves (with_state v z) a.pid page (frames page) Write) (λ page. takes_stores v.state.spaces (memory_of v) (at_page a.pid page) ≡ true)
+                (λ page k. takes_served v gz.taken.before z gz.taken.alike gz.taken.well a.pid page (frames page) k) served;
+          }
+
+          takes_back : is_live s a.pid ≡ true → EachTouched addr size (λ page. takes_stores v.state.spaces (memory_of v) (at_page a.pid page) ≡ true) → Takes v s
+          takes_back live pages = record { alike = g.taken.alike; well = g.taken.well; live = live; pages = pages }
+
           by : (y : Option ℕ) → second_page addr size ≡ y → IfSome y (λ page. LetsWrite (keeps i) a.pid page (frames page))
               → bytes ≡ bytes_kept frames (unwrap_or (option_map (with_dirty (record w { bytes = with_dirty w a.pid (page_number addr) }) a.pid) y) (with_dirty w a.pid (page_number addr))) (call.Store addr size value)
               → IsOne (under_way x done e r s w) (a ∷ []) (q ∷ []) (under_way x done e r (next s a) (record w { bytes = bytes; state = next (next s a) e })) keeps
@@ -390,18 +402,6 @@ module _ (x : Ended) (done : Acknowledged) (e : Event) (r : Reply) (keeps : Proc
               let t1 : Takes v s1 = record { alike = g1.taken.alike; well = g1.taken.well; live = z.live; pages = z.pages } in
               finish s2 (with_dirty w1 a.pid m) g2 served t
               (same_next v s1 m t1 z (second_of_store m some) ∙ same_next v s (page_number addr) t t1 first_of_store) left
-
-          takes_of : (z : State) {u : View} → Going x done e r z u keeps v → EachTouched addr size (λ page. Serves (with_state v z) a.pid page (frames page) Write) → Takes v z
-          takes_of z gz served = record {
-            alike = gz.taken.alike;
-            well = gz.taken.well;
-            live = served_live v gz.taken.before z gz.taken.alike gz.taken.well w.bytes frames a (subst (ServesCall (with_state v z) a.pid frames) (sym is) served);
-            pages = each_page addr size (λ page. Serves (with_state v z) a.pid page (frames page) Write) (λ page. takes_stores v.state.spaces (memory_of v) (at_page a.pid page) ≡ true)
-                (λ page k. takes_served v gz.taken.before z gz.taken.alike gz.taken.well a.pid page (frames page) k) served;
-          }
-
-          takes_back : is_live s a.pid ≡ true → EachTouched addr size (λ page. takes_stores v.state.spaces (memory_of v) (at_page a.pid page) ≡ true) → Takes v s
-          takes_back live pages = record { alike = g.taken.alike; well = g.taken.well; live = live; pages = pages }
 
   pub one_clean : (s : State) (w v : View) → Going x done e r s w keeps v → (a : Event) (q : Reply) (bytes : List ℕ) → IsStaleClean (keeps i) w a q bytes
       → IsOne (under_way x done e r s w) (a ∷ []) (q ∷ []) (under_way x done e r (next s a) (record w { bytes = bytes; state = next (next s a) e })) keeps
