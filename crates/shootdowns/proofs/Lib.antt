@@ -4,6 +4,7 @@ pub mod CleanStores
 pub mod Dirtied
 pub mod DirtyCells
 pub mod Filled
+pub mod Given
 pub mod InOrder
 pub mod Kept
 pub mod Onward
@@ -19,3 +20,4 @@ pub mod Taking
 pub mod Turned
 pub mod Untouched
 pub mod WalkedIn
+pub mod WorkedSteps

@@ -155,8 +155,8 @@ pub data Step : Moment → Processors → List Event → List Reply → Moment �
       (under_way x done e r (next s a) (record w { bytes = bytes; state = next (next s a) e })) keeps
   stored_clean : {x : Ended} {done : Acknowledged} {w : View} {s : State} {keeps : Processors} {e a : Event} {r q : Reply} {bytes : List ℕ} (i : ℕ)
       → takes_right e.call ≡ true → IsStaleClean (keeps i) w a q bytes
-      → Step (under_way x done e r s w) keeps (a ∷ []) (q ∷ [])
-      (under_way x done e r (next s a) (record w { bytes = bytes; state = next (next s a) e })) keeps
+      → Step (under_way x done e r s w) keeps (a ∷ []) (q ∷ []) (under_way x done e r (next s a)
+      (record w { state = next (next s a) e; bytes = bytes })) keeps
   walked : {x : Ended} {done : Acknowledged} {w u : View} {s : State} {keeps : Processors} {e a : Event} {r q : Reply}
       → only_takes e.call ≡ true → IsWalked w a q u → LeavesFree w u
       → Step (under_way x done e r s w) keeps (a ∷ []) (q ∷ []) (under_way x done e r (next s a) u) keeps

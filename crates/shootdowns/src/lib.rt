@@ -6,6 +6,8 @@
 
 mod laws;
 mod windows;
+mod worked;
 
 pub use laws::shootdowns_make_events;
 pub use windows::window;
+pub use worked::worked_window;
