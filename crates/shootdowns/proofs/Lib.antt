@@ -12,6 +12,7 @@ pub mod Played
 pub mod Refilled
 pub mod Rewritten
 pub mod Rows
+pub mod Shadowed
 pub mod StaleAccesses
 pub mod Standing
 pub mod Stored
@@ -21,3 +22,4 @@ pub mod Turned
 pub mod Untouched
 pub mod WalkedIn
 pub mod WorkedSteps
+pub mod Zeros

@@ -30,7 +30,7 @@ use Rattle.kernel_calls.specs.declared.calls.Call.TheVariants as call
 
 -- ---- An access by what is kept of the memory before
 
-load_leaves : (frames : ℕ → ℕ) (bytes : List ℕ) (c : Call) → IsLoad c → bytes_kept frames bytes c ≡ bytes
+pub load_leaves : (frames : ℕ → ℕ) (bytes : List ℕ) (c : Call) → IsLoad c → bytes_kept frames bytes c ≡ bytes
 load_leaves frames bytes (call.Load addr size) h = refl
 load_leaves frames bytes (call.Store addr size value) h = absurd h
 load_leaves frames bytes (call.Map page write) h = refl

@@ -1,3 +1,4 @@
 pub mod Played
+pub mod Shadows
 pub mod Windows
 pub mod Worked

@@ -1,5 +1,6 @@
 //! Laws of shootdowns. Each is the contract of a function that computes nothing.
 
+ghost use Rattle.shootdowns.specs.Shadows.{UsesComeAfterZeros};
 ghost use Rattle.shootdowns.specs.Windows.{OthersAreRead, OthersEndNothing, ShootdownsMakeEvents};
 ghost use Rattle.shootdowns.specs.Windows.{CleanStoresComeFirst, StaleLoadsComeFirst, StaleStoresComeFirst, WalksComeFirst};
 
@@ -21,4 +22,13 @@ pub fn shootdowns_make_events()
     ensures walks { WalksComeFirst }
     ensures kept { OthersAreRead }
     ensures nothing { OthersEndNothing }
+{}
+
+/// States what others may do beside a store of zeros to lazy pages, if nobody refills and nobody walks until all have
+/// invalidated. So it is where processors walk tables of a kernel's own, which it fills outside windows. The store comes
+/// first in the order, and loads and stores by what was kept before it come after it as they are made, stale ones too.
+/// It computes nothing.
+#[tactic(auto, using(crate::proofs::Shadowed::uses_come_after_zeros))]
+pub fn zeros_leave_others_be()
+    ensures { UsesComeAfterZeros }
 {}

@@ -8,6 +8,6 @@ mod laws;
 mod windows;
 mod worked;
 
-pub use laws::shootdowns_make_events;
+pub use laws::{shootdowns_make_events, zeros_leave_others_be};
 pub use windows::window;
 pub use worked::worked_window;
