@@ -1,7 +1,7 @@
 -- Turns on a core are the events that were taken.
 use Rattle.kernel_calls.proofs.Prelude.{List, [], ◌∷◌, ◌++◌, refl, ap, sym, ◌∙◌, Option, Some, None, arith}
 use Rattle.kernel_calls.proofs.Prelude.{option_to_list, View, IsCore, Processors, AreTurns, Reply, Ended, Turn}
-use Rattle.kernel_calls.specs.Processors.{walked}
+use Rattle.kernel_calls.specs.Processors as step
 use Rattle.kernel_calls.specs.Turns.{IsTurn, event_of, taken, AnswerTurns}
 use Rattle.kernel_calls.proofs.MixedRuns.{IsOne, is_event, is_none, one, all_steps}
 use Rattle.kernel_calls.specs.declared.turns.Turn.TheVariants as turn
@@ -17,7 +17,7 @@ one_turn v w (turn.Call e) (Some r) x core h =
     let o = one (h.step nobody) core (λ i. tt) in
     record { replies = o.replies; state = o.state; core = o.core; kept = λ i. tt }
 one_turn v w (turn.Call e) None x core h = absurd h
-one_turn v w (turn.Walk e) (Some r) x core h = one (walked {keeps = nobody} h.1) core (λ i. tt)
+one_turn v w (turn.Walk e) (Some r) x core h = one (step.walked {keeps = nobody} h.1) core (λ i. tt)
 one_turn v w (turn.Walk e) None x core h = grind (arith, is_none)
 one_turn v w (turn.Store e) (Some r) x core h = is_event v w e r nobody h.1.reply h.1.state h.1.core (λ i. tt)
 one_turn v w (turn.Store e) None x core h = grind (arith, is_none)
