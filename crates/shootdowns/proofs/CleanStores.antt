@@ -1,12 +1,12 @@
 -- Stores by what was kept before dirty was set, while an event that takes at most the right to write isn't in the order.
-use Rattle.std.proofs.Common.{◌≡◌, ◌≢◌, ℕ, arith, true, false, List, [], ◌∷◌, length, refl, ap, sym, ◌∙◌, subst, Option, Some, None, ◌+◌, ◌<◌, ◌≤◌, ◌^◌, unwrap_or, not}
+use Rattle.std.proofs.Common.{◌≡◌, ◌≢◌, ℕ, Bool, arith, true, false, List, [], ◌∷◌, length, refl, ap, sym, ◌∙◌, subst, Option, Some, None, ◌+◌, ◌<◌, ◌≤◌, ◌^◌, unwrap_or, not}
 use Rattle.std.specs.Prelude.{is_some, ◌&&◌, nat_le, if◌then◌else◌, IfSome}
 use Rattle.std.specs.Option.{option_map}
 use Rattle.std.proofs.lemmas.Option.{slice_get_within}
 use Rattle.page_words.specs.Addresses.{slot_number, byte_count, EachTouched, page_number, offset_number, index_number, second_page}
 use Rattle.page_words.proofs.MapLemmas.{same_map}
 use Rattle.page_words.specs.Words.{frame_number, with_flag, is_lazy, is_accessed}
-use Rattle.phys_memory.specs.Bytes.{frame_bytes, word_at, word_place}
+use Rattle.phys_memory.specs.Bytes.{frame_bytes, word_at, word_place, with_word}
 use Rattle.alloc_table.specs.declared.Role.{Role}
 use Rattle.alloc_table.specs.declared.Role.TheVariants.{Page, Reserved}
 use Rattle.address_space.specs.Image.{table_at, page_word, is_lazy_at, takes_stores}
@@ -25,7 +25,7 @@ use Rattle.kernel_calls.specs.declared.calls.Reply.{Reply}
 use Rattle.kernel_calls.specs.declared.translations.Ended.{Ended}
 use Rattle.kernel_calls.proofs.MixedRuns.{read_at}
 use Rattle.kernel_calls.proofs.Runs.{kept-next}
-use Rattle.shootdowns.specs.Windows.{Acknowledged, usable, under_way, takes_right, LetsWrite, LetStore, IsStaleClean, with_dirty, all_dirty}
+use Rattle.shootdowns.specs.Windows.{only_takes, Acknowledged, usable, under_way, takes_right, LetsWrite, LetStore, IsStaleClean, with_dirty, all_dirty}
 use Rattle.shootdowns.proofs.Accesses.{frame_at, word_mapped, table_of_word, lazy_zero, role_served, frame_served, takes_served, served_live, goes_frameless, told_planned, frame_is}
 use Rattle.shootdowns.proofs.Alike.{Alike, with_state, FlagsGrow, flags_read, alike_then}
 use Rattle.shootdowns.proofs.Filled.{fill, filled_state, get_filled}
@@ -226,7 +226,7 @@ module _ (x : Ended) (done : Acknowledged) (e : Event) (r : Reply) (keeps : Proc
     -- in the table that the directory names
     there : byte_list ≡ with_dirty w p page
     there = sym (ap (λ (y : Option ℕ). unwrap_or (option_map (λ table.
-    with_word w.bytes (word_place table (index_number page)) (with_flag (word_at w.bytes (word_place table (index_number page))) 6 true)) y) w.bytes) table.1)
+        with_word w.bytes (word_place table (index_number page)) (with_flag (word_at w.bytes (word_place table (index_number page))) 6 true)) y) w.bytes) table.1)
 
     one_page : Going x done e r (dirty_at (at_page p page) s) (record w { bytes = with_dirty w p page; state = next (dirty_at (at_page p page) s) e }) keeps v
     one_page = subst (λ (b : List ℕ). Going x done e r (dirty_at (at_page p page) s) (record w { bytes = b; state = next (dirty_at (at_page p page) s) e }) keeps v) there going_so

@@ -13,7 +13,7 @@ use Rattle.page_words.specs.Words.{flag, with_flag, frame_number, is_present, is
 use Rattle.page_words.proofs.Flags.{flag-with_flag_same, set_flag_other, set_flag_frame}
 use Rattle.page_words.proofs.MapLemmas.{same_itself, same_or_not}
 use Rattle.page_words.proofs.OptionLemmas.{is_some-map}
-use Rattle.phys_memory.specs.Bytes.{frame_bytes, word_at, word_in, word_place, with_word, with_word_in, IsInside}
+use Rattle.phys_memory.specs.Bytes.{frame_bytes, word_at, word_in, word_place, with_word, with_word_in, with_frame, IsInside}
 use Rattle.phys_memory.proofs.Frames.{word_in-frame, frames-with_word, with_frame-same, with_frame-other, length-frame, word_in_same, word_in_other}
 use Rattle.phys_memory.proofs.Words.{length-with_word}
 use Rattle.alloc_table.specs.declared.Role.{Role}
@@ -63,14 +63,14 @@ mark_own b word = (λ i. if mark_flag b word 10 (omega arith) i then None else S
 mark_end : (b : Bool) (out : ℕ → Bool) (d t directory address : ℕ) (access : Access)
     → end_by out d (mark b t) directory address access ≡ end_by out d t directory address access
 mark_end b out d t directory address access i = first_that_applies (
-(out directory, Err Outside)
-∷ (not (is_present d), not_present address access)
-∷ (out (frame_number d), Err Outside)
-∷ (not (mark_flag b t 0 (omega arith) i), not_present address access)
-∷ (not (is_user d && mark_flag b t 2 (omega arith) i), not_allowed address access)
-∷ (is_write access && not (is_writable d && mark_flag b t 1 (omega arith) i), not_allowed address access)
-∷ (out (mark_frame b t i), Err Outside)
-∷ []) (Ok (mark_frame b t i))
+    (out directory, Err Outside)
+    ∷ (not (is_present d), not_present address access)
+    ∷ (out (frame_number d), Err Outside)
+    ∷ (not (mark_flag b t 0 (omega arith) i), not_present address access)
+    ∷ (not (is_user d && mark_flag b t 2 (omega arith) i), not_allowed address access)
+    ∷ (is_write access && not (is_writable d && mark_flag b t 1 (omega arith) i), not_allowed address access)
+    ∷ (out (mark_frame b t i), Err Outside)
+    ∷ []) (Ok (mark_frame b t i))
 
 -- a table word with dirty set
 dirty_names : (word : ℕ) → is_lazy word ≡ false → is_accessed word ≡ true → NamesPage word → NamesPage (with_flag word 6 true)
@@ -121,7 +121,7 @@ module _ (w : View) (core : IsCore w) (small : length w.bytes ≤ 2 ^ 32) (p pag
     (book : t.book ≡ w.state.book)
     (well : IsWellFormed t)
     (cells : (slot : Slot) → map.get t.spaces slot ≡ option_map (dirt (same slot_order (at_page p page) slot)) (map.get w.state.spaces slot)) where
-  at : Slot
+  abbrev at : Slot
   at = at_page p page
 
   abbrev one : Slot → Bool

@@ -22,10 +22,10 @@ use Rattle.shootdowns.proofs.Onward.{stands_at}
 
 module _ (v : View) (core : IsCore v) (p page : ℕ) (c : Cell) (there : map.get v.state.spaces (at_page p page) ≡ Some c)
     (write : c.write ≡ true) (accessed : c.accessed ≡ true) (dirty : c.dirty ≡ true) where
-  word : (n : ℕ) × (page_word (memory_of v) (at_page p page) ≡ Some n)
+  abbrev word : (n : ℕ) × (page_word (memory_of v) (at_page p page) ≡ Some n)
   word = word_mapped v core (at_page p page) c there
 
-  way : (d : ℕ) × (way_of (memory_of v) (at_page p page) ≡ Some (d, frame_number word.0))
+  abbrev way : (d : ℕ) × (way_of (memory_of v) (at_page p page) ≡ Some (d, frame_number word.0))
   way = way_at v (at_page p page) word.0 word.1
 
   -- it is dirty, so that it isn't lazy
@@ -42,7 +42,7 @@ module _ (v : View) (core : IsCore v) (p page : ℕ) (c : Cell) (there : map.get
   real_at : is_lazy_at (memory_of v) (at_page p page) ≡ false
   real_at = ap (λ (y : Option ℕ). unwrap_or (option_map is_lazy y) false) word.1 ∙ real
 
-  pub given_frame : ℕ
+  abbrev pub given_frame : ℕ
   given_frame = frame_number word.0
 
   found : (access : Access) (a : ℕ) → a < 2 ^ 32 → page_number a ≡ page → walk_of v.bytes way.0 a access ≡ Ok (frame_number word.0)

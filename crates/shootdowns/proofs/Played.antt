@@ -1,5 +1,5 @@
 -- Turns that are walks, in a window.
-use Rattle.std.proofs.Common.{◌≡◌, true, List, [], ◌∷◌, sym, subst, Option, Some, None}
+use Rattle.std.proofs.Common.{◌≡◌, true, false, List, [], ◌∷◌, sym, subst, Option, Some, None}
 use Rattle.process_table.specs.View.{View}
 use Rattle.address_space.specs.Stays.{FramesStay, LooseStay}
 use Rattle.process_table.specs.Image.{memory_of}

@@ -85,7 +85,7 @@ module _ (v : View) (before : IsCore v) (keeps : Processors) where
 
       -- in frames that were no pages no byte changes
       store_beside : (f : ℕ) → NoPage v f → frame_bytes bytes f ≡ frame_bytes u.bytes f
-      store_beside f no = ap (λ b. frame_bytes b f) l.left ∙ kept_beside v before u.state t.like t.core.well_formed u.bytes l.frames a use_served f t.long no
+      store_beside f bare = ap (λ b. frame_bytes b f) l.left ∙ kept_beside v before u.state t.like t.core.well_formed u.bytes l.frames a use_served f t.long bare
 
       store_fixed : (f : ℕ) (r : Role) → slice_get u.roles f ≡ Some r → is_fixed r ≡ true → frame_bytes bytes f ≡ frame_bytes u.bytes f
       store_fixed f r is fixed = store_beside f (λ c page.
@@ -113,8 +113,8 @@ module _ (v : View) (before : IsCore v) (keeps : Processors) where
               pick : (m : ℕ) → page_word (memory_of u) slot ≡ Some m → (frame_at v slot ≡ frame_number m) ⊎ (NoPage v (frame_at v slot) × NoPage v (frame_number m))
                   → frame_bytes bytes (frame_at v slot) ≡ frame_bytes bytes (frame_at u slot)
               pick m at (inl on) = ap (frame_bytes bytes) (on ∙ sym (frame_is u slot m at))
-              pick m at (inr no) =
-                  store_beside (frame_at v slot) no.0 ∙ sym own ∙ cell_bytes u t.core slot c m there at ∙ sym (store_beside (frame_number m) no.1)
+              pick m at (inr bare) =
+                  store_beside (frame_at v slot) bare.0 ∙ sym own ∙ cell_bytes u t.core slot c m there at ∙ sym (store_beside (frame_number m) bare.1)
                   ∙ ap (frame_bytes bytes) (sym (frame_is u slot m at))
 
           by : (z : Option Cell) → map.get u.state.spaces slot ≡ z

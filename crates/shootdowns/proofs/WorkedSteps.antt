@@ -1,19 +1,27 @@
 -- The steps of the worked window.
-use Rattle.std.proofs.Common.{◌≡◌, ℕ, ◌==◌, Bool, true, false, List, [], ◌∷◌, refl, ap, sym, ◌∙◌, subst, inl, inr, zero, suc, Option, Some, None, is_some}
+use Rattle.std.proofs.Common.{◌≡◌, ℕ, ◌==◌, Bool, true, false, List, [], ◌∷◌, refl, ap, sym, ◌∙◌, subst, inl, inr, zero, suc, arith, Option, Some}
 use Rattle.std.specs.Prelude.{◌⊎◌, if◌then◌else◌, slice_get}
 use Rattle.std.specs.Option.{option_map}
 use Rattle.page_words.specs.FiniteMap as map
 use Rattle.page_words.proofs.OptionLemmas.{some_value}
 use Rattle.table_walk.specs.declared.Access.{Access}
 use Rattle.table_walk.specs.declared.Access.TheVariants.{Read, Write}
+use Rattle.address_space.specs.ByWalk.{with_walked}
+use Rattle.address_space.specs.Image.{directory_at}
 use Rattle.address_space.specs.Spaces.{Cell, at_page}
-use Rattle.process_table.specs.State.{State, open_with}
+use Rattle.address_space.specs.Stays.{FramesStay, LooseStay}
+use Rattle.page_words.specs.declared.addresses.Size.TheVariants.{One}
+use Rattle.process_table.specs.Image.{memory_of}
+use Rattle.process_table.specs.State.{State, is_live, open_with}
 use Rattle.process_table.specs.View.{View}
+use Rattle.kernel_calls.specs.Gone.{gone_by}
 use Rattle.kernel_calls.specs.Kept.{reply_kept, bytes_kept}
 use Rattle.kernel_calls.specs.Machine.{answer, answers, next}
 use Rattle.kernel_calls.specs.Processors.{IsCore, Processors, with_kept, LetsThrough, IsLoaded, IsMarked}
-use Rattle.kernel_calls.specs.Translations.{Kept, translation, ended_by, left_by, is_invalidated}
+use Rattle.kernel_calls.specs.Translations.{Kept, translation, Ends, ended_by, left_by}
+use Rattle.kernel_calls.specs.declared.calls.Call.TheVariants as call
 use Rattle.kernel_calls.specs.declared.calls.Event.{Event}
+use Rattle.kernel_calls.proofs.TurnSteps.{home_live}
 use Rattle.kernel_calls.specs.declared.calls.Reply.{Reply}
 use Rattle.kernel_calls.specs.declared.calls.Reply.TheVariants as reply
 use Rattle.kernel_calls.specs.declared.translations.Ended.{Ended}
@@ -39,7 +47,7 @@ module _ (v w x : View) (r : Reply) (core : IsCore v) (state : v.state ≡ next 
   there : map.get v.state.spaces (at_page 0 0x40000) ≡ Some cell_there.0
   there = ap (λ (s : State). map.get s.spaces (at_page 0 0x40000)) state ∙ cell_there.1
 
-  frame : ℕ
+  abbrev frame : ℕ
   frame = given_frame v core 0 0x40000 cell_there.0 there (flag_there (λ c. c.write) refl) (flag_there (λ c. c.accessed) refl) (flag_there (λ c. c.dirty) refl)
 
   abbrev kept : Kept
@@ -114,3 +122,53 @@ module _ (v w x : View) (r : Reply) (core : IsCore v) (state : v.state ≡ next 
         (subst (λ (y : Reply). Steps (settled end.Nothing nobody v) none_kept (load_it ∷ store_it ∷ unmap_it ∷ []) (q ∷ reply.Done ∷ y ∷ [])
         (settled end.Nothing nobody (record x { state = next (next v.state store_it) unmap_it; bytes = bytes })) last) replied steps);
   }
+
+-- what the calls of a core that boots ensure, with the number of its root
+pub record Called (o v w x : View) (p : ℕ) (r : Reply) (y : Ended) : Type 0 where
+  pub opening : o.state ≡ open_with 16
+  pub stored : v.state ≡ next o.state (record { cpu = 0; pid = p; call = call.Store 0x40000000 One 7 })
+  pub before : IsCore v
+  pub reply : r ≡ answer v.state (record { cpu = 0; pid = p; call = call.Unmap 0x40000 })
+  pub ended : y ≡ ended_by v (record { cpu = 0; pid = p; call = call.Unmap 0x40000 })
+  pub state : w.state ≡ next v.state (record { cpu = 0; pid = p; call = call.Unmap 0x40000 })
+  pub ends : Ends y v w
+  pub stay : FramesStay (gone_by v.state (record { cpu = 0; pid = p; call = call.Unmap 0x40000 })) (memory_of v) (memory_of w)
+  pub loose : LooseStay (memory_of v) (memory_of w)
+  pub later : IsCore w
+  pub same : x.state ≡ w.state
+  pub none : Ends end.Nothing w x
+  pub directories : x.directories ≡ w.directories
+  pub roles : x.roles ≡ w.roles
+  pub bytes : (directory : ℕ) → directory_at (memory_of w) p ≡ Some directory → x.bytes ≡ with_walked w.bytes directory 0x40000 true
+  pub last : IsCore x
+
+by_zero : (o v w x : View) (r : Reply) (y : Ended) → Called o v w x 0 r y → WorkedWindow x
+by_zero o v w x r y k =
+    let opened : v.state ≡ next (open_with 16) first_store = k.stored ∙ ap (λ (s : State). next s first_store) k.opening in
+    let live : is_live w.state 0 ≡ true = ap (λ (s : State). is_live s 0) (k.state ∙ ap (λ (s : State). next s unmap_it) opened) in
+    let d = home_live w k.later 0 live in
+    worked v w x r k.before opened
+    (record {
+      carried = record { reply = k.reply; state = k.state; ends = subst (λ (z : Ended). Ends z v w) k.ended k.ends; core = k.later };
+      stay = k.stay;
+      loose = λ _. k.loose;
+    })
+    (record {
+      pid = 0;
+      page = 0x40000;
+      walked = true;
+      user = (omega arith, omega arith);
+      directory = d.0;
+      live = d.1;
+      left = λ _. record {
+        bytes = k.bytes d.0 d.1;
+        directories = k.directories;
+        roles = k.roles;
+        state = k.same;
+        ends = k.none;
+        core = k.last;
+      };
+    })
+
+pub worked_by : (o v w x : View) (p : ℕ) (r : Reply) (y : Ended) → p ≡ 0 → Called o v w x p r y → WorkedWindow x
+worked_by o v w x p r y zero_is = subst (λ n. Called o v w x n r y → WorkedWindow x) (sym zero_is) (by_zero o v w x r y)

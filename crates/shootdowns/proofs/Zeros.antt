@@ -166,13 +166,13 @@ module _ (v w : View) (e : Event) (r : Reply) (core : IsCore v) (b : Begins v e 
   gone_lazy slot f h = by (completes (answer v.state e)) refl
       (sym (ap (λ c. if completes (answer v.state e) then gone_of_call e.pid c slot f else false) is) ∙ h)
     where
-      second : (y : Option ℕ) → lazy_second e.pid y slot f ≡ true → f ≡ 0
-      second None k = cc
-      second (Some page) k = zero_of (is_slot e.pid page slot) k
-
       zero_of : (x : Bool) → (x && (f == 0)) ≡ true → f ≡ 0
       zero_of true k = eqb-true f 0 k
       zero_of false k = cc
+
+      second : (y : Option ℕ) → lazy_second e.pid y slot f ≡ true → f ≡ 0
+      second None k = cc
+      second (Some page) k = zero_of (is_slot e.pid page slot) k
 
       either : (x y : Bool) → (x || y) ≡ true → (x ≡ true) ⊎ (y ≡ true)
       either true y k = inl refl
@@ -207,15 +207,15 @@ module _ (v w : View) (e : Event) (r : Reply) (core : IsCore v) (b : Begins v e 
           let m = word_stays slot n at stays in
           cell_bytes w later slot c m.0 there m.1 ∙ ap (frame_bytes w.bytes) m.2
       by n at d true goes =
-          let zero = gone_lazy slot (frame_number n) goes in
-          let old : HasZeros v.state.spaces slot = (d.0, d.1, cell_bytes v core slot d.0 n d.1 at ∙ ap (frame_bytes v.bytes) zero.0 ∙ core.image.memory.sound.zero_frame) in
+          let naught = gone_lazy slot (frame_number n) goes in
+          let old : HasZeros v.state.spaces slot = (d.0, d.1, cell_bytes v core slot d.0 n d.1 at ∙ ap (frame_bytes v.bytes) naught.0 ∙ core.image.memory.sound.zero_frame) in
           let new = zero_bytes (byte_count size) addr e.pid v.state.spaces slot (λ i l. each_byte addr size (λ page. HasZeros v.state.spaces (at_page e.pid page)) touched_zeros i l) old in
           let state : w.state ≡ record v.state { spaces = all_stored v.state.spaces e.pid addr (bytes_of (byte_count size) 0) } =
-          b.carried.state ∙ next-goes v.state e zero.1 ∙ ap (after v.state e.pid) is
+          b.carried.state ∙ next-goes v.state e naught.1 ∙ ap (after v.state e.pid) is
           ∙ (λ i. record v.state { spaces = all_stored (with_touched-same v.state.spaces e.pid addr size (each_page addr size (λ page. Has v.state.spaces (at_page e.pid page)) (IsThere v.state.spaces e.pid) (λ page h. ap is_some h.1) has_pages) i) e.pid addr (bytes_of (byte_count size) 0) }) in
           let same : Some new.0 ≡ Some c = sym new.1 ∙ sym (ap (λ (t : State). map.get t.spaces slot) state) ∙ there in
           let q : new.0 ≡ c = cc in
-          ap (λ (k : Cell). k.bytes) (sym q) ∙ new.2 ∙ sym later.image.memory.sound.zero_frame ∙ ap (frame_bytes w.bytes) (sym zero.0)
+          ap (λ (k : Cell). k.bytes) (sym q) ∙ new.2 ∙ sym later.image.memory.sound.zero_frame ∙ ap (frame_bytes w.bytes) (sym naught.0)
 
   -- a page's frame stays that of a slot
   module _ (f c : ℕ) (role : slice_get v.roles f ≡ Some (Page c)) where
@@ -234,13 +234,13 @@ module _ (v w : View) (e : Event) (r : Reply) (core : IsCore v) (b : Begins v e 
     still_on =
         let n = from_then (own_frame 2) (page_word (memory_of v) slot_on.0) f slot_on.1 in
         let own = owned n.0 f n.2 in
-        let m = word_stays slot_on.0 n.0 n.1 (stays (gone_by v.state e slot_on.0 (frame_number n.0)) refl own.1) in
+        let m = word_stays slot_on.0 n.0 n.1 (stays n.0 (gone_by v.state e slot_on.0 (frame_number n.0)) refl own.1) in
         let same : frame_number m.0 ≡ f = m.2 ∙ own.1 in
         ap (option_and_then (own_frame 2)) m.1 ∙ own_is m.0 (real m.0 m.1 (is_lazy m.0) refl same) ∙ ap Some same
       where
-        stays : {n : ℕ} (q : Bool) → gone_by v.state e slot_on.0 (frame_number n) ≡ q → frame_number n ≡ f → gone_by v.state e slot_on.0 (frame_number n) ≡ false
-        stays false h on = h
-        stays true h on = absurd (some_zero (sym on ∙ (gone_lazy slot_on.0 _ h).0))
+        stays : (n : ℕ) (q : Bool) → gone_by v.state e slot_on.0 (frame_number n) ≡ q → frame_number n ≡ f → gone_by v.state e slot_on.0 (frame_number n) ≡ false
+        stays n false h on = h
+        stays n true h on = absurd (some_zero (sym on ∙ (gone_lazy slot_on.0 (frame_number n) h).0))
 
         real : (m : ℕ) → page_word (memory_of w) slot_on.0 ≡ Some m → (q : Bool) → is_lazy m ≡ q → frame_number m ≡ f → is_lazy m ≡ false
         real m at false h on = h
@@ -272,7 +272,7 @@ module _ (v w : View) (e : Event) (r : Reply) (core : IsCore v) (b : Begins v e 
       by c at d n was true goes = inr (
         λ p role. zero_no_page v core p (sym (ap (slice_get v.roles) (frame_is v slot n was ∙ (gone_lazy slot (frame_number n) goes).0)) ∙ role),
         λ p role. (
-            let zero = (gone_lazy slot (frame_number n) goes).0 in
+            let naught = (gone_lazy slot (frame_number n) goes).0 in
             let other = slot_on (frame_number m) p role in
             let on = still_on (frame_number m) p role in
             let here = stands_at w later slot c m at there in
@@ -281,7 +281,7 @@ module _ (v w : View) (e : Event) (r : Reply) (core : IsCore v) (b : Begins v e 
             (here.group other.0).1 (subst (λ q. MatchBool q (other.0 ≡ slot) (page_frame (memory_of w) other.0 ≡ Some (frame_number m))) (sym real) on) in
             let before = stands_at v core slot d.0 n d.1 was in
             let one = (before.group other.0).0 (sym (ap (λ g. set.contains g other.0) d.2.holders) ∙ inside) in
-            let was_lazy = lazy_by n was zero (is_lazy n) refl in
+            let was_lazy = lazy_by n was naught (is_lazy n) refl in
             let itself : other.0 ≡ slot = subst (λ q. MatchBool q (other.0 ≡ slot) (page_frame (memory_of v) other.0 ≡ Some (frame_number n))) was_lazy one in
             let framed : page_frame (memory_of v) slot ≡ Some (frame_number m) = sym (ap (page_frame (memory_of v)) itself) ∙ other.1 in
             let none : page_frame (memory_of v) slot ≡ None = ap (option_and_then (own_frame 2)) was ∙ (λ i. if was_lazy i then None else Some (frame_number n)) in
@@ -294,7 +294,7 @@ module _ (v w : View) (e : Event) (r : Reply) (core : IsCore v) (b : Begins v e 
           real_word p role true h = absurd (zero_no_page v core p (sym (ap (slice_get v.roles) (lazy_zero w later slot m there h)) ∙ role))
 
           lazy_by : (n : ℕ) → page_word (memory_of v) slot ≡ Some n → frame_number n ≡ 0 → (q : Bool) → is_lazy n ≡ q → is_lazy n ≡ true
-          lazy_by n was zero true h = h
-          lazy_by n was zero false h = absurd (
+          lazy_by n was naught true h = h
+          lazy_by n was naught false h = absurd (
               let page = core.image.memory.sound.pages slot (frame_number n) (ap (option_and_then (own_frame 2)) was ∙ own_is n h) in
-              zero_no_page v core page.0 (sym (ap (slice_get v.roles) zero) ∙ page.1))
+              zero_no_page v core page.0 (sym (ap (slice_get v.roles) naught) ∙ page.1))
