@@ -1,5 +1,5 @@
--- Windows in which nobody refills and nobody walks: what is kept is then used beside an event that gives lazy pages
--- frames, too. So it is where processors walk tables of the kernel's own, which it fills outside windows.
+-- Windows in which nobody refills and nobody walks: what is kept is then used also while an event gives lazy pages
+-- frames. So it is where processors walk tables of the kernel's own, which it fills outside windows.
 use Rattle.std.specs.Prelude.{◌≡◌, ℕ, true, List, [], ◌∷◌}
 use Rattle.page_words.specs.Addresses.{EachTouched}
 use Rattle.address_space.specs.Image.{is_lazy_at}
@@ -28,14 +28,14 @@ pub data Uses (keeps : Processors) : View → List Event → List Reply → View
       → IsStale (keeps i) u a q bytes → Uses keeps (record u { bytes = bytes; state = next u.state a }) events replies x
       → Uses keeps u (a ∷ events) (q ∷ replies) x
 
--- what such accesses come to after an event
+-- replies and values are the answers to such accesses after an event, and memory is a core's in the state after them
 pub record ComeAfter (w : View) (events : List Event) (told : List Reply) (x : View) : Type 0 where
   pub replies : told ≡ answers w.state events
   pub state : x.state ≡ end_of w.state events
   pub core : IsCore x
 
--- Where all that was kept was read before the event, and the event stores zeros to lazy pages, it comes first in the
--- order, and then the accesses as they are made: those by what it ended read the zeros that the pages have.
+-- Suppose that walks read all that was kept before the event, and that the event stores zeros to lazy pages. It comes
+-- first in the order, and then the accesses as they are made. Those by what it ended read the zeros that the pages have.
 abbrev pub UsesComeAfterZeros : Type 0
 UsesComeAfterZeros = (v w x : View) (keeps : Processors) (e : Event) (r : Reply) (events : List Event) (replies : List Reply) → IsCore v
     → AllAreRead v keeps → Begins v e r w → StoresZeros v e.pid e.call → Uses keeps w events replies x → ComeAfter w events replies x

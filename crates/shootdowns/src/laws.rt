@@ -24,7 +24,7 @@ pub fn shootdowns_make_events()
     ensures nothing { OthersEndNothing }
 {}
 
-/// States what others may do beside a store of zeros to lazy pages, if nobody refills and nobody walks until all have
+/// States what others may do during a store of zeros to lazy pages, if nobody refills and nobody walks until all have
 /// invalidated. So it is where processors walk tables of a kernel's own, which it fills outside windows. The store comes
 /// first in the order, and loads and stores by what was kept before it come after it as they are made, stale ones too.
 /// It computes nothing.
