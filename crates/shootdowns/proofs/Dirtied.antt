@@ -2,7 +2,7 @@
 use Rattle.std.proofs.Common.{◌≡◌, ◌≢◌, ℕ, ◌<◌, ◌≤◌, ◌^◌, Bool, true, false, List, [], ◌∷◌, length, refl, ap, sym, ◌∙◌, subst, arith, inl, inr, Option, Some, None}
 use Rattle.std.proofs.lemmas.Bool.{cases_eq}
 use Rattle.std.proofs.lemmas.Option.{slice_get_within}
-use Rattle.std.specs.Prelude.{◌↔◌, ◌⊎◌, ◌+◌, ◌*◌, ◌&&◌, not, if◌then◌else◌, nat_le, nat_lt, IsTrue, MatchBool, is_some, slice_get, sum_by, Ok, Err, Result}
+use Rattle.std.specs.Prelude.{◌↔◌, ◌⊎◌, ◌*◌, ◌&&◌, not, if◌then◌else◌, nat_le, nat_lt, IsTrue, MatchBool, is_some, slice_get, sum_by, Ok, Err}
 use Rattle.std.specs.Option.{option_and_then, option_map, unwrap_or}
 use Rattle.std.specs.List.{range_with_len}
 use Rattle.page_words.specs.Addresses.{page_number, slot_number, index_number}
@@ -17,9 +17,8 @@ use Rattle.phys_memory.specs.Bytes.{frame_bytes, word_at, word_in, word_place, w
 use Rattle.phys_memory.proofs.Frames.{word_in-frame, frames-with_word, with_frame-same, with_frame-other, length-frame, word_in_same, word_in_other}
 use Rattle.phys_memory.proofs.Words.{length-with_word}
 use Rattle.alloc_table.specs.declared.Role.{Role}
-use Rattle.alloc_table.specs.declared.Role.TheVariants.{Reserved, Free, Directory, Table, Page}
+use Rattle.alloc_table.specs.declared.Role.TheVariants.{Reserved, Directory, Table, Page}
 use Rattle.table_walk.specs.declared.Access.{Access}
-use Rattle.table_walk.specs.declared.WalkEnd.{WalkEnd}
 use Rattle.table_walk.specs.declared.WalkEnd.TheVariants.{Outside}
 use Rattle.table_walk.specs.Walk.{walk_of, first_that_applies, is_outside, is_write, not_present, not_allowed, dir_word, table_word}
 use Rattle.address_space.specs.Image as memory
@@ -30,7 +29,7 @@ use Rattle.address_space.specs.Stays.{way_of, WaysAgree}
 use Rattle.address_space.specs.Walks.{WalksAgree, WalkEndsBy, FindsBytes, lacks_right}
 use Rattle.address_space.proofs.costs.AccessCosts.{cost-same}
 use Rattle.address_space.proofs.standing.FramesStand.{way_parts}
-use Rattle.address_space.proofs.standing.Restored.{from_map, from_then}
+use Rattle.address_space.proofs.standing.Restored.{from_map}
 use Rattle.address_space.proofs.standing.TablesStand.{own_is}
 use Rattle.process_table.specs.Image.{IsSoundImage, Account, IsCharge, image_of, memory_of, account_of, quota_from}
 use Rattle.process_table.specs.State.{State}

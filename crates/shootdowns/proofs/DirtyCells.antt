@@ -1,8 +1,8 @@
 -- Dirty set in a slot's cell: what it leaves of a state, of an event that takes the right to write, and of a store.
 use Rattle.std.proofs.Common.{◌≡◌, ℕ, zero, suc, ◌+◌, ◌/◌, ◌%◌, ◌<◌, Bool, true, false, cond, List, [], ◌∷◌, refl, ap, sym, ◌∙◌, subst, arith, inl, inr, Option, Some, None, unwrap_or, is_some}
-use Rattle.std.specs.Prelude.{◌⊎◌, if◌then◌else◌, IsTrue}
+use Rattle.std.specs.Prelude.{◌⊎◌, if◌then◌else◌}
 use Rattle.std.specs.Option.{option_map}
-use Rattle.page_words.specs.Addresses.{page_number, offset_number, byte_count, touched, EachTouched}
+use Rattle.page_words.specs.Addresses.{offset_number, byte_count, EachTouched}
 use Rattle.page_words.specs.declared.addresses.Size.{Size}
 use Rattle.page_words.specs.FiniteMap as map
 use Rattle.page_words.specs.FiniteMap.{same}
@@ -263,8 +263,10 @@ there_is S p page h = ap is_some h.1
 pub after_store_dirty : (s : State) (p addr : ℕ) (size : Size) (value i : ℕ) → i < byte_count size → EachTouched addr size (λ page. Has s.spaces (at_page p page))
     → after (dirty_at (slot_at p (addr + i)) s) p (call.Store addr size value) ≡ after s p (call.Store addr size value)
 after_store_dirty s p addr size value i l pages =
-    (λ j. record s { spaces = all_stored (with_touched-same (dirty_in at S) p addr size (each_page addr size (λ page. Has S (at_page p page)) (IsThere (dirty_in at S) p)
-    (λ page h. there_is (dirty_in at S) p page (has_then S (dirty_in at S) (at_page p page) (grows_dirty at S) h)) pages) j) p addr (bytes_of (byte_count size) value) })
+    (λ j. record s {
+      spaces = all_stored (with_touched-same (dirty_in at S) p addr size (each_page addr size (λ page. Has S (at_page p page)) (IsThere (dirty_in at S) p)
+          (λ page h. there_is (dirty_in at S) p page (has_then S (dirty_in at S) (at_page p page) (grows_dirty at S) h)) pages) j) p addr (bytes_of (byte_count size) value);
+    })
     ∙ ap (λ (T : Spaces). record s { spaces = T })
     (sym (all_dirty at (byte_count size) value addr p S each)
     ∙ same_dirty at (all_stored S p addr (bytes_of (byte_count size) value)) dirty.0 dirty.1 dirty.2)

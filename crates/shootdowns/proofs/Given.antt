@@ -1,5 +1,5 @@
 -- A page of a core whose cell has both flags: the translation that a processor keeps of it.
-use Rattle.std.proofs.Common.{◌≡◌, ℕ, ◌<◌, ◌^◌, true, false, refl, ap, sym, ◌∙◌, subst, arith, Bool, Option, Some, unwrap_or, Ok}
+use Rattle.std.proofs.Common.{◌≡◌, ℕ, ◌<◌, ◌^◌, true, false, refl, ap, sym, ◌∙◌, arith, Bool, Option, Some, unwrap_or, Ok}
 use Rattle.std.specs.Option.{option_map}
 use Rattle.page_words.specs.Addresses.{page_number}
 use Rattle.page_words.specs.FiniteMap as map
@@ -8,7 +8,7 @@ use Rattle.table_walk.specs.declared.Access.{Access}
 use Rattle.table_walk.specs.declared.Access.TheVariants.{Read, Write}
 use Rattle.table_walk.specs.Walk.{walk_of}
 use Rattle.address_space.specs.Image.{page_word, is_lazy_at}
-use Rattle.address_space.specs.Spaces.{Slot, Cell, at_page, slot_at}
+use Rattle.address_space.specs.Spaces.{Cell, at_page}
 use Rattle.address_space.specs.Stays.{way_of}
 use Rattle.address_space.proofs.standing.FramesStand.{way_parts}
 use Rattle.process_table.specs.Image.{memory_of}
@@ -49,8 +49,8 @@ module _ (v : View) (core : IsCore v) (p page : ℕ) (c : Cell) (there : map.get
   found access a small here = walk_finds v core.image core.walks core.ways p way.0 a (frame_number word.0) access small
       (ap (λ n. way_of (memory_of v) (at_page p n)) here ∙ way.1)
       (λ _. (
-          ap (λ n. has (λ (k : Cell). k.write) (map.get v.state.spaces (at_page p n))) here ∙ ap (has (λ (k : Cell). k.write)) there ∙ write,
-          ap (λ n. is_lazy_at (memory_of v) (at_page p n)) here ∙ real_at,
+        ap (λ n. has (λ (k : Cell). k.write) (map.get v.state.spaces (at_page p n))) here ∙ ap (has (λ (k : Cell). k.write)) there ∙ write,
+        ap (λ n. is_lazy_at (memory_of v) (at_page p n)) here ∙ real_at,
       ))
 
   pub given : IsGiven v (record { slot = at_page p page; frame = given_frame; write = true; dirty = true })

@@ -1,6 +1,6 @@
 -- Steps of windows are events in an order.
 use Rattle.std.proofs.Common.{◌≡◌, ◌≢◌, ℕ, arith, true, false, List, [], ◌∷◌, ◌++◌, length, refl, ap, sym, ◌∙◌, subst, Option, Some, None}
-use Rattle.std.specs.Prelude.{◌⊎◌, ◌*◌, is_some, slice_get, ◌+◌}
+use Rattle.std.specs.Prelude.{◌⊎◌, ◌*◌, is_some, slice_get}
 use Rattle.std.specs.Option.{option_map}
 use Rattle.std.proofs.lemmas.Option.{slice_get_within}
 use Rattle.page_words.specs.Addresses.{slot_number}
@@ -18,7 +18,7 @@ use Rattle.process_table.specs.Image.{memory_of}
 use Rattle.process_table.specs.State.{State}
 use Rattle.process_table.specs.View.{View}
 use Rattle.process_table.specs.WellFormed.{IsWellFormed}
-use Rattle.kernel_calls.specs.Machine.{answers, next, end_of, after}
+use Rattle.kernel_calls.specs.Machine.{answers, next, end_of}
 use Rattle.kernel_calls.specs.Processors.{IsCore, Processors, with_kept, AllAreRead, AreAmong, IsWalked, IsMarked}
 use Rattle.kernel_calls.specs.Translations.{Kept, IsRead, AreRead, Ends, ended_by, left_by}
 use Rattle.kernel_calls.specs.declared.calls.Event.{Event}

@@ -1,5 +1,5 @@
 -- Uses of what was kept come after a store of zeros to lazy pages.
-use Rattle.std.proofs.Common.{◌≡◌, ℕ, ◌*◌, true, false, List, [], ◌∷◌, length, refl, ap, sym, ◌∙◌, arith, inl, inr, Option, Some, None}
+use Rattle.std.proofs.Common.{◌≡◌, ℕ, ◌*◌, true, false, List, ◌∷◌, length, refl, ap, sym, ◌∙◌, arith, inl, inr, Option, Some, None}
 use Rattle.std.specs.Prelude.{◌⊎◌, slice_get}
 use Rattle.std.specs.Option.{option_map}
 use Rattle.page_words.specs.FiniteMap as map
@@ -18,7 +18,7 @@ use Rattle.quota_tree.specs.Book.{Book, Member}
 use Rattle.process_table.specs.State.{State}
 use Rattle.process_table.specs.View.{View}
 use Rattle.process_table.specs.WellFormed.{IsWellFormed}
-use Rattle.kernel_calls.specs.Kept.{ServesEvent, reply_kept, bytes_kept}
+use Rattle.kernel_calls.specs.Kept.{ServesEvent}
 use Rattle.kernel_calls.specs.Machine.{answer, answers, next, end_of}
 use Rattle.kernel_calls.specs.Processors.{IsCore, Processors, AllAreRead, IsLoaded}
 use Rattle.kernel_calls.specs.declared.calls.Call.{Call}
@@ -31,7 +31,7 @@ use Rattle.shootdowns.specs.Windows.{Begins, IsStale}
 use Rattle.shootdowns.specs.Shadows.{StoresZeros, Uses, none, loaded, stored, ComeAfter, UsesComeAfterZeros}
 use Rattle.shootdowns.proofs.Accesses.{frame_at, frame_is, word_mapped, kept_answer, kept_next, kept_beside, kept_long}
 use Rattle.shootdowns.proofs.Alike.{Alike, with_state, FlagsGrow, flags_read, alike_then, alike_filled, again}
-use Rattle.shootdowns.proofs.Filled.{fill, filled, filled_state, get_filled}
+use Rattle.shootdowns.proofs.Filled.{fill, filled_state, get_filled}
 use Rattle.shootdowns.proofs.Rewritten.{is_fixed, rewritten, word_same}
 use Rattle.shootdowns.proofs.StaleAccesses.{load_leaves}
 use Rattle.shootdowns.proofs.Taking.{cell_bytes}

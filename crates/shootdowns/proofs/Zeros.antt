@@ -1,5 +1,5 @@
 -- Uses of what was kept, beside a store of zeros to lazy pages.
-use Rattle.std.proofs.Common.{◌≡◌, ◌≢◌, ℕ, zero, suc, ◌+◌, ◌*◌, ◌<◌, Bool, true, false, cond, ◌&&◌, ◌||◌, ◌==◌, List, [], ◌∷◌, length, refl, ap, sym, ◌∙◌, subst, arith, inl, inr, Option, Some, None, unwrap_or, is_some, eqb-true}
+use Rattle.std.proofs.Common.{◌≡◌, ◌≢◌, ℕ, zero, suc, ◌+◌, ◌<◌, Bool, true, false, cond, ◌&&◌, ◌||◌, ◌==◌, List, [], ◌∷◌, refl, ap, sym, ◌∙◌, subst, arith, inl, inr, Option, Some, None, unwrap_or, is_some, eqb-true}
 use Rattle.std.specs.Prelude.{◌⊎◌, if◌then◌else◌, MatchBool, slice_get, slice_set}
 use Rattle.std.specs.Option.{option_map, option_and_then}
 use Rattle.std.proofs.lemmas.List.{set-get_or, get_or-replicate}
@@ -10,13 +10,13 @@ use Rattle.page_words.specs.FiniteMap as map
 use Rattle.page_words.specs.FiniteMap.{same}
 use Rattle.page_words.specs.FiniteSet as set
 use Rattle.page_words.specs.Words.{frame_number, is_lazy}
-use Rattle.page_words.proofs.MapLemmas.{same_or_not, get-insert, get-map_values}
+use Rattle.page_words.proofs.MapLemmas.{get-insert, get-map_values}
 use Rattle.phys_memory.specs.Bytes.{frame_bytes}
 use Rattle.alloc_table.specs.declared.Role.{Role}
 use Rattle.alloc_table.specs.declared.Role.TheVariants.{Reserved, Page}
-use Rattle.address_space.specs.Image.{page_word, page_frame, is_lazy_at, CellStands}
+use Rattle.address_space.specs.Image.{page_word, page_frame, is_lazy_at}
 use Rattle.address_space.specs.ImageWords.{own_frame}
-use Rattle.address_space.specs.Spaces.{Slot, slot_order, Cell, Spaces, at_page, slot_at, zeros, cell_or_fresh, fresh, with_bytes, set_bytes, write_at, stored, all_stored, bytes_of, is_slot}
+use Rattle.address_space.specs.Spaces.{Slot, slot_order, Cell, Spaces, at_page, slot_at, zeros, fresh, with_bytes, set_bytes, write_at, stored, all_stored, bytes_of, is_slot}
 use Rattle.address_space.specs.Stays.{of_lazy}
 use Rattle.address_space.proofs.costs.MapFirst.{IsThere, with_touched-same}
 use Rattle.address_space.proofs.standing.FramesStand.{way_parts}
@@ -27,7 +27,6 @@ use Rattle.address_space.proofs.steps.Stores.{byte_is_write}
 use Rattle.process_table.specs.Image.{memory_of}
 use Rattle.process_table.specs.State.{State}
 use Rattle.process_table.specs.View.{View}
-use Rattle.process_table.specs.WellFormed.{IsWellFormed}
 use Rattle.fault_handler.specs.Fills.{lazy_touched, lazy_second}
 use Rattle.fault_handler.proofs.Settled.{each_page}
 use Rattle.kernel_calls.specs.Gone.{gone_by, gone_of_call}

@@ -5,7 +5,6 @@ use Rattle.process_table.specs.State.{open_with}
 use Rattle.process_table.specs.View.{View}
 use Rattle.kernel_calls.specs.Machine.{next}
 use Rattle.kernel_calls.specs.Processors.{Processors, IsMarked, IsLoaded}
-use Rattle.kernel_calls.specs.Translations.{ended_by}
 use Rattle.kernel_calls.specs.declared.calls.Call.{Call}
 use Rattle.kernel_calls.specs.declared.calls.Call.TheVariants as call
 use Rattle.kernel_calls.specs.declared.calls.Event.{Event}
