@@ -292,16 +292,6 @@ module _ (x : Ended) (done : Acknowledged) (e : Event) (r : Reply) (keeps : Proc
       within : byte < byte_count size
       same : page_number (addr + byte) ≡ n
 
-    takes_dirty : (v : View) (z : State) (t : Takes v z) (n : ℕ) (c : Cell) → map.get z.spaces (at_page a.pid n) ≡ Some c → c.accessed ≡ true → Takes v (dirty_at (at_page a.pid n) z)
-    takes_dirty v z t n c there accessed = record {
-      alike = alike_then v.state z (dirty_at (at_page a.pid n) z) t.alike
-          (let grows = grows_dirty (at_page a.pid n) z.spaces in
-          record { book = refl; cells = λ slot c there. (let d = grows.cells slot c there in (d.0, d.1, d.2)); back = grows.back });
-      well = well_dirty (at_page a.pid n) z c there accessed t.well;
-      live = t.live;
-      pages = t.pages;
-    }
-
     -- dirty of a page of the store is set by it
     same_next : (v : View) (z : State) (n : ℕ) → Takes v z → Takes v (dirty_at (at_page a.pid n) z) → IsOfStore n → next (dirty_at (at_page a.pid n) z) a ≡ next z a
     same_next v z n t u o =
