@@ -2,7 +2,7 @@
 
 use crate::common::same;
 use kernel_calls::{Call, Core, Ended, Event, Page, Pid, Reply, Size, Turn, Vaddr};
-use shootdowns::window;
+use shootdowns::{window, worked_window};
 use std::process::Abort;
 use std::test::Fail;
 
@@ -41,5 +41,16 @@ fn a_window_leaves_walks_of_other_pages(rt: HostRuntime) -> Result<(), Fail> {
     same(&rt, &made, &(Reply::Done, Ended::Page { pid, page }));
     same(&rt, &told, &[Some(Reply::Value(8)), None]);
     same(&rt, &ends, &[Ended::Nothing; 2]);
+    Ok(())
+}
+
+/// After the worked window its page is no longer mapped: a load maps it again, with zeros.
+#[test]
+fn a_worked_window_unmaps_its_page(rt: HostRuntime) -> Result<(), Fail> {
+    let mut core = worked_window(rt.alloc())?;
+    let pid = Pid::new(0).expect(&rt, "0 is below 64");
+    let (addr, size) = (FIRST, Size::Four);
+    let load = event(pid, Call::Load { addr, size });
+    same(&rt, &core.step(&load), &Reply::Value(0));
     Ok(())
 }
