@@ -29,7 +29,6 @@ pub fn events_write_their_own()
 
 /// States that on which CPU a call comes in makes no difference: neither to its reply nor to the next state, and so in
 /// runs. It computes nothing.
-#[tactic(auto, using(crate::proofs::Cpus::cpus_make_no_difference, crate::proofs::Cpus::runs_on_cpus))]
 pub fn cpus_make_no_difference()
     ensures events { CpusMakeNoDifference }
     ensures runs { RunsOnCpus }
