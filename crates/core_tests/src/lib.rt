@@ -37,3 +37,5 @@ mod stream_tests;
 mod transfer_tests;
 #[cfg(test)]
 mod walk_tests;
+#[cfg(test)]
+mod window_tests;

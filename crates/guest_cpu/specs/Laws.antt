@@ -52,9 +52,13 @@ GuestsAreIsolated = (s : State) (events : List Event) (before later mine rest : 
     → start.state ≡ alone_with root (quota_asked e.call) (pages_given (end_of s (events_in before)) e.pid e.call)
     → HasRun IsCoreStep program turns (alone g) start ends_alone last finish → (ends_alone ≡ ends) × (last ≡ alone h)
 
--- the events that a process observes
-abbrev pub events_told : List Heard → List Event
-events_told xs = map (λ x. x.event) xs
+-- a call that a process observes, as an event on this CPU
+abbrev pub event_told : ℕ → Heard → Event
+event_told cpu x = record { cpu = cpu; pid = x.pid; call = x.call }
+
+-- the events that a process observes, as on one CPU
+abbrev pub events_told : ℕ → List Heard → List Event
+events_told cpu xs = map (event_told cpu) xs
 
 -- the answers to them
 abbrev pub answers_told : List Heard → List Answer
@@ -64,13 +68,13 @@ answers_told xs = map (λ x. Ok x.reply) xs
 abbrev pub founds : List Heard → List (Option ℕ)
 founds xs = map (λ x. x.finds) xs
 
--- Two guests of one program make all calls of a process, each in one of two runs, and find the same. Then they get the
--- same replies, and end in the same way, with the same registers and the same counter.
+-- Two guests of one program make all calls of a process, each in one of two runs, on whichever CPUs these come in, and
+-- find the same. Then they get the same replies, and end in the same way, with the same registers and the same counter.
 abbrev pub GuestsEndAlike : (mine theirs : List Heard) → Type 0
 GuestsEndAlike mine theirs = founds mine ≡ founds theirs
     → (program : List Instruction) (turns : ℕ) (g h k : GuestView) (e f : End)
-    → IsRun program turns g (answers_told mine) (events_told mine) e h
-    → IsRun program turns g (answers_told theirs) (events_told theirs) f k → (mine ≡ theirs) × (e ≡ f) × (h ≡ k)
+    → IsRun program turns g (answers_told mine) (events_told g.cpu mine) e h
+    → IsRun program turns g (answers_told theirs) (events_told g.cpu theirs) f k → (mine ≡ theirs) × (e ≡ f) × (h ≡ k)
 
 -- so it is if two states look the same to a live process, and outsiders use no channel to it in a run from each
 abbrev pub GuestsHearTheSame : Type 0

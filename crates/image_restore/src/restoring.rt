@@ -63,7 +63,7 @@ pub fn first_failed(image: &ImageRef<'_>, verdict: &Verdict) -> Option<Failed>
 ///
 /// OldWords if the image is of version 1. Otherwise NoMemory if there is no memory for the check. Otherwise NotSound
 /// with the first clause that fails. Otherwise NoMemory if there is none for what a core keeps in addition to the
-/// image's bytes and roles.
+/// image's bytes and roles. No clause says when NoMemory comes: an image that isn't sound may get it too.
 pub fn restore(alloc: Global, image: Image) -> Result<Core, RestoreFault>
     ensures shows { IfOk result (λ core. IsImageOf core image) }
     ensures stands { IfOk result (λ core. StandsFor image core.state) }

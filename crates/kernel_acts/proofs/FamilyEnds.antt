@@ -6,7 +6,7 @@ use Prelude.{ne_eqb, map-append, list_any-append, Set, same_map, same_set, get-r
 use Prelude.{get-remove, get-remove_other, Slot, slot_order, Cell, Spaces, without, with_holders, is_of, left}
 use Prelude.{get-without, Member, is_child, given, quota_of, number_of_children, given-remove, without_process, State}
 use Prelude.{is_live, after_exit, View, IsWellFormed, exit_of, exits, Descends, itself, child, ungrouped, EndsFamily}
-use Prelude.{is_child_of, answer, answers, next, end_of, completes, ended_by, Ends, EndAlong, Event, Ended, eqb-true}
+use Prelude.{is_child_of, answer, answers, next, end_of, completes, ended_by, CarriesOut, EndAlong, Event, Ended, eqb-true}
 use Prelude.{eq-eqb, or-true, and-true, or-false}
 use Rattle.kernel_acts.specs.Acts.{all_done, is_among, ChildrenFirst, without_processes}
 use Rattle.std.specs.Cmp.{unsigned_tied}
@@ -142,12 +142,12 @@ exit_ends v a done = sym (ap (λ b. if b then end.Space a else end.Nothing) (ap 
 
 -- one event more of a run, with what it ends
 pub along_more : (events : List Event) (ended : List Ended) (v w u : View) (e : Event) (x : Ended) → EndAlong events ended v w
-    → x ≡ ended_by w e → u.state ≡ next w.state e → Ends x w u → EndAlong (events ++ e ∷ []) (ended ++ x ∷ []) v u
-along_more [] [] v w u e x along is state ends =
-    (u, is ∙ ap (λ k. ended_by k e) (sym along), state ∙ ap (λ (k : View). next k.state e) (sym along), subst (λ k. Ends x k u) (sym along) ends, refl)
-along_more (f ∷ events) (y ∷ ended) v w u e x along is state ends =
-    (along.0, along.1, along.2, along.3, along_more events ended along.0 w u e x along.4 is state ends)
-along_more _ _ v w u e x along is state ends = grind arith
+    → x ≡ ended_by w e → CarriesOut w e u → EndAlong (events ++ e ∷ []) (ended ++ x ∷ []) v u
+along_more [] [] v w u e x along is carried =
+    (u, is ∙ ap (λ k. ended_by k e) (sym along), subst (λ k. CarriesOut k e u) (sym along) carried, refl)
+along_more (f ∷ events) (y ∷ ended) v w u e x along is carried =
+    (along.0, along.1, along.2, along_more events ended along.0 w u e x along.3 is carried)
+along_more _ _ v w u e x along is carried = grind arith
 
 first_more : (s : State) (order : List ℕ) (a : ℕ) → ChildrenFirst s order → ((q : ℕ) → is_among order q ≡ true → is_child_of s q a ≡ false)
     → ChildrenFirst s (order ++ a ∷ [])

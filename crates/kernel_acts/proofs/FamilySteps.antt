@@ -2,7 +2,7 @@
 use Rattle.kernel_acts.proofs.Prelude.{◌≡◌, ◌≢◌, ℕ, ◌+◌, ◌<◌, ◌≤◌, length, take, set, true, false, List, [], ◌∷◌, ◌++◌}
 use Rattle.kernel_acts.proofs.Prelude.{sym, ap, subst, ◌∙◌, Some, arith, take_more_set, map-append, Member, State}
 use Rattle.kernel_acts.proofs.Prelude.{is_live, View, IsWellFormed, exit_of, exits, Descends, EndsFamily, is_child_of}
-use Rattle.kernel_acts.proofs.Prelude.{answer, next, ended_by, Ends, EndAlong, Event, Ended}
+use Rattle.kernel_acts.proofs.Prelude.{answer, next, ended_by, CarriesOut, EndAlong, Event, Ended}
 use Rattle.kernel_acts.specs.Acts.{spaces_of_all}
 use Rattle.kernel_acts.proofs.FamilyEnds.{Ending, ending_more, ending_last, parent_below, descends_then, descends_live}
 use Rattle.kernel_acts.proofs.FamilyEnds.{descends_not_root, exit_after, along_more}
@@ -25,7 +25,7 @@ pub record Leaves (w u : View) (at leaf : ℕ) : Type 0 where
   pub done : answer w.state (exit_of leaf) ≡ reply.Done
   pub state : u.state ≡ next w.state (exit_of leaf)
   pub ended : end.Space leaf ≡ ended_by w (exit_of leaf)
-  pub ends : Ends (end.Space leaf) w u
+  pub carried : CarriesOut w (exit_of leaf) u
 
 one_less : (w u : View) (leaf : ℕ) → is_live w.state leaf ≡ true → u.state ≡ next w.state (exit_of leaf)
     → answer w.state (exit_of leaf) ≡ reply.Done → map.len u.state.book + 1 ≡ map.len w.state.book
@@ -49,7 +49,7 @@ module _ (v w u : View) (p at count leaf : ℕ) (list : List ℕ) (not_root : p 
       subst (λ (o : List ℕ). EndAlong (exits o) (spaces_of_all o) v u) (sym more)
       (subst (λ (es : List Event). EndAlong es (spaces_of_all (take count list ++ leaf ∷ [])) v u) (sym (map-append exit_of (take count list) (leaf ∷ [])))
       (subst (λ (xs : List Ended). EndAlong (exits (take count list) ++ exit_of leaf ∷ []) xs v u) (sym (map-append end.Space (take count list) (leaf ∷ [])))
-      (along_more (exits (take count list)) (spaces_of_all (take count list)) v w u (exit_of leaf) (end.Space leaf) g.along l.ended l.state l.ends)))
+      (along_more (exits (take count list)) (spaces_of_all (take count list)) v w u (exit_of leaf) (end.Space leaf) g.along l.ended l.carried)))
 
   less : map.len u.state.book + 1 ≡ map.len w.state.book
   less = one_less w u leaf (descends_live g.ending.live below) l.state l.done

@@ -3,7 +3,7 @@ use Rattle.kernel_acts.proofs.Prelude.{◌≡◌, ◌≢◌, ℕ, ◌+◌, ◌-�
 use Rattle.kernel_acts.proofs.Prelude.{refl, sym, ap, subst, ◌∙◌, Some, inl, inr, arith, length-drop, slice_index}
 use Rattle.kernel_acts.proofs.Prelude.{cases_lt, cases_eq, length-take-le, get_or-take, get_or-drop, page_number}
 use Rattle.kernel_acts.proofs.Prelude.{offset_number, page_stays, Slot, slot_order, at_page, slot_at, write_at}
-use Rattle.kernel_acts.proofs.Prelude.{byte_at, State, View, IsWellFormed, shares, EndsMarks, installed, Installs}
+use Rattle.kernel_acts.proofs.Prelude.{IsCore, byte_at, State, View, IsWellFormed, shares, EndsMarks, installed, Installs}
 use Rattle.std.proofs.Math.Seq.{take-add}
 use Rattle.kernel_acts.specs.Loaded.{Loads, no_page, page_more, IsLastThere}
 use Rattle.kernel_calls.proofs.Commuting.{group_at}
@@ -18,6 +18,7 @@ pub record Installed (u w : View) (p at : ℕ) (part : List ℕ) (write : Bool) 
   pub run : Installs u.state p at part write w.state
   pub state : w.state ≡ installed u.state p at part write
   pub marks : EndsMarks (end.Page p (page_number at)) u w
+  pub core : IsCore w
 
 -- so many bytes from a on were loaded, from v to w
 pub record Loading (v w : View) (p a : ℕ) (write : Bool) (bytes : List ℕ) (done : ℕ) : Type 0 where
@@ -101,7 +102,7 @@ module _ (v u w : View) (p a at done c k : ℕ) (write : Bool) (bytes part : Lis
       subst (λ xs. Loads p a write v xs w) taken
       (page_more part l.loads (omega (arith, n, some)) (subst (λ x. offset_number x + length part ≤ 4096) (sym b) inside)
       (subst (λ x. Installs u.state p x part write w.state) (sym b) is.run) (is.state ∙ ap (λ x. installed u.state p x part write) (sym b))
-      (subst (λ x. EndsMarks (end.Page p (page_number x)) u w) (sym b) is.marks))
+      (subst (λ x. EndsMarks (end.Page p (page_number x)) u w) (sym b) is.marks) is.core)
 
   groups_on : (q : Slot) → group_at w.state.spaces q ≡ group_at v.state.spaces q
   groups_on q = ap (λ (t : State). group_at t.spaces q) is.state ∙ installed_groups u.state p at part write q ∙ l.groups q

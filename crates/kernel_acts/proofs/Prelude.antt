@@ -47,7 +47,8 @@ pub use Rattle.kernel_calls.specs.Gone.{gone_by}
 pub use Rattle.kernel_calls.specs.Machine.{answer, answer_of, answers, completes, end_of, next, planned_or}
 pub use Rattle.kernel_calls.specs.Machine.{refused_or}
 pub use Rattle.kernel_calls.specs.Processors.{IsCore}
-pub use Rattle.kernel_calls.specs.Translations.{EndAlong, Ends, ended_by, is_all_of, is_ended}
+pub use Rattle.kernel_calls.specs.Along.{CarriesOut, EndAlong}
+pub use Rattle.kernel_calls.specs.Translations.{Ends, ended_by, is_all_of, is_ended}
 pub use Rattle.kernel_calls.specs.declared.calls.Event.{Event}
 pub use Rattle.kernel_calls.specs.declared.calls.Reply.{Reply}
 pub use Rattle.kernel_calls.specs.declared.translations.Ended.{Ended}

@@ -46,7 +46,7 @@ along_then : (events later : List Event) (ended more : List Ended) (v w u : View
 along_then [] later [] more v w u a b = subst (λ (x : View). EndAlong later more x u) (sym a) b
 along_then [] later (x ∷ ended) more v w u a b = absurd a
 along_then (e ∷ events) later [] more v w u a b = absurd a
-along_then (e ∷ events) later (x ∷ ended) more v w u a b = (a.0, a.1, a.2, a.3, along_then events later ended more a.0 w u a.4 b)
+along_then (e ∷ events) later (x ∷ ended) more v w u a b = (a.0, a.1, a.2, along_then events later ended more a.0 w u a.3 b)
 
 pub taking_none : (v : View) (own : Slot) → Taking v v own []
 taking_none v own = record { taken = takes_none v.state own; along = refl }

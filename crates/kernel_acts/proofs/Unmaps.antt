@@ -143,7 +143,7 @@ pub taking_on : (v w u : View) (own : Slot) (count : ℕ) (lost : List Holder) (
     → Unmapped w u own h → count < length lost → Taking v u own (take (count + 1) (set lost count h))
 taking_on v w u own count lost h ww g l within = record {
   taken = subst (λ (o : List Holder). TakesBack v.state own o u.state) (sym more)
-      (subst (λ (k : State). TakesBack v.state own (take count lost ++ h ∷ []) k) (sym l.state)
+      (subst (λ (k : State). TakesBack v.state own (take count lost ++ h ∷ []) k) (sym l.carried.state)
       (takes_more v.state w.state own (take count lost) h g.taken ww l.beside));
   along = grind (arith, more, map-append, along_more);
 }
@@ -201,11 +201,11 @@ alone_one v p page x w is one = by (map.get v.state.spaces (at_page p page)) ref
 
 pub clear_on : (w u : View) (own : Slot) (h : Holder) → IsWellFormed w.state → Unmapped w u own h → (x : Slot)
     → is_beside w.state own x ≡ false → is_beside u.state own x ≡ false
-clear_on w u own h ww l x none = ap (λ (k : State). is_beside k own x) l.state ∙ unmap_beside w.state own h ww l.beside x none
+clear_on w u own h ww l x none = ap (λ (k : State). is_beside k own x) l.carried.state ∙ unmap_beside w.state own h ww l.beside x none
 
 pub clear_here : (w u : View) (own : Slot) (h : Holder) → IsWellFormed w.state → Unmapped w u own h
     → is_beside u.state own (at_page h.pid h.page) ≡ false
-clear_here w u own h ww l = ap (λ (k : State). is_beside k own (at_page h.pid h.page)) l.state ∙ unmap_gone w.state own h ww l.beside
+clear_here w u own h ww l = ap (λ (k : State). is_beside k own (at_page h.pid h.page)) l.carried.state ∙ unmap_gone w.state own h ww l.beside
 
 -- all so far, up to the next
 pub clear_up : (w u : View) (own : Slot) (holder at found : ℕ) → IsWellFormed w.state → Unmapped w u own (record { pid = holder; page = found })

@@ -9,6 +9,7 @@ use Rattle.process_table.specs.declared.causes.Cause.{Cause}
 use Rattle.process_table.specs.declared.causes.Cause.TheVariants as cause
 use Rattle.kernel_calls.specs.Authority.{shares}
 use Rattle.kernel_calls.specs.Cleaned.{EndsMarks}
+use Rattle.kernel_calls.specs.Processors.{IsCore}
 use Rattle.kernel_acts.specs.Installed.{installed, Installs}
 use Rattle.kernel_calls.specs.declared.translations.Ended.TheVariants as end
 
@@ -31,7 +32,7 @@ load_refusal s p pages =
     None
 
 -- These bytes were loaded from an address on, page after page, which led from v to w. Each page got its part by an
--- install, whose run refuses nothing, and which ended the page's translation alone.
+-- install, whose run refuses nothing, and which ended the page's translation alone. Memory was a core's after each.
 pub data Loads (p address : ℕ) (write : Bool) (v : View) : List ℕ → View → Type 0 where
   no_page : Loads p address write v [] v
   page_more : {before : List ℕ} (part : List ℕ) {u w : View} → Loads p address write v before u
@@ -39,6 +40,7 @@ pub data Loads (p address : ℕ) (write : Bool) (v : View) : List ℕ → View �
       → Installs u.state p (address + length before) part write w.state
       → w.state ≡ installed u.state p (address + length before) part write
       → EndsMarks (end.Page p (page_number (address + length before))) u w
+      → IsCore w
       → Loads p address write v (before ++ part) w
 
 -- of so many bytes, none behind this one goes to the same place of the same page through another slot

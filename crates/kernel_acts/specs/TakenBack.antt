@@ -8,8 +8,9 @@ use Rattle.process_table.specs.State.{State}
 use Rattle.process_table.specs.View.{View}
 use Rattle.kernel_acts.specs.Acts.{all_done, ungrouped}
 use Rattle.kernel_calls.specs.Authority.{shares}
-use Rattle.kernel_calls.specs.Machine.{answers, next, end_of}
-use Rattle.kernel_calls.specs.Translations.{ended_by, Ends, EndAlong}
+use Rattle.kernel_calls.specs.Machine.{answers, end_of}
+use Rattle.kernel_calls.specs.Along.{CarriesOut, EndAlong}
+use Rattle.kernel_calls.specs.Translations.{ended_by}
 use Rattle.kernel_calls.specs.declared.calls.Call.TheVariants as call
 use Rattle.kernel_calls.specs.declared.calls.Event.{Event}
 use Rattle.kernel_acts.specs.declared.taking.Holder.{Holder}
@@ -57,9 +58,8 @@ pub record TakesBack (s : State) (own : Slot) (holders : List Holder) (t : State
 -- the Unmap of another slot of the group, and what it ends
 pub record Unmapped (w u : View) (own : Slot) (h : Holder) : Type 0 where
   pub beside : is_beside w.state own (at_page h.pid h.page) ≡ true
-  pub state : u.state ≡ next w.state (unmap_of h)
   pub ended : end.Page h.pid h.page ≡ ended_by w (unmap_of h)
-  pub ends : Ends (end.Page h.pid h.page) w u
+  pub carried : CarriesOut w (unmap_of h) u
 
 -- and so from one view to another, with what each of them ended
 pub record Taking (v w : View) (own : Slot) (holders : List Holder) : Type 0 where

@@ -7,7 +7,8 @@ ghost use Rattle.process_table.specs.State.{is_live};
 ghost use Rattle.kernel_acts.specs.Acts.{children_in, exit_of, exits, spaces_of_all, Descends, EndsFamily};
 ghost use Rattle.kernel_calls.specs.Authority.{is_child_of};
 ghost use Rattle.kernel_calls.specs.Machine.{answer, next};
-ghost use Rattle.kernel_calls.specs.Translations.{ended_by, EndAlong, Ends};
+ghost use Rattle.kernel_calls.specs.Along.{CarriesOut, EndAlong};
+ghost use Rattle.kernel_calls.specs.Translations.{ended_by};
 ghost use Rattle.kernel_calls.specs.declared.calls.Reply.TheVariants as reply;
 ghost use Rattle.kernel_calls.specs.declared.translations.Ended.TheVariants as end;
 ghost use Rattle.page_words.specs.FiniteMap as map;
@@ -114,7 +115,7 @@ fn exit_leaf(core: &mut Core, pid: Pid)
     ensures done { answer core.old.state (exit_of pid) ≡ reply.Done }
     ensures state { core.new.state ≡ next core.old.state (exit_of pid) }
     ensures ended { end.Space pid ≡ ended_by core.old (exit_of pid) }
-    ensures ends { Ends (end.Space pid) core.old core.new }
+    ensures carried { CarriesOut core.old (exit_of pid) core.new }
 {
     step(core, pid, Call::Exit);
 }

@@ -8,6 +8,7 @@ ghost use Rattle.process_table.specs.Image.{StandsFor, image_of};
 ghost use Rattle.process_table.specs.State.{is_mapped, extra_cost};
 ghost use Rattle.process_table.specs.TestAnswers.{done_unless};
 ghost use Rattle.kernel_calls.specs.Cleaned.{EndsMarks};
+ghost use Rattle.kernel_calls.specs.Processors.{IsCore};
 ghost use Rattle.kernel_acts.specs.Installed.{is_writable_at, installed, Installs};
 ghost use Rattle.kernel_acts.specs.Loaded.{pages_under, may_at, load_refusal, Loads, IsLastThere};
 ghost use Rattle.kernel_calls.specs.declared.translations.Ended.TheVariants as end;
@@ -130,9 +131,11 @@ fn install_part(core: &mut Core, pid: Pid, address: Vaddr, part: &[u8], write: b
     ensures installed { Installs core.old.state pid address part.now write core.new.state }
     ensures state { core.new.state ≡ installed core.old.state pid address part.now write }
     ensures marks { EndsMarks (end.Page pid (page_number address)) core.old core.new }
+    ensures core { IsCore core.new }
 {
     core.stands();
     let _ = install(core, pid, address, part, write);
+    core.stands();
 }
 
 /// Loads page by page.

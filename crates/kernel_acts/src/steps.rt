@@ -4,6 +4,7 @@ ghost use Rattle.std.specs.Prelude.{◌≡◌, false};
 ghost use Rattle.address_space.specs.Stays.{FramesStay};
 ghost use Rattle.process_table.specs.Image.{memory_of};
 ghost use Rattle.kernel_acts.specs.Steps.{event_of};
+ghost use Rattle.kernel_calls.specs.Along.{CarriesOut};
 ghost use Rattle.kernel_calls.specs.Gone.{gone_by};
 ghost use Rattle.kernel_calls.specs.Machine.{answer, next, completes};
 ghost use Rattle.kernel_calls.specs.Translations.{ended_by, Ends};
@@ -19,8 +20,11 @@ pub(crate) fn step(core: &mut Core, pid: Pid, call: Call) -> Reply
     ensures ends { Ends (ended_by core.old (event_of pid call)) core.old core.new }
     ensures kept { completes result ≡ false → core.new ≡ core.old }
     ensures stay { FramesStay (gone_by core.old.state (event_of pid call)) (memory_of core.old) (memory_of core.new) }
+    ensures carried { CarriesOut core.old (event_of pid call) core.new }
 {
-    core.step(&Event { cpu: 0, pid, call })
+    let reply = core.step(&Event { cpu: 0, pid, call });
+    core.stands();
+    reply
 }
 
 /// Whether a reply is neither a refusal nor a fault.

@@ -12,7 +12,7 @@ ghost use Rattle.kernel_calls.specs.Effects.{IsAlone};
 ghost use Rattle.kernel_calls.specs.Machine.{answer, next, completes};
 ghost use Rattle.kernel_calls.specs.Cleaned.{info_of_page};
 ghost use Rattle.kernel_acts.specs.TakenBack.{unmaps, pages_of_all, is_beside, TakesBack, Taking, Unmapped};
-ghost use Rattle.kernel_calls.specs.Translations.{ended_by, EndAlong, Ends};
+ghost use Rattle.kernel_calls.specs.Along.{EndAlong};
 ghost use Rattle.kernel_calls.specs.declared.calls.Reply.TheVariants as reply;
 ghost use Rattle.kernel_calls.specs.declared.translations.Ended.TheVariants as end;
 

@@ -122,8 +122,8 @@ fn load_pages(core: &mut Core, pid: Pid, address: Vaddr, out: &mut [u8]) -> Tran
 }
 
 /// Reads a process's memory from an address on, with the effect of one-byte loads in order, up to the first that is
-/// refused or faults. An unmapped page is mapped first, which may take a table; no page gets a frame. The rest of
-/// `out` is unchanged.
+/// refused or faults. An unmapped page is mapped first, which may take a table; each page that was mapped keeps its
+/// frame. The rest of `out` is unchanged.
 pub fn read_bytes(core: &mut Core, pid: Pid, address: Vaddr, out: &mut [u8]) -> Transfer
     ensures count { result.count ≡ length (carried core.old.state (loads pid address (length out.old))) }
     ensures stop { result.stop ≡ stop_of core.old.state (loads pid address (length out.old)) }

@@ -48,7 +48,11 @@ nothing_heard (x ∷ xs) h = absurd h
 
 -- what is told of an event at the head of a run
 abbrev first_of : State → Event → Heard
-first_of s e = record { event = e; reply = answer s e; finds = found s e.call }
+first_of s e = record { pid = e.pid; call = e.call; reply = answer s e; finds = found s e.call }
+
+-- an event on another CPU
+abbrev on_cpu : Event → ℕ → Event
+on_cpu e k = record { cpu = k; pid = e.pid; call = e.call }
 
 -- For a view of two states, a set that stands well in a state, and events that are good there: where views go there and
 -- back and on, a member's good event is told the same and keeps the view, and an outsider's leaves it.
@@ -65,7 +69,8 @@ module _ (View : State → State → (ℕ → Bool) → Type 0) (Stands : State 
     (sees : (s t : State) (e : Event) (Q : ℕ → Bool) → Stands s Q → Stands t Q → View s t Q → IsGood s Q e
     → Q e.pid ≡ true → found s e.call ≡ found t e.call → View (next s e) (next t e) (members_after s Q e))
     (leaves : (s : State) (e : Event) (Q : ℕ → Bool) → Stands s Q → IsGood s Q e → Q e.pid ≡ false
-    → View s (next s e) Q) where
+    → View s (next s e) Q)
+    (anywhere : (s : State) (e : Event) (k : ℕ) (Q : ℕ → Bool) → IsGood s Q e → IsGood s Q (on_cpu e k)) where
   -- after a member's event who is a member in one run is one in the other
   module _ (s t : State) (e : Event) (Q : ℕ → Bool) (w : Stands s Q) (v : Stands t Q) (mine : Q e.pid ≡ true)
       (l : View s t Q) (good : IsGood s Q e) (finds : found s e.call ≡ found t e.call) where
@@ -131,26 +136,27 @@ module _ (View : State → State → (ℕ → Bool) → Type 0) (Stands : State 
         subst (λ (x : Event). EndsWith (end_of (next t x) os)) same_event later.1,
       )
         where
-          same_event : e ≡ o
-          same_event = alike.0
+          -- the other's event, on this one's CPU
+          same_event : e ≡ on_cpu o e.cpu
+          same_event = λ i. record { cpu = e.cpu; pid = alike.0 i; call = alike.1 i }
 
           same_found : found s e.call ≡ found t o.call
-          same_found = alike.1
+          same_found = alike.2
 
           finds : found s e.call ≡ found t e.call
-          finds = same_found ∙ sym (ap (λ (x : Event). found t x.call) same_event)
+          finds = same_found ∙ sym (ap (found t) alike.1)
 
           reply : answer s e ≡ answer t o
           reply = told s t e Q l good mine finds ∙ ap (answer t) same_event
 
           same_first : first_of s e ≡ first_of t o
-          same_first = λ i. record { event = same_event i; reply = reply i; finds = same_found i }
+          same_first = λ i. record { pid = alike.0 i; call = alike.1 i; reply = reply i; finds = same_found i }
 
           after : View (next s e) (next t e) (members_after s Q e)
           after = sees s t e Q w v l good mine finds
 
           good_too : IsGood t Q e
-          good_too = subst (IsGood t Q) (sym same_event) good_o
+          good_too = subst (IsGood t Q) (sym same_event) (anywhere t o e.cpu Q good_o)
 
           both : (p : ℕ) (a b : Bool) → members_after s Q e p ≡ a → members_after t Q e p ≡ b → a ≡ b
           both p _ _ x y = grind (arith, too)
@@ -165,7 +171,12 @@ module _ (View : State → State → (ℕ → Bool) → Type 0) (Stands : State 
 
           later : (heard (next s e) (members_after s Q e) (exchanges (next s e) events) ≡ heard (next t e)
               (members_after s Q e) (exchanges (next t e) os)) × EndsWith (end_of (next t e) os)
-          later = grind (arith, sets, good_too, after, same_event, heard_is, same_first)
+          later = law (next s e) (next t e) (members_after s Q e) os (lasts s Q e w good)
+              (subst (Stands (next t e)) (sym sets) (lasts t Q e v good_too)) after good_s
+              (subst (λ D. Along IsGood (next t e) D os) (sym sets)
+              (subst (λ (x : Event). Along IsGood (next t x) (members_after t Q x) os) (sym same_event) good_t))
+              (subst (AskAlike (heard (next s e) (members_after s Q e) (exchanges (next s e) events))) heard_is
+              (alike.3 same_first))
 
       comes : (others : List Event) (t : State) → Stands t Q → View s t Q → Along IsGood t Q others
           → AskAlike first (heard t Q (exchanges t others))
@@ -223,6 +234,7 @@ members_hear_the_same s events w t Q others v members l quiet quiet_t alike =
     (λ s t e Q l good mine finds. told_same s t e Q l mine finds)
     (λ s t e Q x y l good mine finds. members_see_the_same s t e Q x.0 y.0 l mine finds)
     (λ s e Q x good out. outsiders_unseen s e Q x.0 out good)
+    (λ s e k Q good. good)
     events s t Q others (w, members) (v, λ q h. sym (ap live_in (l.standing q h)) ∙ members q h) l quiet quiet_t alike).0
 
 -- ---- What a family has, whatever outsiders do
@@ -249,6 +261,7 @@ families_hear s t C events others w v family family_t l within within_t alike =
     (λ s t e Q l keeps mine finds. family_told s t e Q l mine (keeps mine) finds)
     (λ s t e Q x y l keeps mine finds. family_sees s t e Q x.0 y.0 l mine (keeps mine) finds)
     (λ s e Q x keeps out. others_leave s e Q x.0 x.1 out)
+    (λ s e k Q keeps. keeps)
     events s t C others (w, family) (v, family_t) l within within_t alike
 
 pub families_hear_their_own : FamiliesHearTheirOwn

@@ -157,5 +157,6 @@ kept_given v x kept last keeping given = through Ends left_read keeping given
 
 pub kept_through_runs : KeptThroughRuns
 kept_through_runs v w (e ∷ events) (x ∷ ended) kept along given =
-    kept_through_runs along.0 w events ended (left_by x kept) along.4 (left_read x v along.0 kept along.3 given)
+    kept_through_runs along.0 w events ended (left_by x kept) along.3
+    (left_read x v along.0 kept (subst (λ (y : Ended). Ends y v along.0) (sym along.1) along.2.ends) given)
 kept_through_runs v w _ _ kept along given = grind arith

@@ -71,9 +71,10 @@ pub use Rattle.kernel_calls.specs.Kept.{ServesEvent, StoresMarked, reply_kept}
 pub use Rattle.kernel_calls.specs.Machine.{after, answer, answer_of, answers, completes, end_of, info_of, next}
 pub use Rattle.kernel_calls.specs.Machine.{none_completes, planned_or, refused_or}
 pub use Rattle.kernel_calls.specs.Processors.{IsCore, Processors, Step, all_left_by, first, marked, none, walked}
-pub use Rattle.kernel_calls.specs.Translations.{AreRead, DirectoriesStay, Ends, EndsFound, EndsInOrder, EndsNoMore}
+pub use Rattle.kernel_calls.specs.Along.{EndsInOrder, KeptThroughRuns}
+pub use Rattle.kernel_calls.specs.Translations.{AreRead, DirectoriesStay, Ends, EndsFound, EndsNoMore}
 pub use Rattle.kernel_calls.specs.Translations.{FindsFrame, FlagsStay, IsGiven, IsRead, Keeping, Keeps, Kept}
-pub use Rattle.kernel_calls.specs.Translations.{KeptAreGiven, KeptThroughRuns, MapsInRegion, SlotsStay, TablesMap}
+pub use Rattle.kernel_calls.specs.Translations.{KeptAreGiven, MapsInRegion, SlotsStay, TablesMap}
 pub use Rattle.kernel_calls.specs.Translations.{TablesStay, Translation, TranslationsStay, change, directory_entry}
 pub use Rattle.kernel_calls.specs.Translations.{ended_by, ends_in_region, if_allowed, is_all_of, is_ended}
 pub use Rattle.kernel_calls.specs.Translations.{is_invalidated, left_by, nothing, of_call, of_pages, of_plan, onward}

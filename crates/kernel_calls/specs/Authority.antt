@@ -337,9 +337,10 @@ abbrev pub Along : (State → (ℕ → Bool) → Event → Type 0) → State →
 Along P s Q [] = Unit {0}
 Along P s Q (e ∷ events) = P s Q e × Along P (next s e) (members_after s Q e) events
 
--- an exchange of a member in a run: its event, the reply, and what its call finds
+-- an exchange of a member in a run, on whichever CPU: its call, the reply, and what the call finds
 pub record Heard : Type 0 where
-  pub event : Event
+  pub pid : ℕ
+  pub call : Call
   pub reply : Reply
   pub finds : Option ℕ
 
@@ -348,12 +349,12 @@ abbrev pub heard : State → (ℕ → Bool) → List Exchange → List Heard
 heard s Q [] = []
 heard s Q (x ∷ run) =
     let later = heard (next s x.0) (members_after s Q x.0) run in
-    if Q x.0.pid then record { event = x.0; reply = x.1; finds = found s x.0.call } ∷ later else later
+    if Q x.0.pid then record { pid = x.0.pid; call = x.0.call; reply = x.1; finds = found s x.0.call } ∷ later else later
 
--- while their replies are the same, members make the same calls and find the same
+-- while their replies are the same, members make the same calls and find the same, on whichever CPUs
 abbrev pub AskAlike : List Heard → List Heard → Type 0
 AskAlike [] [] = Unit {0}
-AskAlike (x ∷ xs) (y ∷ ys) = (x.event ≡ y.event) × (x.finds ≡ y.finds) × (x ≡ y → AskAlike xs ys)
+AskAlike (x ∷ xs) (y ∷ ys) = (x.pid ≡ y.pid) × (x.call ≡ y.call) × (x.finds ≡ y.finds) × (x ≡ y → AskAlike xs ys)
 AskAlike _ _ = ⊥
 
 -- members that make the same calls and find the same get the same replies

@@ -1,3 +1,4 @@
+pub mod Along
 pub mod Authority
 pub mod Cleaned
 pub mod Decisions

@@ -237,24 +237,3 @@ pub data Keeping (Leaves : Ended → View → View → Type 0) : View → List K
 -- is at each moment, since each is the last of what came until then.
 abbrev pub KeptAreGiven : Type 0
 KeptAreGiven = (v x : View) (kept last : List Kept) → Keeping Ends v kept x last → AreRead v kept → AreRead x last
-
--- ---- Along a run
-
--- events that were carried out one after another, and what each of them ended
-abbrev pub EndAlong : List Event → List Ended → View → View → Type 0
-EndAlong [] [] v w = v ≡ w
-EndAlong (e ∷ events) (x ∷ ended) v w = (u : View) × (x ≡ ended_by v e) × (u.state ≡ next v.state e) × Ends x v u × EndAlong events ended u w
-EndAlong [] (x ∷ ended) v w = ⊥
-EndAlong (e ∷ events) [] v w = ⊥
-
--- each of these events, one after another, ended what `ended_by` says, and nothing else; memory stood for the state
--- after each
-abbrev pub EndsInOrder : List Event → View → View → Type 0
-EndsInOrder [] v w = v ≡ w
-EndsInOrder (e ∷ events) v w = (u : View) × StandsFor (image_of u) u.state × (u.state ≡ next v.state e) × Ends (ended_by v e) v u
-    × EndsInOrder events u w
-
--- what was read before a run, and was ended by none of its events, is read after it
-abbrev pub KeptThroughRuns : Type 0
-KeptThroughRuns = (v w : View) (events : List Event) (ended : List Ended) (kept : List Kept) → EndAlong events ended v w
-    → AreRead v kept → AreRead w (left_by_all ended kept)

@@ -28,8 +28,9 @@ ghost use Rattle.kernel_calls.specs.Machine.{answer, next, answers, end_of, comp
 ghost use Rattle.kernel_calls.specs.Decisions.{decision_of, charge_in, charge_after};
 ghost use Rattle.kernel_calls.specs.declared.translations.Ended.TheVariants as end;
 ghost use Rattle.kernel_calls.specs.Gone.{gone_by, gives_back};
-ghost use Rattle.kernel_calls.specs.Translations.{EndsInOrder, ended_by, Ends};
+ghost use Rattle.kernel_calls.specs.Along.{EndsInOrder};
 ghost use Rattle.kernel_calls.specs.Processors.{IsSized};
+ghost use Rattle.kernel_calls.specs.Translations.{ended_by, Ends};
 ghost use Rattle.kernel_calls.specs.Written.{WritesItsOwn};
 
 use crate::calls::{Decision, Event, Outcome, Reply};
@@ -257,6 +258,7 @@ impl Core {
     {
         for (i, event) in events.iter().enumerate() {
             replies[i] = self.step(event);
+            self.stands();
         }
     }
 

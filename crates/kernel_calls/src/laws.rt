@@ -1,10 +1,11 @@
 //! Laws of the machine's runs that crates above use. Each is the contract of a function that computes nothing.
 
+ghost use Rattle.kernel_calls.specs.Along.{KeptThroughRuns};
 ghost use Rattle.kernel_calls.specs.Laws.{RunsStayWellFormed};
 ghost use Rattle.kernel_calls.specs.Kept.{KeptFind, KeptReply, KeptLoads, KeptStores};
 ghost use Rattle.kernel_calls.specs.Processors.{ProcessorsMakeEvents, EntriesLeadThere, WalksLeaveCores, StoresLeaveCores};
 ghost use Rattle.kernel_calls.specs.Processors.{WalksTakeNoFrame, WalksKeepContainers};
-ghost use Rattle.kernel_calls.specs.Translations.{KeptAreGiven, KeptThroughRuns};
+ghost use Rattle.kernel_calls.specs.Translations.{KeptAreGiven};
 
 /// Every state of a run of a machine that boots is well formed, and all its live processes together
 /// cost at most its root's quota, which is all frames but frame 0. It computes nothing.

@@ -6,6 +6,7 @@ pub mod CommutingForks
 pub mod CommutingGone
 pub mod CommutingJoins
 pub mod CommutingStores
+pub mod Cpus
 pub mod Discreet
 pub mod Effects
 pub mod EitherOrder

@@ -1,5 +1,6 @@
 pub mod Beside
 pub mod Causes
+pub mod Cpus
 pub mod WorkedAccesses
 pub mod WorkedAuthority
 pub mod WorkedForks

@@ -357,5 +357,5 @@ family_run = (event 1 1 (call.Spawn 4)) ∷ (event 0 0 call.Quota) ∷ (event 2 
 -- the exchanges that the family observes of that run
 abbrev pub FamilyHears : Type 0
 FamilyHears = heard first_child (λ q. q == 1) (exchanges first_child family_run)
-    ≡ ((record { event = event 1 1 (call.Spawn 4); reply = reply.Child 2; finds = Some 2 })
-    ∷ (record { event = event 2 2 call.Exit; reply = reply.Done; finds = None }) ∷ [])
+    ≡ ((record { pid = 1; call = call.Spawn 4; reply = reply.Child 2; finds = Some 2 })
+    ∷ (record { pid = 2; call = call.Exit; reply = reply.Done; finds = None }) ∷ [])

@@ -3,6 +3,7 @@
 ghost use Rattle.kernel_calls.specs.Cleaned.{CleaningKeepsStates, CleaningIsUnseen, EventsEndMarks, KeptThroughMarks, KeptAmongMarks, CleaningIsNoEvent, CleaningShows};
 ghost use Rattle.kernel_calls.specs.Authority.{StatesStayWellFormed, RefusalsChangeNothing, ChangesAreRightful, Integrity, NobodyTakesBack, SharingByConsent, SharingStays, OffersByOfferer, ExitsEnd, UnmapsEnd, OffersEnd, OffersStay, ChildrenAreTheirMakers, PlacesStay, MembersToldTheSame, OwnIsEnough, MembersSeeTheSame, OutsidersUnseen, MembersHearTheSame, RunsKeepBorders, OutsidersHearNothing};
 ghost use Rattle.kernel_laws.specs.Beside.{AccessesBeside, OrdersEndTheSame};
+ghost use Rattle.kernel_laws.specs.Cpus.{CpusMakeNoDifference, RunsOnCpus};
 ghost use Rattle.kernel_laws.specs.Causes.{CompletesUnless, RefusedByTheFirst, FaultsAtTheFirstByte};
 ghost use Rattle.kernel_calls.specs.Effects.{CompletesByKind, DoneMeansDone, SlotsCome, SlotsGo, FlagsChange, OthersNeverRefuse, RunsNeverRefuse};
 ghost use Rattle.kernel_calls.specs.Families.{FamiliesHearTheirOwn, FamiliesEndTheSame, NewbornsAreFamilies};
@@ -24,6 +25,13 @@ pub fn processes_are_isolated()
 pub fn events_write_their_own()
     ensures frames { EventsWriteTheirOwn }
     ensures others { EventsLeaveToOthers }
+{}
+
+/// States that on which CPU a call comes in makes no difference: neither to its reply nor to the next state, and so in
+/// runs. It computes nothing.
+pub fn cpus_make_no_difference()
+    ensures events { CpusMakeNoDifference }
+    ensures runs { RunsOnCpus }
 {}
 
 /// States that an access of another process and an event may come in either order. The access is in pages that the

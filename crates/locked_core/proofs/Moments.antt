@@ -3,9 +3,12 @@ use Rattle.std.proofs.Common.{◌≡◌, ℕ, ◌+◌, ◌<◌, ◌≤◌, ◌�
 use Rattle.std.specs.Prelude.{MatchBool}
 use lib.Dec.{leb}
 use Rattle.std.proofs.lemmas.Bool.Decides.{nat_tests}
-use Rattle.kernel_calls.specs.Processors.{IsCore}
+use Rattle.kernel_calls.specs.Along.{CarriesOut}
+use Rattle.kernel_calls.specs.Processors.{IsCore, IsCarried}
 use Rattle.kernel_calls.specs.Translations.{ended_by}
 use Rattle.kernel_calls.specs.declared.calls.Event.{Event}
+use Rattle.kernel_calls.specs.declared.calls.Reply.{Reply}
+use Rattle.kernel_calls.proofs.Writings.{events_write_their_own}
 use Rattle.memory_report.specs.Histories.{StartsWith, event_of, events_of}
 use Rattle.memory_report.specs.declared.entries.LogEntry.{LogEntry}
 use Rattle.process_table.specs.State.{State, open_with}
@@ -147,13 +150,21 @@ follows_from opening before later h = record {
       (h.each (before ++ b) m rest (ap (λ l. before ++ l) is ∙ sym (append_assoc before b (m ∷ rest))));
 }
 
+-- an event that a core carried out wrote only what it may write
+carried_out : (v w : View) (e : Event) (r : Reply) → IsCore v → IsCarried v e r w → CarriesOut v e w
+carried_out v w e r core carried = record {
+  state = carried.state;
+  ends = carried.ends;
+  core = carried.core;
+  writes = events_write_their_own v w e core carried.core carried.state carried.ends;
+}
+
 pub ends_along : EndsAlong
 ends_along opening [] h = refl
 ends_along opening (m ∷ log) h = (
   m.core,
   refl,
-  (h.each [] m log refl).carried.state,
-  (h.each [] m log refl).carried.ends,
+  carried_out opening m.core (event_of m.entry) m.entry.reply h.opened (h.each [] m log refl).carried,
   ends_along m.core log (follows_from opening (m ∷ []) log h),
 )
 

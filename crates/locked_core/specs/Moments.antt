@@ -1,7 +1,8 @@
 -- The moments of a kernel's history: each entry, with the core as its call left it.
 use Rattle.std.specs.Prelude.{◌≡◌, ℕ, List, [], ◌∷◌, ◌++◌, map}
 use Rattle.kernel_calls.specs.Processors.{IsCore}
-use Rattle.kernel_calls.specs.Translations.{EndAlong, ended_by}
+use Rattle.kernel_calls.specs.Along.{EndAlong}
+use Rattle.kernel_calls.specs.Translations.{ended_by}
 use Rattle.kernel_calls.specs.declared.translations.Ended.{Ended}
 use Rattle.memory_report.specs.Histories.{event_of, events_of, state_after}
 use Rattle.memory_report.specs.declared.entries.LogEntry.{LogEntry}

@@ -129,7 +129,7 @@ module _ (v : View) (core : IsCore v) (base : State) (alike : Alike v.state base
   cell_served : (page frame : ℕ) (access : Access) (s : Serves vs p page frame access) → map.get base.spaces (at_page p page) ≡ Some s.given.cell
   cell_served page frame access s = sym (ap (map.get base.spaces) s.of_page) ∙ s.given.mapped
 
-  takes_served : (page frame : ℕ) → Serves vs p page frame Write → takes_stores v.state.spaces (memory_of v) (at_page p page) ≡ true
+  pub takes_served : (page frame : ℕ) → Serves vs p page frame Write → takes_stores v.state.spaces (memory_of v) (at_page p page) ≡ true
   takes_served page frame s =
       let low = small_page vs p page frame Write s in
       let a : ℕ = start_number page in

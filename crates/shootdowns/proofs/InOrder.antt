@@ -1,11 +1,9 @@
 -- Steps of windows are events in an order.
-use Rattle.std.proofs.Common.{◌≡◌, ◌≢◌, ℕ, arith, true, false, List, [], ◌∷◌, ◌++◌, length, refl, ap, sym, ◌∙◌, subst, inl, inr, Option, Some, None}
+use Rattle.std.proofs.Common.{◌≡◌, ◌≢◌, ℕ, arith, true, false, List, [], ◌∷◌, ◌++◌, length, refl, ap, sym, ◌∙◌, subst, Option, Some, None}
 use Rattle.std.specs.Prelude.{◌⊎◌, ◌*◌, is_some, slice_get}
 use Rattle.std.specs.Option.{option_map}
 use Rattle.std.proofs.lemmas.Option.{slice_get_within}
 use Rattle.page_words.specs.Addresses.{slot_number}
-use Rattle.page_words.specs.FiniteMap as map
-use Rattle.page_words.specs.FiniteSet as set
 use Rattle.page_words.proofs.MapLemmas.{same_map}
 use Rattle.page_words.specs.Words.{frame_number}
 use Rattle.phys_memory.specs.Bytes.{frame_bytes, word_at, word_place, with_word_in}
@@ -13,208 +11,40 @@ use Rattle.phys_memory.proofs.Frames.{frames-with_word, with_frame-other}
 use Rattle.alloc_table.specs.declared.Role.{Role}
 use Rattle.alloc_table.specs.declared.Role.TheVariants.{Free, Directory, Page}
 use Rattle.address_space.specs.ByWalk.{with_walked, walked_word}
-use Rattle.address_space.specs.Image.{directory_at, table_at, page_word}
+use Rattle.address_space.specs.Image.{page_word}
 use Rattle.address_space.specs.View.{directory_of}
 use Rattle.address_space.specs.Spaces.{Slot, Cell, Spaces, with_bytes}
 use Rattle.process_table.specs.Image.{memory_of}
 use Rattle.process_table.specs.State.{State}
 use Rattle.process_table.specs.View.{View}
 use Rattle.process_table.specs.WellFormed.{IsWellFormed}
-use Rattle.kernel_calls.specs.Kept.{ServesEvent, bytes_kept, IsLoad}
-use Rattle.kernel_calls.specs.Machine.{answer, answers, next, end_of}
-use Rattle.kernel_calls.specs.Processors.{IsCore, Processors, with_kept, AllAreRead, AreAmong, IsWalked, IsLoaded, IsMarked}
+use Rattle.kernel_calls.specs.Machine.{answers, next, end_of}
+use Rattle.kernel_calls.specs.Processors.{IsCore, Processors, with_kept, AllAreRead, AreAmong, IsWalked, IsMarked}
 use Rattle.kernel_calls.specs.Translations.{Kept, IsRead, AreRead, Ends, ended_by, left_by}
-use Rattle.kernel_calls.specs.declared.calls.Call.{Call}
-use Rattle.kernel_calls.specs.declared.calls.Call.TheVariants as call
 use Rattle.kernel_calls.specs.declared.calls.Event.{Event}
 use Rattle.kernel_calls.specs.declared.calls.Reply.{Reply}
 use Rattle.kernel_calls.specs.declared.translations.Ended.{Ended}
-use Rattle.kernel_calls.specs.declared.translations.Ended.TheVariants as end
 use Rattle.kernel_calls.proofs.Leaving.{left_read}
-use Rattle.kernel_calls.proofs.MixedRuns.{among_read, read_with, serves_call, one}
+use Rattle.kernel_calls.proofs.MixedRuns.{among_read, read_with, one}
 use Rattle.kernel_calls.proofs.Runs.{kept-next}
 use Rattle.kernel_calls.proofs.WalkedReplies.{answered, lives}
-use Rattle.shootdowns.specs.Windows.{only_takes, Acknowledged, nobody, usable, Moment, acknowledged, ended_in, settled, under_way, IsStale, LeavesFree, Step, begun, loaded, stored, walked, marked, ordered, usual, refilled, forgotten, invalidated, told, Steps, none, first, memory_in, state_of, Stands, ShootdownsMakeEvents}
-use Rattle.shootdowns.proofs.Accesses.{frame_at, kept_answer, kept_next, kept_beside, kept_long}
-use Rattle.shootdowns.proofs.Alike.{Alike, with_state, FlagsGrow, flags_read, alike_same, alike_then, alike_filled, again}
-use Rattle.shootdowns.proofs.Filled.{fill, filled_state, get_filled, answer_filled, next_filled}
+use Rattle.shootdowns.specs.Windows.{only_takes, Acknowledged, nobody, usable, Moment, acknowledged, ended_in, settled, under_way, LeavesFree, Step, begun, loaded, stored, walked, marked, ordered, usual, refilled, forgotten, invalidated, told, Steps, none, first, memory_in, state_of, Stands, ShootdownsMakeEvents, stored_clean}
+use Rattle.shootdowns.proofs.Accesses.{frame_at}
+use Rattle.shootdowns.proofs.Alike.{Alike, with_state, FlagsGrow, flags_read, alike_same, alike_then}
+use Rattle.shootdowns.proofs.Filled.{fill, get_filled}
 use Rattle.shootdowns.proofs.Kept.{none_left, nothing_read, left_all, left_more, left_fewer, left_done, all_told}
 use Rattle.shootdowns.proofs.Onward.{names_onward, tables_onward, full_onward}
 use Rattle.shootdowns.proofs.Refilled.{read_before}
-use Rattle.shootdowns.proofs.Rewritten.{is_fixed, rewritten, names_same, word_same, linked_same, read_same}
 use Rattle.shootdowns.proofs.Turned.{Grows, grows_same, keys_of, mapped_before, mapped_after, next_grows, next_book, answer_alike, turned}
 use Rattle.shootdowns.proofs.WalkedIn.{pages_in, done_in, done_after, same_answer, bytes_beside}
 use Rattle.shootdowns.proofs.Taking.{pages_stand, names_stay, homes_stay, tables_stay, filled_first, long_stays}
-
--- An event under way only takes away. The order's state is that when it began but for bytes and flags, and its cells
--- have the bytes that memory has now in their frames then. All that is kept was read then, with the flags of now.
-record Taken (v : View) (e : Event) (s : State) (w : View) (keeps : Processors) : Type 0 where
-  before : IsCore v
-  well : IsWellFormed s
-  alike : Alike v.state s
-  read : AllAreRead (with_state v s) keeps
-  state : s ≡ filled_state (frame_at v) w.bytes s
-  names : (slot : Slot) (word : ℕ) → page_word (memory_of w) slot ≡ Some word → frame_at v slot ≡ frame_number word
-  homes : (slot : Slot) (word d : ℕ) → page_word (memory_of w) slot ≡ Some word → directory_at (memory_of w) slot.pid ≡ Some d → directory_at (memory_of v) slot.pid ≡ Some d
-  tables : (p region t : ℕ) → table_at (memory_of w) p region ≡ Some t → table_at (memory_of v) p region ≡ Some t
-  pages : (f c : ℕ) → slice_get v.roles f ≡ Some (Page c) → (slice_get w.roles f ≡ Some Free) ⊎ ((d : ℕ) × (slice_get w.roles f ≡ Some (Page d)))
-  long : length w.bytes ≡ length v.bytes
-
--- what holds at each moment
-abbrev IsTaken : Moment → Processors → Type 0
-IsTaken (settled x done w) keeps = Unit {0}
-IsTaken (under_way x done e r s w) keeps = only_takes e.call ≡ true → (v : View) × Taken v e s w keeps
-
-record Good (m : Moment) (keeps : Processors) : Type 0 where
-  stands : Stands m keeps
-  taken : IsTaken m keeps
-
--- what a step makes of whatever comes after it
-record IsOne (m : Moment) (es : List Event) (rs : List Reply) (n : Moment) (between : Processors) : Type 0 where
-  replies : (events : List Event) → rs ++ answers (state_of n) events ≡ answers (state_of m) (es ++ events)
-  state : (events : List Event) → end_of (state_of n) events ≡ end_of (state_of m) (es ++ events)
-  good : Good n between
-
-is_event : (m n : Moment) (e : Event) (r : Reply) (between : Processors) → r ≡ answer (state_of m) e → state_of n ≡ next (state_of m) e
-    → Good n between → IsOne m (e ∷ []) (r ∷ []) n between
-is_event m n e r between same state good = record {
-  replies = λ events i. same i ∷ answers (state i) events;
-  state = λ events. ap (λ (s : State). end_of s events) state;
-  good = good;
-}
-
-is_none : (m n : Moment) (between : Processors) → state_of n ≡ state_of m → Good n between → IsOne m [] [] n between
-is_none m n between state good = record {
-  replies = λ events. ap (λ (s : State). answers s events) state;
-  state = λ events. ap (λ (s : State). end_of s events) state;
-  good = good;
-}
-
--- ---- An access by what is kept of the memory before
-
-load_leaves : (frames : ℕ → ℕ) (bytes : List ℕ) (c : Call) → IsLoad c → bytes_kept frames bytes c ≡ bytes
-load_leaves frames bytes (call.Load addr size) h = refl
-load_leaves frames bytes (call.Store addr size value) h = absurd h
-load_leaves frames bytes _ h = refl
-
-module _ (x : Ended) (done : Acknowledged) (e : Event) (r : Reply) (s : State) (w : View) (keeps : Processors) (takes : only_takes e.call ≡ true)
-    (good : Good (under_way x done e r s w) keeps) (i : ℕ) where
-  abbrev v : View
-  v = (good.taken takes).0
-
-  abbrev t : Taken v e s w keeps
-  t = (good.taken takes).1
-
-  one_loaded : (a : Event) (q : Reply) → IsLoaded (keeps i) w a q → IsOne (under_way x done e r s w) (a ∷ []) (q ∷ []) (under_way x done e r s w) keeps
-  one_loaded a q l =
-      let served = serves_call (with_state v s) (keeps i) a.pid l.frames a.call (t.read i) l.through in
-      is_event (under_way x done e r s w) (under_way x done e r s w) a q keeps
-      (l.found ∙ sym (kept_answer v t.before s t.alike t.well w.bytes l.frames a served) ∙ ap (λ (z : State). answer z a) (sym t.state))
-      (t.state ∙ ap (λ b. filled_state (frame_at v) b s) (sym (load_leaves l.frames w.bytes a.call l.load))
-      ∙ sym (kept_next v t.before s t.alike t.well w.bytes l.frames a served t.long) ∙ ap (λ (z : State). next z a) (sym t.state))
-      good
-
-  module _ (a : Event) (q : Reply) (bytes : List ℕ) (l : IsStale (keeps i) w a q bytes) where
-    served : ServesEvent (with_state v s) l.frames a
-    served = serves_call (with_state v s) (keeps i) a.pid l.frames a.call (t.read i) l.through
-
-    abbrev later : View
-    later = record w { bytes = bytes; state = next (next s a) e }
-
-    -- the order's state has the bytes that the store leaves
-    state_now : next s a ≡ filled_state (frame_at v) bytes s
-    state_now =
-        ap (λ (z : State). next z a) t.state ∙ kept_next v t.before s t.alike t.well w.bytes l.frames a served t.long
-        ∙ ap (λ b. filled_state (frame_at v) b s) (sym l.left)
-
-    after_now : next (next s a) e ≡ filled_state (frame_at v) bytes (next s e)
-    after_now = ap (λ (z : State). next z e) state_now ∙ next_filled (frame_at v) bytes s e takes
-
-    after_then : w.state ≡ filled_state (frame_at v) w.bytes (next s e)
-    after_then = good.stands.2 ∙ ap (λ (z : State). next z e) t.state ∙ next_filled (frame_at v) w.bytes s e takes
-
-    long_now : length bytes ≡ length w.bytes
-    long_now = ap length l.left ∙ kept_long v t.before s t.alike t.well w.bytes l.frames a served
-
-    fixed_now : (f : ℕ) (role : Role) → slice_get w.roles f ≡ Some role → is_fixed role ≡ true → frame_bytes bytes f ≡ frame_bytes w.bytes f
-    fixed_now f role is fixed = ap (λ b. frame_bytes b f) l.left ∙ kept_beside v t.before s t.alike t.well w.bytes l.frames a served f t.long (λ c page. by (t.pages f c page))
-      where
-        by : ((slice_get w.roles f ≡ Some Free) ⊎ ((d : ℕ) × (slice_get w.roles f ≡ Some (Page d)))) → ⊥
-        by (inl free) =
-            let k : ◌≡◌ {A = Option Role} (Some role) (Some Free) = sym is ∙ free in
-            let same : role ≡ Free = cc in
-            let no : false ≡ true = sym (ap is_fixed same) ∙ fixed in
-            cc
-        by (inr page) =
-            let k : ◌≡◌ {A = Option Role} (Some role) (Some (Page page.0)) = sym is ∙ page.1 in
-            let same : role ≡ Page page.0 = cc in
-            let no : false ≡ true = sym (ap is_fixed same) ∙ fixed in
-            cc
-
-    book_now : (next (next s a) e).book ≡ w.state.book
-    book_now = ap (λ (z : State). z.book) after_now ∙ sym (ap (λ (z : State). z.book) after_then)
-
-    well_now : IsWellFormed (next s a)
-    well_now = (kept-next s a t.well).0
-
-    cells_now : (slot : Slot) → map.get (next (next s a) e).spaces slot ≡ option_map (fill (frame_at v) bytes slot) (map.get w.state.spaces slot)
-    cells_now slot =
-        ap (λ (z : State). map.get z.spaces slot) after_now ∙ get_filled (frame_at v) bytes (next s e).spaces slot
-        ∙ by (map.get (next s e).spaces slot)
-        ∙ ap (option_map (fill (frame_at v) bytes slot)) (sym (ap (λ (z : State). map.get z.spaces slot) after_then ∙ get_filled (frame_at v) w.bytes (next s e).spaces slot))
-      where
-        by : (z : Option Cell) → option_map (fill (frame_at v) bytes slot) z ≡ option_map (fill (frame_at v) bytes slot) (option_map (fill (frame_at v) w.bytes slot) z)
-        by None = refl
-        by (Some c) = refl
-
-    -- so that it is a core's
-    core_now : IsCore later
-    core_now = rewritten w good.stands.0 bytes (next (next s a) e) (frame_at v) long_now fixed_now book_now (kept-next (next s a) e well_now).0 t.names cells_now
-
-    read_now : (kept : List Kept) → AreRead w kept → AreRead later kept
-    read_now [] all = tt
-    read_now (k ∷ kept) all = (
-      read_same w good.stands.0 bytes (next (next s a) e) (frame_at v) long_now fixed_now book_now (kept-next (next s a) e well_now).0 t.names cells_now k all.0,
-      read_now kept all.1,
-    )
-
-    get_now : (slot : Slot) → map.get (next s a).spaces slot ≡ option_map (fill (frame_at v) bytes slot) (map.get s.spaces slot)
-    get_now slot = ap (λ (z : State). map.get z.spaces slot) state_now ∙ get_filled (frame_at v) bytes s.spaces slot
-
-    alike_now : Alike v.state (next s a)
-    alike_now = alike_then v.state s (next s a) t.alike (alike_filled s (next s a) (frame_at v) bytes (ap (λ (z : State). z.book) state_now) get_now)
-
-    flags_now : FlagsGrow s (next s a)
-    flags_now slot c at = (fill (frame_at v) bytes slot c, get_now slot ∙ ap (option_map (fill (frame_at v) bytes slot)) at, λ h. h, λ h. h)
-
-    taken_now : Taken v e (next s a) later keeps
-    taken_now = record {
-      before = t.before;
-      well = well_now;
-      alike = alike_now;
-      read = λ j. flags_read v s (next s a) flags_now (keeps j) (t.read j);
-      state = again (frame_at v) bytes s (next s a) state_now;
-      names = names_same w good.stands.0 bytes (next (next s a) e) (frame_at v) long_now fixed_now book_now (kept-next (next s a) e well_now).0 t.names cells_now;
-      homes = λ slot word d is live. t.homes slot word d (word_same w good.stands.0 bytes (next (next s a) e) (frame_at v) long_now fixed_now book_now (kept-next (next s a) e well_now).0 t.names cells_now slot word is) live;
-      tables = λ p region f is. t.tables p region f (linked_same w good.stands.0 bytes (next (next s a) e) (frame_at v) long_now fixed_now book_now (kept-next (next s a) e well_now).0 t.names cells_now p region f is);
-      pages = t.pages;
-      long = long_now ∙ t.long;
-    }
-
-    one_stored : IsOne (under_way x done e r s w) (a ∷ []) (q ∷ []) (under_way x done e r (next s a) later) keeps
-    one_stored =
-        is_event (under_way x done e r s w) (under_way x done e r (next s a) later) a q keeps
-        (l.found ∙ sym (kept_answer v t.before s t.alike t.well w.bytes l.frames a served) ∙ ap (λ (z : State). answer z a) (sym t.state))
-        refl
-        (record {
-          stands = (
-            core_now,
-            λ j. read_now (usable x done keeps j) (good.stands.1 j),
-            refl,
-            good.stands.3 ∙ sym (ap (λ (z : State). answer z e) state_now ∙ answer_filled (frame_at v) bytes s e takes),
-          );
-          taken = λ _. (v, taken_now);
-        })
+use Rattle.shootdowns.proofs.DirtyCells.{right_taken}
+use Rattle.shootdowns.proofs.Standing.{Taken, Good, IsOne, is_event, is_none}
+use Rattle.shootdowns.proofs.StaleAccesses.{one_loaded, one_stored}
+use Rattle.shootdowns.proofs.CleanStores.{one_clean}
+use Rattle.page_words.specs.FiniteMap as map
+use Rattle.page_words.specs.FiniteSet as set
+use Rattle.kernel_calls.specs.declared.translations.Ended.TheVariants as end
 
 -- ---- An access by a walk, and a mark
 
@@ -437,9 +267,12 @@ step (begun {v = v} {w = w} {done = done} {keeps = keeps} {e = e} {r = r} b) goo
             },
           );
     })
-step (loaded {x = x} {done = done} {w = w} {s = s} {keeps = keeps} {e = e} {a = a} {r = r} {q = q} i takes l) good = one_loaded x done e r s w keeps takes good i a q l
+step (loaded {x = x} {done = done} {w = w} {s = s} {keeps = keeps} {e = e} {a = a} {r = r} {q = q} i takes l) good = one_loaded x done e r s w keeps takes (good.taken takes).0 (record { stands = good.stands; taken = (good.taken takes).1 }) i a q l
 step (stored {x = x} {done = done} {w = w} {s = s} {keeps = keeps} {e = e} {a = a} {r = r} {q = q} {bytes = bytes} i takes l) good =
-    one_stored x done e r s w keeps takes good i a q bytes l
+    one_stored x done e r s w keeps takes (good.taken takes).0 (record { stands = good.stands; taken = (good.taken takes).1 }) i a q bytes l
+step (stored_clean {x = x} {done = done} {w = w} {s = s} {keeps = keeps} {e = e} {a = a} {r = r} {q = q} {bytes = bytes} i right l) good =
+    let t = good.taken (right_taken e.call right) in
+    one_clean x done e r keeps right i s w t.0 (record { stands = good.stands; taken = t.1 }) a q bytes l
 step (walked {x = x} {done = done} {w = w} {u = u} {s = s} {keeps = keeps} {e = e} {a = a} {r = r} {q = q} takes k free) good = one_walked x done e r s w u keeps takes good a q k free
 step (marked {x = x} {done = done} {w = w} {u = u} {s = s} {keeps = keeps} {e = e} {r = r} takes k) good = one_marked x done e r s w u keeps takes good k
 step (ordered {x = x} {done = done} {w = w} {s = s} {keeps = keeps} {e = e} {r = r}) good =

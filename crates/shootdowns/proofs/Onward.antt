@@ -55,7 +55,7 @@ framed v core r d f c at same role =
         cc)
 
 -- the cell of a mapped slot
-stands_at : (v : View) → IsCore v → (slot : Slot) (c : Cell) (word : ℕ) → map.get v.state.spaces slot ≡ Some c → page_word (memory_of v) slot ≡ Some word
+pub stands_at : (v : View) → IsCore v → (slot : Slot) (c : Cell) (word : ℕ) → map.get v.state.spaces slot ≡ Some c → page_word (memory_of v) slot ≡ Some word
     → CellStands (memory_of v) slot word c
 stands_at v core slot c word at is = by (page_word (memory_of v) slot) is (map.get v.state.spaces slot) at (core.image.memory.cells slot)
   where

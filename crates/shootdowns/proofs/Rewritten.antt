@@ -43,7 +43,7 @@ is_fixed Free = false
 is_fixed (Page c) = false
 
 -- how a walk ends by the words of its way
-abbrev rest_of : (ℕ → Bool) → ℕ → ℕ → ℕ → Access → List (Bool × Result ℕ WalkEnd)
+abbrev pub rest_of : (ℕ → Bool) → ℕ → ℕ → ℕ → Access → List (Bool × Result ℕ WalkEnd)
 rest_of out d t address access =
     (out (frame_number d), Err Outside)
     ∷ (not (is_present t), not_present address access)
@@ -52,17 +52,17 @@ rest_of out d t address access =
     ∷ (out (frame_number t), Err Outside)
     ∷ []
 
-abbrev end_by : (ℕ → Bool) → ℕ → ℕ → ℕ → ℕ → Access → Result ℕ WalkEnd
+abbrev pub end_by : (ℕ → Bool) → ℕ → ℕ → ℕ → ℕ → Access → Result ℕ WalkEnd
 end_by out d t directory address access =
     first_that_applies ((out directory, Err Outside) ∷ (not (is_present d), not_present address access) ∷ rest_of out d t address access) (Ok (frame_number t))
 
 -- without a present directory word the table's has no say
-absent : (out : ℕ → Bool) (d t directory address : ℕ) (access : Access) → is_present d ≡ false
+pub absent : (out : ℕ → Bool) (d t directory address : ℕ) (access : Access) → is_present d ≡ false
     → end_by out d t directory address access ≡ (if out directory then Err Outside else not_present address access)
 absent out d t directory address access h =
     ap (λ b. first_that_applies ((out directory, Err Outside) ∷ (not b, not_present address access) ∷ rest_of out d t address access) (Ok (frame_number t))) h
 
-ends_so : (bytes : List ℕ) (directory address : ℕ) (access : Access)
+pub ends_so : (bytes : List ℕ) (directory address : ℕ) (access : Access)
     → walk_of bytes directory address access ≡ end_by (is_outside bytes) (dir_word bytes directory address) (table_word bytes directory address) directory address access
 unfolding walk_of
 ends_so bytes directory address access = refl

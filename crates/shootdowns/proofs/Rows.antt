@@ -13,7 +13,7 @@ use Rattle.kernel_calls.specs.declared.translations.Ended.TheVariants as end
 use Rattle.process_table.specs.State.{State}
 use Rattle.shootdowns.proofs.InOrder.{shootdowns_make_events}
 use Rattle.shootdowns.specs.Windows as window
-use Rattle.shootdowns.specs.Windows.{nobody, settled, StaleStoresComeFirst, StaleLoadsComeFirst, WalksComeFirst, OthersAreRead, may_end, OthersEndNothing}
+use Rattle.shootdowns.specs.Windows.{nobody, settled, CleanStoresComeFirst, StaleStoresComeFirst, StaleLoadsComeFirst, WalksComeFirst, OthersAreRead, may_end, OthersEndNothing}
 
 -- an access that is made behind an event comes before it in the order
 both_told : (s : State) (e a : Event) (r q : Reply) → (q ∷ r ∷ []) ≡ (answer s a ∷ answer (next s a) e ∷ []) → (q ≡ answer s a) × (r ≡ answer (next s a) e)
@@ -24,6 +24,14 @@ stale_stores_come_first v w keeps i e a r q bytes core all b takes l =
     let came = shootdowns_make_events v
     (settled (ended_by v e) nobody (record w { bytes = bytes; state = next (next v.state a) e })) keeps keeps (a ∷ e ∷ []) (q ∷ r ∷ []) core all
     (window.first (window.begun b) (window.first (window.stored i takes l) (window.first window.ordered window.none))) in
+    let both = both_told v.state e a r q came.replies in
+    (both.0, both.1, came.stands.0)
+
+pub clean_stores_come_first : CleanStoresComeFirst
+clean_stores_come_first v w keeps i e a r q bytes core all b takes l =
+    let came = shootdowns_make_events v
+    (settled (ended_by v e) nobody (record w { bytes = bytes; state = next (next v.state a) e })) keeps keeps (a ∷ e ∷ []) (q ∷ r ∷ []) core all
+    (window.first (window.begun b) (window.first (window.stored_clean i takes l) (window.first window.ordered window.none))) in
     let both = both_told v.state e a r q came.replies in
     (both.0, both.1, came.stands.0)
 

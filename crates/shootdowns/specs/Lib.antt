@@ -1,1 +1,3 @@
+pub mod Shadows
 pub mod Windows
+pub mod Worked

@@ -1,8 +1,13 @@
 -- Shootdowns as they happen: the core carries out an event, and each processor uses what it keeps until it invalidates
 -- what the event ended. Which events such steps are, and in which order.
-use Rattle.std.specs.Prelude.{◌≡◌, ◌⊎◌, ℕ, ◌==◌, Bool, true, false, not, if◌then◌else◌, List, [], ◌∷◌, ◌++◌, Some, slice_get}
-use Rattle.phys_memory.specs.Bytes.{frame_bytes}
+use Rattle.std.specs.Option.{option_map, unwrap_or}
+use Rattle.std.specs.Prelude.{◌≡◌, ◌⊎◌, ◌≤◌, ◌^◌, ℕ, ◌==◌, Bool, true, false, not, if◌then◌else◌, List, [], ◌∷◌, ◌++◌, Some, length, slice_get}
+use Rattle.page_words.specs.Addresses.{EachTouched, page_number, slot_number, index_number, second_page}
+use Rattle.page_words.specs.Words.{with_flag}
+use Rattle.phys_memory.specs.Bytes.{frame_bytes, word_at, with_word, word_place}
 use Rattle.alloc_table.specs.declared.Role.TheVariants.{Free}
+use Rattle.address_space.specs.Image.{table_at}
+use Rattle.address_space.specs.Spaces.{at_page}
 use Rattle.address_space.specs.Stays.{FramesStay, LooseStay}
 use Rattle.process_table.specs.Image.{memory_of}
 use Rattle.process_table.specs.State.{State}
@@ -12,7 +17,7 @@ use Rattle.kernel_calls.specs.Kept.{reply_kept, bytes_kept, IsStore}
 use Rattle.kernel_calls.specs.Machine.{answer, answers, next, end_of}
 use Rattle.kernel_calls.specs.Processors as base
 use Rattle.kernel_calls.specs.Processors.{IsCore, Processors, with_kept, AllAreRead, AreAmong, LetCall, IsCarried, IsWalked, IsLoaded, IsMarked}
-use Rattle.kernel_calls.specs.Translations.{Kept, IsRead, ended_by, is_invalidated, left_by}
+use Rattle.kernel_calls.specs.Translations.{Kept, translation, IsRead, ended_by, is_invalidated, left_by}
 use Rattle.kernel_calls.specs.declared.calls.Call.{Call}
 use Rattle.kernel_calls.specs.declared.calls.Call.TheVariants as call
 use Rattle.kernel_calls.specs.declared.calls.Event.{Event}
@@ -28,6 +33,11 @@ only_takes (call.Unmap page) = true
 only_takes (call.Protect page write) = not write
 only_takes call.Exit = true
 only_takes _ = false
+
+-- an event of this call takes at most the right to write: each page stays mapped, on its frame
+abbrev pub takes_right : Call → Bool
+takes_right (call.Protect page write) = not write
+takes_right _ = false
 
 -- The core carries out an event, and its reply is not yet returned (`Core::step_ending`). Each way that the event doesn't
 -- take leads where it led. One that gives frames back leaves their bytes: a frame is cleared when it is given.
@@ -81,6 +91,41 @@ pub record IsStale (kept : List Kept) (w : View) (a : Event) (q : Reply) (bytes 
   pub found : q ≡ reply_kept frames w.bytes a.call
   pub left : bytes ≡ bytes_kept frames w.bytes a.call
 
+-- one of these is of a page of a process and lets writes through to this frame, whether dirty was set or not
+pub record LetsWrite (kept : List Kept) (p page frame : ℕ) : Type 0 where
+  pub place : ℕ
+  pub dirty : Bool
+  pub there : slice_get kept place
+      ≡ Some (translation (record { slot = at_page p page; frame = frame; write = true; dirty = dirty }))
+
+-- so it is with each page that a store touches, to these frames of pages
+abbrev pub LetStore : List Kept → ℕ → (ℕ → ℕ) → Call → Type 0
+LetStore kept p frames (call.Store addr size value) = EachTouched addr size (λ page. LetsWrite kept p page (frames page))
+LetStore kept p frames _ = ⊥
+
+-- memory with dirty set in the word of a page of a process, in the table of its region
+abbrev pub with_dirty : View → ℕ → ℕ → List ℕ
+with_dirty w p page = unwrap_or (option_map (λ table.
+    let place = word_place table (index_number page) in
+    with_word w.bytes place (with_flag (word_at w.bytes place) 6 true)) (table_at (memory_of w) p (slot_number page))) w.bytes
+
+-- memory with dirty set in the word of each page that a store touches
+abbrev pub all_dirty : View → ℕ → Call → List ℕ
+all_dirty w p (call.Store addr size value) =
+    let first = with_dirty w p (page_number addr) in
+    unwrap_or (option_map (with_dirty (record w { bytes = first }) p) (second_page addr size)) first
+all_dirty w p _ = w.bytes
+
+-- A processor stores by what it keeps, ended or not, also where dirty wasn't set: it sets dirty in the words of the
+-- pages, whatever right these have by then, and makes memory this.
+pub record IsStaleClean (kept : List Kept) (w : View) (a : Event) (q : Reply) (bytes : List ℕ) : Type 0 where
+  -- a word names a frame in 32 bits
+  pub size : length w.bytes ≤ 2 ^ 32
+  pub frames : ℕ → ℕ
+  pub through : LetStore kept a.pid frames a.call
+  pub found : q ≡ reply_kept frames w.bytes a.call
+  pub left : bytes ≡ bytes_kept frames (all_dirty w a.pid a.call) a.call
+
 -- nothing of these is kept
 abbrev pub KeepsNone : Ended → List Kept → Type 0
 KeepsNone x kept = (n : ℕ) (k : Kept) → slice_get kept n ≡ Some k → is_invalidated x k ≡ false
@@ -93,7 +138,8 @@ LeavesFree v w = (f : ℕ) → slice_get v.roles f ≡ Some Free → frame_bytes
 
 -- One step, with the events that come next in the order, and their replies or the values read. A window begins when
 -- the core carries out an event. The event comes in the order later. Until it does, and only if it takes away,
--- processors make accesses by all that they keep or by their walks, and mark directories' words. After it, processors
+-- processors make accesses by all that they keep or by their walks, and mark directories' words. If it takes at most the
+-- right to write, they also store by what lets writes through without dirty, and set that. After it, processors
 -- do what they do outside windows, except that none uses what it ended until it has invalidated that. The window ends
 -- when all have, or keep nothing of it: then the event is replied to, and the next window may begin. At any time a
 -- processor may begin to keep what a walk reads then, forget some of what it keeps, or invalidate.
@@ -107,6 +153,10 @@ pub data Step : Moment → Processors → List Event → List Reply → Moment �
       → only_takes e.call ≡ true → IsStale (keeps i) w a q bytes
       → Step (under_way x done e r s w) keeps (a ∷ []) (q ∷ [])
       (under_way x done e r (next s a) (record w { bytes = bytes; state = next (next s a) e })) keeps
+  stored_clean : {x : Ended} {done : Acknowledged} {w : View} {s : State} {keeps : Processors} {e a : Event} {r q : Reply} {bytes : List ℕ} (i : ℕ)
+      → takes_right e.call ≡ true → IsStaleClean (keeps i) w a q bytes
+      → Step (under_way x done e r s w) keeps (a ∷ []) (q ∷ []) (under_way x done e r (next s a)
+      (record w { state = next (next s a) e; bytes = bytes })) keeps
   walked : {x : Ended} {done : Acknowledged} {w u : View} {s : State} {keeps : Processors} {e a : Event} {r q : Reply}
       → only_takes e.call ≡ true → IsWalked w a q u → LeavesFree w u
       → Step (under_way x done e r s w) keeps (a ∷ []) (q ∷ []) (under_way x done e r (next s a) u) keeps
@@ -166,6 +216,13 @@ ShootdownsMakeEvents = (v : View) (m : Moment) (keeps last : Processors) (events
 abbrev pub StaleStoresComeFirst : Type 0
 StaleStoresComeFirst = (v w : View) (keeps : Processors) (i : ℕ) (e a : Event) (r q : Reply) (bytes : List ℕ) → IsCore v
     → AllAreRead v keeps → Begins v e r w → only_takes e.call ≡ true → IsStale (keeps i) w a q bytes
+    → (q ≡ answer v.state a) × (r ≡ answer (next v.state a) e)
+    × IsCore (record w { bytes = bytes; state = next (next v.state a) e })
+
+-- So it is with a store by what was kept before dirty was set, if the event takes at most the right to write.
+abbrev pub CleanStoresComeFirst : Type 0
+CleanStoresComeFirst = (v w : View) (keeps : Processors) (i : ℕ) (e a : Event) (r q : Reply) (bytes : List ℕ) → IsCore v
+    → AllAreRead v keeps → Begins v e r w → takes_right e.call ≡ true → IsStaleClean (keeps i) w a q bytes
     → (q ≡ answer v.state a) × (r ≡ answer (next v.state a) e)
     × IsCore (record w { bytes = bytes; state = next (next v.state a) e })
 

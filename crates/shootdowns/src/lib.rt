@@ -5,5 +5,7 @@
 #![tactic(auto)]
 
 mod laws;
+mod worked;
 
-pub use laws::shootdowns_make_events;
+pub use laws::{shootdowns_make_events, zeros_leave_others_be};
+pub use worked::worked_window;

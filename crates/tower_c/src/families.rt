@@ -3,7 +3,7 @@
 ghost use Rattle.std.specs.Prelude.{◌≡◌, ◌≢◌, ◌≤◌, Some, IfSome, take, drop, false};
 ghost use Rattle.process_table.specs.Image.{StandsFor, image_of};
 ghost use Rattle.kernel_acts.specs.Acts.{exits, spaces_of_all};
-ghost use Rattle.kernel_calls.specs.Translations.{EndAlong};
+ghost use Rattle.kernel_calls.specs.Along.{EndAlong};
 ghost use Rattle.tower_c.specs.Border.{given, pid_of};
 ghost use Rattle.tower_c.specs.Families.{pids_in, children_at, end_told, EndsFamilyIn};
 ghost use Rattle.c_handle.specs.Handle.{IsTower};

@@ -44,7 +44,7 @@ returns-then-eq-clause-family c =
       done = c.exit_leaf.ensures.done;
       state = c.exit_leaf.ensures.state;
       ended = c.exit_leaf.ensures.ended;
-      ends = c.exit_leaf.ensures.ends;
+      carried = c.exit_leaf.ensures.carried;
     } in
     (going_out c.args.core.now w c.exit_leaf.new.core c.args.pid c.leaves.at c.leaves.count c.leaf_below-leaf.result c.leaves.exited c.requires.not_root
     c.stands.ensures.well_formed c.stands-in-leaves.ensures.well_formed g l within
@@ -62,7 +62,7 @@ returns-then-eq-clause-ended c =
       done = c.exit_leaf.ensures.done;
       state = c.exit_leaf.ensures.state;
       ended = c.exit_leaf.ensures.ended;
-      ends = c.exit_leaf.ensures.ends;
+      carried = c.exit_leaf.ensures.carried;
     } in
     (going_out c.args.core.now w c.exit_leaf.new.core c.args.pid c.leaves.at c.leaves.count c.leaf_below-leaf.result c.leaves.exited c.requires.not_root
     c.stands.ensures.well_formed c.stands-in-leaves.ensures.well_formed g l within
@@ -89,7 +89,7 @@ leaves-preserved c =
       done = c.exit_leaf.ensures.done;
       state = c.exit_leaf.ensures.state;
       ended = c.exit_leaf.ensures.ended;
-      ends = c.exit_leaf.ensures.ends;
+      carried = c.exit_leaf.ensures.carried;
     } in
     let m = some_value (map.get w.state.book leaf) (descends_live g.ending.live (descends_then g.here c.leaf_below-leaf.ensures.below)) in
     let apart : leaf ≢ c.args.pid = eqb-false leaf c.args.pid (sym c.eq.ensures ∙ c.if-eq.false) in

@@ -1,5 +1,6 @@
 use Rattle.kernel_acts.proofs.Prelude.{arith, page_number}
 use Rattle.kernel_acts.proofs.LoadedPages.{part_goes}
+use Rattle.kernel_calls.proofs.Leaving.{is_core}
 use Rattle.kernel_acts.proofs.loading.install_part.Goals as goal
 
 pub returns-clause-installed : goal.returns-clause-installed
@@ -8,3 +9,8 @@ returns-clause-installed c =
 
 pub returns-clause-state : goal.returns-clause-state
 returns-clause-state c = grind (arith, part_goes, c.install.ensures.state, c.requires.none, c.install.ensures.refused)
+
+pub returns-clause-core : goal.returns-clause-core
+returns-clause-core c =
+    let now = c.stands-2.ensures in
+    is_core now.image now.walks now.ways now.well_formed

@@ -42,7 +42,7 @@ loop-done-preserved c =
       place = omega (arith, next, place);
       within = fits;
       loading = loading_on c.args.core.now u w p c.args.address at done count (done + count - done) c.args.write bytes _ i.loading place e.some fits e.within (omega arith) refl
-          c.stands.ensures.well_formed (record { run = c.install_part.ensures.installed; state = c.install_part.ensures.state; marks = c.install_part.ensures.marks });
+          c.stands.ensures.well_formed (record { run = c.install_part.ensures.installed; state = c.install_part.ensures.state; marks = c.install_part.ensures.marks; core = c.install_part.ensures.core });
       none = rest_of_load u.state w.state p at (c.at.inside.0 + count) (length bytes) done count _ c.args.write next e.some most e.within e.whole
           c.install_part.ensures.state i.none;
     }

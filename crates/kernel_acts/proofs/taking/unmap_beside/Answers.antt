@@ -1,5 +1,4 @@
-use Rattle.kernel_acts.proofs.Prelude.{◌≡◌, sym, subst, at_page, answer, unmap_of, Ends}
-use Rattle.kernel_acts.proofs.Prelude.{Holder, Ended}
+use Rattle.kernel_acts.proofs.Prelude.{◌≡◌, at_page, answer, unmap_of, Holder}
 use Rattle.kernel_acts.proofs.Unmaps.{unmap_done, unmap_ends}
 use Rattle.kernel_calls.specs.declared.calls.Reply.TheVariants as reply
 use Rattle.kernel_acts.proofs.taking.unmap_beside.Goals as goal
@@ -12,8 +11,7 @@ returns c =
     record {
       unmapped = record {
         beside = c.requires.beside;
-        state = c.step.ensures.state;
         ended = unmap_ends v h done;
-        ends = subst (λ (x : Ended). Ends x v c.step.new.core) (sym (unmap_ends v h done)) c.step.ensures.ends;
+        carried = c.step.ensures.carried;
       };
     }

@@ -8,6 +8,9 @@ returns-clause-steps c = shootdowns_make_events
 pub returns-clause-stale : goal.returns-clause-stale
 returns-clause-stale c = row.stale_stores_come_first
 
+pub returns-clause-clean : goal.returns-clause-clean
+returns-clause-clean c = row.clean_stores_come_first
+
 pub returns-clause-loads : goal.returns-clause-loads
 returns-clause-loads c = row.stale_loads_come_first
 

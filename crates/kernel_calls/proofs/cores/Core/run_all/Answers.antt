@@ -1,6 +1,8 @@
 use Rattle.kernel_calls.proofs.Prelude.{rules, ◌≡◌, ◌+◌, ◌<◌, ◌++◌, ℕ, List, [], ◌∷◌, length, take, drop, ap, sym, ◌∙◌}
 use Rattle.kernel_calls.proofs.Prelude.{subst, get_or, append_assoc, arith, and_parts, not-true, take_more_set}
 use Rattle.kernel_calls.proofs.Prelude.{drop_more, drop_all, State, View, answers, end_of, EndsInOrder, Event, Reply}
+use Rattle.kernel_calls.specs.Along.{CarriesOut}
+use Rattle.kernel_calls.proofs.Leaving.{is_core}
 use Rattle.kernel_calls.proofs.cores.Core.run_all.Goals as goal
 
 pub loop-i-preserved : goal.loop-i-preserved
@@ -19,6 +21,13 @@ loop-i-preserved c =
     let told : i < length c.loop-i.replies = search rules in
     let replies_here : answers v.state (drop i events) ≡ r ∷ answers s rest =
     ap (answers v.state) here ∙ (λ j. sym step.reply j ∷ answers (sym step.state j) rest) in
+    let now = c.stands.ensures in
+    let carried : CarriesOut v e c.step.new.self = record {
+      state = step.state;
+      ends = step.ends;
+      core = is_core now.image now.walks now.ways now.well_formed;
+      writes = step.writes;
+    } in
     record {
       told = ap (λ l. l ++ answers s rest) (take_more_set c.loop-i.replies i r told)
           ∙ append_assoc (take i c.loop-i.replies) (r ∷ []) (answers s rest)
@@ -27,7 +36,7 @@ loop-i-preserved c =
       rest = ap (λ (t : State). end_of t rest) step.state ∙ ap (end_of v.state) (sym here) ∙ c.loop-i.invariant.rest;
       still = grind (arith, and_parts, not-true, c.loop-i.invariant.refused, c.loop-i.invariant.still);
       along = λ w more. c.loop-i.invariant.along w
-          (subst (λ (es : List Event). EndsInOrder es v w) (sym here) (c.step.new.self, step.stands, step.state, step.ends, more));
+          (subst (λ (es : List Event). EndsInOrder es v w) (sym here) (c.step.new.self, carried, more));
       refused = grind (arith, and_parts, c.loop-i.invariant.refused);
     }
 

@@ -1,0 +1,16 @@
+-- On which CPU a call comes in makes no difference.
+use Rattle.std.proofs.Common.{◌≡◌, ℕ, List, [], ◌∷◌, refl, ap, map}
+use Rattle.process_table.specs.State.{State}
+use Rattle.kernel_calls.specs.Machine.{answer, answers, next, end_of}
+use Rattle.kernel_calls.specs.declared.calls.Event.{Event}
+use Rattle.kernel_calls.specs.declared.calls.Reply.{Reply}
+use Rattle.kernel_laws.specs.Cpus.{on_cpu, CpusMakeNoDifference, RunsOnCpus}
+
+pub cpus_make_no_difference : CpusMakeNoDifference
+cpus_make_no_difference s e cpu = (refl, refl)
+
+pub runs_on_cpus : RunsOnCpus
+runs_on_cpus s [] cpu = (refl, refl)
+runs_on_cpus s (e ∷ events) cpu =
+    let later = runs_on_cpus (next s e) events cpu in
+    (ap (λ (l : List Reply). answer s e ∷ l) later.0, later.1)

@@ -1,0 +1,340 @@
+-- Dirty set in a slot's cell: what it leaves of a state, of an event that takes the right to write, and of a store.
+use Rattle.std.proofs.Common.{◌≡◌, ℕ, zero, suc, ◌+◌, ◌/◌, ◌%◌, ◌<◌, Bool, true, false, cond, List, [], ◌∷◌, refl, ap, sym, ◌∙◌, subst, arith, inl, inr, Option, Some, None, unwrap_or, is_some}
+use Rattle.std.specs.Prelude.{◌⊎◌, if◌then◌else◌}
+use Rattle.std.specs.Option.{option_map}
+use Rattle.page_words.specs.Addresses.{offset_number, byte_count, EachTouched}
+use Rattle.page_words.specs.declared.addresses.Size.{Size}
+use Rattle.page_words.specs.FiniteMap as map
+use Rattle.page_words.specs.FiniteMap.{same}
+use Rattle.page_words.specs.FiniteSet as set
+use Rattle.page_words.proofs.MapLemmas.{same_map, same_itself, same_or_not, get-insert, get-map_values}
+use Rattle.address_space.specs.Spaces.{Slot, slot_order, Cell, Spaces, at_page, slot_at, cell_or_fresh, fresh, with_bytes, set_bytes, write_at, stored, all_stored, bytes_of, protected}
+use Rattle.address_space.proofs.costs.MapFirst.{IsThere, with_touched-same}
+use Rattle.address_space.proofs.steps.Bytes.{each_byte}
+use Rattle.process_table.specs.State.{State}
+use Rattle.process_table.specs.WellFormed.{IsWellFormed}
+use Rattle.process_table.proofs.CellLaws.{get-inserted}
+use Rattle.process_table.proofs.SpaceLaws.{well_formed-flags}
+use Rattle.fault_handler.proofs.Settled.{each_page}
+use Rattle.kernel_calls.specs.Machine.{answer, answer_of, after, next, completes}
+use Rattle.kernel_calls.specs.declared.calls.Call.{Call}
+use Rattle.kernel_calls.specs.declared.calls.Call.TheVariants as call
+use Rattle.kernel_calls.specs.declared.calls.Event.{Event}
+use Rattle.kernel_calls.proofs.Decided.{next-stays, next-goes}
+use Rattle.shootdowns.specs.Windows.{only_takes, takes_right}
+use Rattle.shootdowns.proofs.Alike.{AlikeCell, same_cell}
+use Rattle.shootdowns.proofs.Filled.{protects_mapped, completed}
+use Rattle.shootdowns.proofs.Turned.{Grows, Has, has_then, grows_stored, bytes_grow, stores_turn, answer_alike}
+
+-- a cell with dirty set, where it is the one
+abbrev pub dirt : Bool → Cell → Cell
+dirt true c = record c { dirty = true }
+dirt false c = c
+
+pub dirt_alike : (b : Bool) (c : Cell) → AlikeCell c (dirt b c)
+dirt_alike true c = record { write = refl; may = refl; holders = refl }
+dirt_alike false c = same_cell c
+
+pub dirt_flags : (b : Bool) (c : Cell) → (c.accessed ≡ true → (dirt b c).accessed ≡ true) × (c.dirty ≡ true → (dirt b c).dirty ≡ true)
+dirt_flags true c = (λ h. h, λ h. refl)
+dirt_flags false c = (λ h. h, λ h. h)
+
+pub dirt_accessed : (b : Bool) (c : Cell) → (dirt b c).accessed ≡ c.accessed
+dirt_accessed true c = refl
+dirt_accessed false c = refl
+
+pub dirt_bytes : (b : Bool) (c : Cell) → (dirt b c).bytes ≡ c.bytes
+dirt_bytes true c = refl
+dirt_bytes false c = refl
+
+-- ---- Spaces
+
+abbrev pub dirty_in : Slot → Spaces → Spaces
+dirty_in at S = map.map_values (λ q (c : Cell). dirt (same slot_order at q) c) S
+
+abbrev pub dirty_at : Slot → State → State
+dirty_at at s = record s { spaces = dirty_in at s.spaces }
+
+pub right_taken : (c : Call) → takes_right c ≡ true → only_takes c ≡ true
+right_taken (call.Protect page false) h = refl
+right_taken _ h = cc
+
+module _ (at : Slot) where
+  pub get_dirty : (S : Spaces) (r : Slot) → map.get (dirty_in at S) r ≡ option_map (dirt (same slot_order at r)) (map.get S r)
+  get_dirty S r = get-map_values slot_order (λ q (c : Cell). dirt (same slot_order at q) c) S r
+
+  pub grows_dirty : (S : Spaces) → Grows S (dirty_in at S)
+  grows_dirty S = record {
+    cells = λ slot c there. (
+      dirt (same slot_order at slot) c,
+      get_dirty S slot ∙ ap (option_map (dirt (same slot_order at slot))) there,
+      dirt_alike (same slot_order at slot) c,
+      dirt_flags (same slot_order at slot) c,
+    );
+    back = λ slot d there. by slot d (map.get S slot) refl (sym (get_dirty S slot) ∙ there);
+  }
+    where
+      by : (slot : Slot) (d : Cell) (z : Option Cell) → map.get S slot ≡ z → option_map (dirt (same slot_order at slot)) (map.get S slot) ≡ Some d
+          → (c : Cell) × (map.get S slot ≡ Some c) × AlikeCell c d
+      by slot d None is k = absurd (let e : None ≡ Some d = sym (ap (option_map (dirt (same slot_order at slot))) is) ∙ k in cc)
+      by slot d (Some c) is k =
+          let e : Some (dirt (same slot_order at slot) c) ≡ Some d = sym (ap (option_map (dirt (same slot_order at slot))) is) ∙ k in
+          let q : dirt (same slot_order at slot) c ≡ d = cc in
+          (c, is, subst (AlikeCell c) q (dirt_alike (same slot_order at slot) c))
+
+  -- the state stays well formed, where the cell has accessed
+  pub well_dirty : (s : State) (c : Cell) → map.get s.spaces at ≡ Some c → c.accessed ≡ true → IsWellFormed s → IsWellFormed (dirty_at at s)
+  well_dirty s c there accessed well =
+      subst (λ (S : Spaces). IsWellFormed (record s { spaces = S })) (sym is)
+      (well_formed-flags s at c there well (record c { dirty = true })
+      (λ q. record { holders = refl; bytes_in = λ _. refl; bytes_out = λ _. refl; write = λ f. f; may = refl; dirty = λ _ _. accessed }))
+    where
+      is : dirty_in at s.spaces ≡ map.insert s.spaces at (record c { dirty = true })
+      is = same_map _ _ (λ r. get_dirty s.spaces r ∙ by r (same_or_not slot_order r at) ∙ sym (get-insert s.spaces at (record c { dirty = true }) r))
+        where
+          by : (r : Slot) → ((r ≡ at) × (same slot_order r at ≡ true)) ⊎ (same slot_order r at ≡ false)
+              → option_map (dirt (same slot_order at r)) (map.get s.spaces r) ≡ cond (same slot_order r at) (Some (record c { dirty = true })) (map.get s.spaces r)
+          by r (inl h) =
+              (λ i. option_map (dirt ((ap (same slot_order at) h.0 ∙ same_itself slot_order at) i)) ((ap (map.get s.spaces) h.0 ∙ there) i))
+              ∙ sym (ap (λ b. cond b (Some (record c { dirty = true })) (map.get s.spaces r)) h.1)
+          by r (inr h) =
+              (λ i. option_map (dirt (other i)) (map.get s.spaces r)) ∙ none (map.get s.spaces r)
+              ∙ sym (ap (λ b. cond b (Some (record c { dirty = true })) (map.get s.spaces r)) h)
+            where
+              other : same slot_order at r ≡ false
+              other = flip (same_or_not slot_order at r)
+                where
+                  flip : ((at ≡ r) × (same slot_order at r ≡ true)) ⊎ (same slot_order at r ≡ false) → same slot_order at r ≡ false
+                  flip (inl k) = absurd (let e : true ≡ false = sym (ap (same slot_order r) k.0 ∙ same_itself slot_order r) ∙ h in cc)
+                  flip (inr k) = k
+
+              none : (z : Option Cell) → option_map (dirt false) z ≡ z
+              none None = refl
+              none (Some d) = refl
+
+  -- ---- An event that takes the right to write
+
+  dirt_write : (b w : Bool) (c : Cell) → record (dirt b c) { write = w } ≡ dirt b (record c { write = w })
+  dirt_write true w c = refl
+  dirt_write false w c = refl
+
+  right_dirty : (S : Spaces) (slot : Slot) (w : Bool) → is_some (map.get S slot) ≡ true → protected (dirty_in at S) slot w ≡ dirty_in at (protected S slot w)
+  right_dirty S slot w there = same_map _ _ (λ r.
+      get-insert (dirty_in at S) slot (record (cell_or_fresh (dirty_in at S) slot) { write = w }) r
+      ∙ ap (cond (same slot_order r slot) (Some (record (cell_or_fresh (dirty_in at S) slot) { write = w }))) (get_dirty S r)
+      ∙ by r (same_or_not slot_order r slot)
+      ∙ sym (get_dirty (protected S slot w) r
+      ∙ ap (option_map (dirt (same slot_order at r))) (get-insert S slot (record (cell_or_fresh S slot) { write = w }) r)))
+    where
+      own : (z : Option Cell) → map.get S slot ≡ z → is_some z ≡ true
+          → record (cell_or_fresh (dirty_in at S) slot) { write = w } ≡ dirt (same slot_order at slot) (record (cell_or_fresh S slot) { write = w })
+      own None is k = cc
+      own (Some c) is k =
+          ap (λ (z : Option Cell). record (unwrap_or z (fresh slot true)) { write = w }) (get_dirty S slot ∙ ap (option_map (dirt (same slot_order at slot))) is)
+          ∙ dirt_write (same slot_order at slot) w c
+          ∙ sym (ap (λ (z : Option Cell). dirt (same slot_order at slot) (record (unwrap_or z (fresh slot true)) { write = w })) is)
+
+      by : (r : Slot) → ((r ≡ slot) × (same slot_order r slot ≡ true)) ⊎ (same slot_order r slot ≡ false)
+          → cond (same slot_order r slot) (Some (record (cell_or_fresh (dirty_in at S) slot) { write = w })) (option_map (dirt (same slot_order at r)) (map.get S r))
+          ≡ option_map (dirt (same slot_order at r)) (cond (same slot_order r slot) (Some (record (cell_or_fresh S slot) { write = w })) (map.get S r))
+      by r (inl is) =
+          ap (λ k. cond k (Some (record (cell_or_fresh (dirty_in at S) slot) { write = w })) (option_map (dirt (same slot_order at r)) (map.get S r))) is.1
+          ∙ ap (λ (c : Cell). Some c) (own (map.get S slot) refl there)
+          ∙ (λ i. Some (dirt (same slot_order at (sym is.0 i)) (record (cell_or_fresh S slot) { write = w })))
+          ∙ sym (ap (λ k. option_map (dirt (same slot_order at r)) (cond k (Some (record (cell_or_fresh S slot) { write = w })) (map.get S r))) is.1)
+      by r (inr other) =
+          ap (λ k. cond k (Some (record (cell_or_fresh (dirty_in at S) slot) { write = w })) (option_map (dirt (same slot_order at r)) (map.get S r))) other
+          ∙ sym (ap (λ k. option_map (dirt (same slot_order at r)) (cond k (Some (record (cell_or_fresh S slot) { write = w })) (map.get S r))) other)
+
+  pub answer_dirty : (s : State) (e : Event) → takes_right e.call ≡ true → answer (dirty_at at s) e ≡ answer s e
+  answer_dirty s e h = answer_alike s (dirty_at at s) e (right_taken e.call h) refl (grows_dirty s.spaces)
+
+  after_dirty : (s : State) (p : ℕ) (c : Call) → takes_right c ≡ true → completes (answer_of s p c) ≡ true → after (dirty_at at s) p c ≡ dirty_at at (after s p c)
+  after_dirty s p (call.Protect page false) h done = ap (λ (S : Spaces). record s { spaces = S }) (right_dirty s.spaces (at_page p page) false (protects_mapped s p page done))
+  after_dirty s p _ h done = cc
+
+  pub next_dirty : (s : State) (e : Event) → takes_right e.call ≡ true → next (dirty_at at s) e ≡ dirty_at at (next s e)
+  next_dirty s e h = by (completes (answer s e)) refl
+    where
+      by : (b : Bool) → completes (answer s e) ≡ b → next (dirty_at at s) e ≡ dirty_at at (next s e)
+      by false is =
+          next-stays (dirty_at at s) e (ap completes (answer_dirty s e h) ∙ is)
+          ∙ ap (dirty_at at) (sym (next-stays s e is))
+      by true is =
+          next-goes (dirty_at at s) e (ap completes (answer_dirty s e h) ∙ is)
+          ∙ after_dirty s e.pid e.call h (completed s e is)
+          ∙ ap (dirty_at at) (sym (next-goes s e is))
+
+  -- ---- A store
+
+  stored_dirty : (S : Spaces) (b : Slot) (c : Cell) (o : ℕ) (ys : List ℕ) → map.get S b ≡ Some c → dirty_in at (stored S b o ys) ≡ stored (dirty_in at S) b o ys
+  stored_dirty S b c o ys has = same_map _ _ (λ r.
+      get_dirty (stored S b o ys) r
+      ∙ ap (option_map (dirt (same slot_order at r)))
+      (ap (λ (k : Cell). map.get (map.insert (set_bytes S k.holders (write_at k.bytes o ys)) b (record k { bytes = write_at k.bytes o ys; accessed = true; dirty = true })) r) (ap (λ (z : Option Cell). unwrap_or z (fresh b true)) has)
+      ∙ get-insert (set_bytes S c.holders new) b done r
+      ∙ ap (cond (same slot_order r b) (Some done)) (get-map_values slot_order (λ q (k : Cell). if set.contains c.holders q then with_bytes k new else k) S r))
+      ∙ by (same slot_order at r) (same slot_order r b) (set.contains c.holders r) (map.get S r)
+      ∙ sym (ap (λ (k : Cell). map.get (map.insert (set_bytes (dirty_in at S) k.holders (write_at k.bytes o ys)) b (record k { bytes = write_at k.bytes o ys; accessed = true; dirty = true })) r)
+      (ap (λ (z : Option Cell). unwrap_or z (fresh b true)) (get_dirty S b ∙ ap (option_map (dirt (same slot_order at b))) has))
+      ∙ whole (same slot_order at b) r
+      ∙ get-insert (set_bytes (dirty_in at S) c.holders new) b done r
+      ∙ ap (cond (same slot_order r b) (Some done))
+      (get-map_values slot_order (λ q (k : Cell). if set.contains c.holders q then with_bytes k new else k) (dirty_in at S) r
+      ∙ ap (option_map (λ (k : Cell). if set.contains c.holders r then with_bytes k new else k)) (get_dirty S r))))
+    where
+      new : List ℕ
+      new = write_at c.bytes o ys
+
+      done : Cell
+      done = record c { bytes = write_at c.bytes o ys; accessed = true; dirty = true }
+
+      whole : (y : Bool) (r : Slot) → map.get (map.insert (set_bytes (dirty_in at S) (dirt y c).holders (write_at (dirt y c).bytes o ys)) b (record (dirt y c) { bytes = write_at (dirt y c).bytes o ys; accessed = true; dirty = true })) r
+          ≡ map.get (map.insert (set_bytes (dirty_in at S) c.holders (write_at c.bytes o ys)) b (record c { bytes = write_at c.bytes o ys; accessed = true; dirty = true })) r
+      whole true r = refl
+      whole false r = refl
+
+      put : (x m : Bool) (k : Cell) → dirt x (if m then with_bytes k (write_at c.bytes o ys) else k) ≡ (if m then with_bytes (dirt x k) (write_at c.bytes o ys) else dirt x k)
+      put true true k = refl
+      put true false k = refl
+      put false true k = refl
+      put false false k = refl
+
+      own : (x : Bool) → dirt x (record c { bytes = write_at c.bytes o ys; accessed = true; dirty = true }) ≡ record c { bytes = write_at c.bytes o ys; accessed = true; dirty = true }
+      own true = refl
+      own false = refl
+
+      by : (x q m : Bool) (z : Option Cell)
+          → option_map (dirt x) (cond q (Some (record c { bytes = write_at c.bytes o ys; accessed = true; dirty = true })) (option_map (λ (k : Cell). if m then with_bytes k (write_at c.bytes o ys) else k) z))
+          ≡ cond q (Some (record c { bytes = write_at c.bytes o ys; accessed = true; dirty = true })) (option_map (λ (k : Cell). if m then with_bytes k (write_at c.bytes o ys) else k) (option_map (dirt x) z))
+      by x true m z = ap (λ (k : Cell). Some k) (own x)
+      by x false m None = refl
+      by x false m (Some k) = ap (λ (k : Cell). Some k) (put x m k)
+
+  all_dirty : (k v a p : ℕ) (S : Spaces) → ((i : ℕ) → i < k → Has S (slot_at p (a + i))) → dirty_in at (all_stored S p a (bytes_of k v)) ≡ all_stored (dirty_in at S) p a (bytes_of k v)
+  all_dirty k v a p S each = stores_turn (dirty_in at) (λ S b. Unit {0}) (λ S b c o ys has good. tt) (λ S b o ys has good. stored_dirty S b has.0 o ys has.1) k v a p S (λ i l. (each i l, tt))
+
+  -- where a store has set it already
+  same_dirty : (S : Spaces) (d : Cell) → map.get S at ≡ Some d → d.dirty ≡ true → dirty_in at S ≡ S
+  same_dirty S d there dirty = same_map _ _ (λ r. get_dirty S r ∙ by r (same_or_not slot_order at r))
+    where
+      by : (r : Slot) → ((at ≡ r) × (same slot_order at r ≡ true)) ⊎ (same slot_order at r ≡ false) → option_map (dirt (same slot_order at r)) (map.get S r) ≡ map.get S r
+      by r (inl is) =
+          let here : map.get S r ≡ Some d = sym (ap (map.get S) is.0) ∙ there in
+          (λ i. option_map (dirt (is.1 i)) (here i)) ∙ (λ i. Some (record d { dirty = sym dirty i })) ∙ sym here
+      by r (inr apart) = (λ i. option_map (dirt (apart i)) (map.get S r)) ∙ none (map.get S r)
+        where
+          none : (z : Option Cell) → option_map (dirt false) z ≡ z
+          none None = refl
+          none (Some c) = refl
+
+-- the page of each byte of a store is dirty after it
+dirty_then : (i k v a p : ℕ) (S : Spaces) → i < k → ((j : ℕ) → j < k → Has S (slot_at p (a + j)))
+    → (d : Cell) × (map.get (all_stored S p a (bytes_of k v)) (slot_at p (a + i)) ≡ Some d) × (d.dirty ≡ true)
+dirty_then i zero v a p S l each = absurd (omega (arith, l))
+dirty_then zero (suc k) v a p S l each =
+    let none : a + 0 ≡ a = omega arith in
+    let here = subst (λ n. Has S (slot_at p n)) none (each 0 l) in
+    let T = stored S (slot_at p a) (offset_number a) (v % 256 ∷ []) in
+    let first = grows_stored S (slot_at p a) here.0 (offset_number a) (v % 256 ∷ []) here.1 in
+    let grows = bytes_grow k (v / 256) (a + 1) p T
+    (λ j l. (let next : a + suc j ≡ a + 1 + j = omega arith in
+    has_then S T (slot_at p (a + 1 + j)) first (subst (λ n. Has S (slot_at p n)) next (each (suc j) (omega (arith, l)))))) in
+    let c = cell_or_fresh S (slot_at p a) in
+    let done : Cell = record c { bytes = write_at c.bytes (offset_number a) (v % 256 ∷ []); accessed = true; dirty = true } in
+    let now : map.get T (slot_at p a) ≡ Some done = get-inserted (set_bytes S c.holders (write_at c.bytes (offset_number a) (v % 256 ∷ []))) (slot_at p a) done in
+    let d = grows.cells (slot_at p a) done now in
+    (d.0, ap (λ n. map.get (all_stored T p (a + 1) (bytes_of k (v / 256))) (slot_at p n)) none ∙ d.1, d.3.1 refl)
+dirty_then (suc i) (suc k) v a p S l each =
+    let none : a + 0 ≡ a = omega arith in
+    let here = subst (λ n. Has S (slot_at p n)) none (each 0 (omega (arith, l))) in
+    let T = stored S (slot_at p a) (offset_number a) (v % 256 ∷ []) in
+    let first = grows_stored S (slot_at p a) here.0 (offset_number a) (v % 256 ∷ []) here.1 in
+    let next : a + suc i ≡ a + 1 + i = omega arith in
+    let d = dirty_then i k (v / 256) (a + 1) p T (omega (arith, l))
+    (λ j l. (let next : a + suc j ≡ a + 1 + j = omega arith in
+    has_then S T (slot_at p (a + 1 + j)) first (subst (λ n. Has S (slot_at p n)) next (each (suc j) (omega (arith, l)))))) in
+    (d.0, ap (λ n. map.get (all_stored T p (a + 1) (bytes_of k (v / 256))) (slot_at p n)) next ∙ d.1, d.2)
+
+there_is : (S : Spaces) (p page : ℕ) → Has S (at_page p page) → IsThere S p page
+there_is S p page h = ap is_some h.1
+
+-- a store that touches the page sets dirty itself
+pub after_store_dirty : (s : State) (p addr : ℕ) (size : Size) (value i : ℕ) → i < byte_count size → EachTouched addr size (λ page. Has s.spaces (at_page p page))
+    → after (dirty_at (slot_at p (addr + i)) s) p (call.Store addr size value) ≡ after s p (call.Store addr size value)
+after_store_dirty s p addr size value i l pages =
+    (λ j. record s {
+      spaces = all_stored (with_touched-same (dirty_in at S) p addr size (each_page addr size (λ page. Has S (at_page p page)) (IsThere (dirty_in at S) p)
+          (λ page h. there_is (dirty_in at S) p page (has_then S (dirty_in at S) (at_page p page) (grows_dirty at S) h)) pages) j) p addr (bytes_of (byte_count size) value);
+    })
+    ∙ ap (λ (T : Spaces). record s { spaces = T })
+    (sym (all_dirty at (byte_count size) value addr p S each)
+    ∙ same_dirty at (all_stored S p addr (bytes_of (byte_count size) value)) dirty.0 dirty.1 dirty.2)
+    ∙ sym (λ j. record s { spaces = all_stored (with_touched-same S p addr size (each_page addr size (λ page. Has S (at_page p page)) (IsThere S p) (there_is S p) pages) j) p addr (bytes_of (byte_count size) value) })
+  where
+    S : Spaces
+    S = s.spaces
+
+    at : Slot
+    at = slot_at p (addr + i)
+
+    each : (j : ℕ) → j < byte_count size → Has s.spaces (slot_at p (addr + j))
+    each j l = each_byte addr size (λ page. Has s.spaces (at_page p page)) pages j l
+
+    dirty : (d : Cell) × (map.get (all_stored s.spaces p addr (bytes_of (byte_count size) value)) (slot_at p (addr + i)) ≡ Some d) × (d.dirty ≡ true)
+    dirty = dirty_then i (byte_count size) value addr p s.spaces l each
+
+-- ---- Slots that have it
+
+abbrev pub HasDirty : State → Slot → Type 0
+HasDirty s at = (c : Cell) → map.get s.spaces at ≡ Some c → c.dirty ≡ true
+
+pub own_dirty : (at : Slot) (s : State) → HasDirty (dirty_at at s) at
+own_dirty at s c there = by (map.get s.spaces at) (sym (get_dirty at s.spaces at ∙ ap (λ b. option_map (dirt b) (map.get s.spaces at)) (same_itself slot_order at)) ∙ there)
+  where
+    by : (z : Option Cell) → option_map (dirt true) z ≡ Some c → c.dirty ≡ true
+    by None h = cc
+    by (Some d) h = let e : record d { dirty = true } ≡ c = cc in sym (ap (λ (q : Cell). q.dirty) e)
+
+pub still_dirty : (b at : Slot) (s : State) → HasDirty s at → HasDirty (dirty_at b s) at
+still_dirty b at s has c there = by (map.get s.spaces at) refl (sym (get_dirty b s.spaces at) ∙ there)
+  where
+    by : (z : Option Cell) → map.get s.spaces at ≡ z → option_map (dirt (same slot_order b at)) z ≡ Some c → c.dirty ≡ true
+    by None is h = cc
+    by (Some d) is h =
+        let e : dirt (same slot_order b at) d ≡ c = cc in
+        sym (ap (λ (q : Cell). q.dirty) e) ∙ (dirt_flags (same slot_order b at) d).1 (has d is)
+
+-- after an event that takes a right, a slot is mapped as before, with accessed as before
+pub right_keeps : (s : State) (e : Event) → takes_right e.call ≡ true → (slot : Slot) (c : Cell) → map.get s.spaces slot ≡ Some c
+    → (d : Cell) × (map.get (next s e).spaces slot ≡ Some d) × (d.accessed ≡ c.accessed)
+right_keeps s e takes slot c there = by e.call refl takes (completes (answer s e)) refl
+  where
+    protects : (p page : ℕ) → (d : Cell) × (map.get (protected s.spaces (at_page p page) false) slot ≡ Some d) × (d.accessed ≡ c.accessed)
+    protects p page = at (same_or_not slot_order slot (at_page p page))
+      where
+        new : Cell
+        new = record (cell_or_fresh s.spaces (at_page p page)) { write = false }
+
+        at : ((slot ≡ at_page p page) × (same slot_order slot (at_page p page) ≡ true)) ⊎ (same slot_order slot (at_page p page) ≡ false)
+            → (d : Cell) × (map.get (protected s.spaces (at_page p page) false) slot ≡ Some d) × (d.accessed ≡ c.accessed)
+        at (inl is) = (
+          record (cell_or_fresh s.spaces (at_page p page)) { write = false },
+          get-insert s.spaces (at_page p page) (record (cell_or_fresh s.spaces (at_page p page)) { write = false }) slot
+              ∙ ap (λ b. cond b (Some (record (cell_or_fresh s.spaces (at_page p page)) { write = false })) (map.get s.spaces slot)) is.1,
+          ap (λ (z : Option Cell). (unwrap_or z (fresh (at_page p page) true)).accessed) (sym (ap (map.get s.spaces) is.0) ∙ there),
+        )
+        at (inr other) = (
+          c,
+          get-insert s.spaces (at_page p page) (record (cell_or_fresh s.spaces (at_page p page)) { write = false }) slot
+              ∙ ap (λ b. cond b (Some (record (cell_or_fresh s.spaces (at_page p page)) { write = false })) (map.get s.spaces slot)) other ∙ there,
+          refl,
+        )
+
+    by : (k : Call) → e.call ≡ k → takes_right k ≡ true → (b : Bool) → completes (answer s e) ≡ b
+        → (d : Cell) × (map.get (next s e).spaces slot ≡ Some d) × (d.accessed ≡ c.accessed)
+    by k is h false stops = (c, ap (λ (t : State). map.get t.spaces slot) (next-stays s e stops) ∙ there, refl)
+    by (call.Protect page false) is h true goes =
+        let d = protects e.pid page in
+        (d.0, ap (λ (t : State). map.get t.spaces slot) (next-goes s e goes ∙ ap (after s e.pid) is) ∙ d.1, d.2)
+    by _ is h true goes = cc

@@ -1,0 +1,54 @@
+-- A worked window: a page is unmapped, and a processor loads and stores by what it kept of it.
+use Rattle.std.specs.Prelude.{◌≡◌, ℕ, List, [], ◌∷◌}
+use Rattle.page_words.specs.declared.addresses.Size.TheVariants.{One}
+use Rattle.process_table.specs.State.{open_with}
+use Rattle.process_table.specs.View.{View}
+use Rattle.kernel_calls.specs.Machine.{next}
+use Rattle.kernel_calls.specs.Processors.{Processors, IsMarked, IsLoaded}
+use Rattle.kernel_calls.specs.declared.calls.Call.{Call}
+use Rattle.kernel_calls.specs.declared.calls.Call.TheVariants as call
+use Rattle.kernel_calls.specs.declared.calls.Event.{Event}
+use Rattle.kernel_calls.specs.declared.calls.Reply.TheVariants as reply
+use Rattle.kernel_calls.specs.declared.translations.Ended.TheVariants as end
+use Rattle.shootdowns.specs.Windows.{Begins, IsStale, Steps, nobody, settled}
+
+-- a call of process 0
+abbrev pub by_root : Call → Event
+by_root c = record { cpu = 0; pid = 0; call = c }
+
+-- it stores 7 to the first byte of its first page
+abbrev pub first_store : Event
+first_store = by_root (call.Store 0x40000000 One 7)
+
+-- it unmaps the page
+abbrev pub unmap_it : Event
+unmap_it = by_root (call.Unmap 0x40000)
+
+-- it loads that byte, and stores 8 there
+abbrev pub load_it : Event
+load_it = by_root (call.Load 0x40000000 One)
+
+abbrev pub store_it : Event
+store_it = by_root (call.Store 0x40000000 One 8)
+
+-- nothing is kept
+abbrev pub none_kept : Processors
+none_kept i = []
+
+-- The core that has the stored page carries out the Unmap, and then accessed is set in a directory word. Processor 0 kept
+-- the page's translation: it loads by it, and it stores by it. Then it invalidates, and the window ends. The order of
+-- these has the Load and the Store before the Unmap, and the Load has what was stored first.
+pub record WorkedWindow (x : View) : Type 0 where
+  pub before : View
+  pub opened : before.state ≡ next (open_with 16) first_store
+  pub left : View
+  pub begins : Begins before unmap_it reply.Done left
+  pub marked : IsMarked left x
+  pub keeps : Processors
+  pub loaded : IsLoaded (keeps 0) x load_it (reply.Value 7)
+  pub bytes : List ℕ
+  pub stale : IsStale (keeps 0) x store_it reply.Done bytes
+  pub last : Processors
+  pub steps : Steps (settled end.Nothing nobody before) none_kept (load_it ∷ store_it ∷ unmap_it ∷ [])
+      (reply.Value 7 ∷ reply.Done ∷ reply.Done ∷ [])
+      (settled end.Nothing nobody (record x { state = next (next before.state store_it) unmap_it; bytes = bytes })) last
