@@ -8,3 +8,4 @@ pub mod WrittenWhole
 pub mod Whole
 pub mod InUse
 pub mod Told
+pub mod GatherLemmas

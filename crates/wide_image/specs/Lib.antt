@@ -5,3 +5,5 @@ pub mod Codes
 pub mod Faults
 pub mod Reading
 pub mod InUse
+pub mod Gathered
+pub mod Stored

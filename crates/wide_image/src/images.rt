@@ -64,6 +64,23 @@ impl WideImage {
         }
     }
 
+    /// What each process has, by number, what each frame serves, all bytes, and the offers.
+    pub(crate) fn into_parts(
+        self,
+    ) -> ([Option<Process>; 64], Vec<Role>, Vec<u8>, Vec<PendingOffer>)
+        ensures image { image_with result.0 result.1.items result.2.items ≡ self.image }
+        ensures offers { result.3.items ≡ self.offers }
+        ensures whole { IsWhole self }
+    {
+        let WideImage {
+            processes,
+            roles,
+            bytes,
+            offers,
+        } = self;
+        (processes, roles, bytes, offers)
+    }
+
     /// That its fields keep their rules. It computes nothing.
     pub fn within(&self)
         ensures { IsWhole self.now }
