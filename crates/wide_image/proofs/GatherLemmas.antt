@@ -26,7 +26,7 @@ each_one : {X : Type 0} (P : X → Type 0) (o : X) → P o → (i : ℕ) (x : X)
 each_one P o p zero x h = let e : o ≡ x = ap (λ (y : Option _). unwrap_or y o) h in subst P e p
 each_one P o p (suc i) x h = cc
 
-abbrev key_at : PendingOffer → OfferKey
+abbrev pub key_at : PendingOffer → OfferKey
 key_at o = offer_key o.offerer o.page o.target
 
 -- offers with one place are one

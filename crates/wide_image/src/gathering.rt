@@ -1,6 +1,6 @@
 //! The pending offers of a core, in the order in which an image has them.
 
-ghost use Rattle.std.specs.Prelude.{◌≡◌, ◌+◌, ◌<◌, true, IfOk};
+ghost use Rattle.std.specs.Prelude.{◌≡◌, ◌+◌, ◌<◌, ◌≤◌, true, IfOk};
 ghost use Rattle.wide_image.specs.Offers.{AreListed};
 ghost use Rattle.wide_image.specs.Wide.{AreOffers};
 ghost use Rattle.wide_image.specs.Gathered.{ListedBelow, AreValid, place_of};
@@ -8,6 +8,7 @@ ghost use Rattle.wide_image.specs.Gathered.{ListedBelow, AreValid, place_of};
 use crate::offers::PendingOffer;
 use kernel_calls::Core;
 use memory_image::NoMemory;
+use page_sharing::Offer;
 use page_words::{Page, Pid};
 use std::alloc::Global;
 
@@ -26,6 +27,38 @@ fn are_valid(core: &Core)
     core.stands();
 }
 
+/// An offer of a process.
+fn pending_by(offerer: Pid, offer: Offer) -> PendingOffer
+    ensures { result ≡ record {
+      offerer = offerer;
+      page = offer.page;
+      target = offer.target;
+      write = offer.write;
+    } }
+{
+    PendingOffer {
+        offerer,
+        page: offer.page,
+        target: offer.target,
+        write: offer.write,
+    }
+}
+
+/// The number of an offer's page.
+fn page_in(offer: &PendingOffer) -> u32
+    ensures { result ≡ offer.now.page }
+{
+    offer.page.0
+}
+
+/// The number after that of an offer's target.
+fn target_after(offer: &PendingOffer) -> u32
+    ensures is { result ≡ offer.now.target + 1 }
+    ensures most { result ≤ 64 }
+{
+    u32::from(offer.target.number()) + 1
+}
+
 /// Adds the pending offers of a process to those of processes before it. Whether there was memory.
 fn gather(core: &Core, pid: Pid, offers: &mut Vec<PendingOffer>) -> bool
     requires { ListedBelow core.now.state.offers (place_of pid 0) offers.old.items }
@@ -35,20 +68,16 @@ fn gather(core: &Core, pid: Pid, offers: &mut Vec<PendingOffer>) -> bool
     let mut page = 0;
     let mut target = 0;
     'next: loop {
-        let Some(found) = core.next_offer(pid, Page(page), target) else {
-            return true;
+        let found = match core.next_offer(pid, Page(page), target) {
+            Some(found) => found,
+            None => return true,
         };
-        let offer = PendingOffer {
-            offerer: pid,
-            page: found.page,
-            target: found.target,
-            write: found.write,
-        };
+        let offer = pending_by(pid, found);
         let Ok(()) = offers.push(offer) else {
             return false;
         };
-        page = found.page.0;
-        target = u32::from(found.target.number()) + 1;
+        page = page_in(&offer);
+        target = target_after(&offer);
     }
 }
 

@@ -8,7 +8,7 @@ pub core_of-requires-clause-fields : goal.core_of-requires-clause-fields
 core_of-requires-clause-fields c = subst IsWideImage (sym c.into_parts-processes.ensures.image) c.into_parts-processes.ensures.whole.fields.image
 
 pub core_of-requires-clause-sound : goal.core_of-requires-clause-sound
-core_of-requires-clause-sound c = subst IsSound (sym c.into_parts-processes.ensures.image) c.requires
+core_of-requires-clause-sound c = subst IsSound (sym c.into_parts-processes.ensures.image) c.requires.sound
 
 pub returns-in-Ok-clause-shows : goal.returns-in-Ok-clause-shows
 returns-in-Ok-clause-shows c = subst (λ (image : Image). IsImageOf c.in-Ok.core image) c.into_parts-processes.ensures.image c.in-Ok.ensures.shows
