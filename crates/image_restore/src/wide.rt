@@ -96,6 +96,9 @@ pub fn restore_wide(alloc: Global, image: WideImage) -> Result<Core, WideRestore
     let (mut core, offers) = made;
     match make_offers(&mut core, offers.as_slice()) {
         None => Ok(core),
-        Some((number, reply)) => Err(WideRestoreFault::BadOffer { number, reply }),
+        Some(refused) => Err(WideRestoreFault::BadOffer {
+            number: refused.0,
+            reply: refused.1,
+        }),
     }
 }
