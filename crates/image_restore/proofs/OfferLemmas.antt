@@ -38,7 +38,7 @@ done_is (reply.Refused c) h = cc
 pub not_done : (r : Reply) → is_done r ≡ false → r ≢ reply.Done
 not_done r h e = let k : false ≡ true = sym h ∙ ap is_done e in cc
 
-abbrev key_of : PendingOffer → OfferKey
+abbrev pub key_of : PendingOffer → OfferKey
 key_of o = offer_key o.offerer o.page o.target
 
 record IsMade (s : State) (o : PendingOffer) : Type 0 where

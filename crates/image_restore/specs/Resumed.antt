@@ -15,7 +15,9 @@ use Rattle.image_restore.specs.declared.wide_faults.WideRestoreFault.{WideRestor
 use Rattle.image_restore.specs.declared.wide_faults.WideRestoreFault.TheVariants as fault
 use Rattle.wide_image.specs.declared.offers.PendingOffer.{PendingOffer}
 use Rattle.wide_image.specs.Offers.{AreListed}
-use Rattle.wide_image.specs.Wide.{WideImage}
+use Rattle.process_table.specs.WellFormed.{IsWellFormed}
+use Rattle.wide_image.specs.Stored.{IsWholeMachine}
+use Rattle.wide_image.specs.Wide.{WideImage, text, Encodes}
 
 -- the event that makes an offer
 abbrev pub offer_event : PendingOffer → Event
@@ -43,6 +45,9 @@ pub record IsResumed (core : View) (w : WideImage) : Type 0 where
 pub record IsRefused (s : State) (offers : List PendingOffer) (number : ℕ) (r : Reply) : Type 0 where
   pub offer : PendingOffer
   pub here : slice_get offers number ≡ Some offer
+  -- spaces and book stay, and the offers before it are made
+  pub same : after_offers s (take number offers) ≡ record s { offers = (after_offers s (take number offers)).offers }
+  pub before : AreListed (after_offers s (take number offers)).offers (take number offers)
   pub answered : answer (after_offers s (take number offers)) (offer_event offer) ≡ r
   pub refused : r ≢ reply.Done
 
@@ -55,3 +60,15 @@ abbrev pub NamesFault : WideImage → WideRestoreFault → Type 0
 NamesFault w (fault.NotSound named) = FailsFirst w.image named
 NamesFault w (fault.BadOffer number r) = RefusesOffer w number r
 NamesFault w fault.NoMemory = Unit {0}
+
+-- the image is sound, and its offers are those of a well-formed state that it represents
+pub record IsSoundWide (w : WideImage) : Type 0 where
+  pub state : State
+  pub stands : StandsFor w.image state
+  pub well_formed : IsWellFormed state
+  pub offers : AreListed state.offers w.offers
+
+-- the image that is read of a machine's text is sound, and a core of it is in the machine's state, with its offers
+abbrev pub StoredMachinesResume : Type 0
+StoredMachinesResume = (v : View) (w read : WideImage) → IsWholeMachine v w → IsWellFormed v.state → Encodes (text w) read
+    → IsSoundWide read × ((core : View) → IsResumed core read → core.state ≡ v.state)

@@ -10,7 +10,9 @@ mod wide_faults;
 
 pub use faults::{Failed, RestoreFault};
 pub use image_check::{FrameClause, Image, ProcessClause, read_image};
-pub use laws::{restored_cores_answer_alike, restored_cores_have_their_files};
+pub use laws::{
+    restored_cores_answer_alike, restored_cores_have_their_files, stored_machines_resume,
+};
 pub use restoring::{first_failed, restore};
 pub use wide::restore_wide;
 pub use wide_faults::WideRestoreFault;

@@ -4,8 +4,8 @@ ghost use Rattle.std.specs.Prelude.{◌≡◌, ◌<◌, ◌^◌, length, IfOk, I
 ghost use Rattle.page_words.specs.FiniteMap as map;
 ghost use Rattle.kernel_calls.specs.Machine.{answer, next};
 ghost use Rattle.memory_image.specs.Sound.{IsSound};
-ghost use Rattle.wide_image.specs.Offers.{AreListed};
-ghost use Rattle.image_restore.specs.Resumed.{offer_event, is_done, IsResumed, IsRefused, KeepsWhatStands, NamesFault};
+ghost use Rattle.wide_image.specs.Offers.{AreListed, Rise};
+ghost use Rattle.image_restore.specs.Resumed.{offer_event, is_done, IsResumed, IsRefused, IsSoundWide, KeepsWhatStands, NamesFault};
 
 use crate::restoring::first_failed;
 use crate::wide_faults::WideRestoreFault;
@@ -60,7 +60,9 @@ fn make_offers(core: &mut Core, offers: &[PendingOffer]) -> Option<(u32, Reply)>
 fn check_wide(alloc: Global, image: &WideImage) -> Result<(), WideRestoreFault>
     ensures sound { OnOk result (IsSound image.now.image) }
     ensures fault { IfErr result (NamesFault image.now) }
+    ensures passes { IsSound image.now.image → IfErr result (λ fault. fault ≡ WideRestoreFault.NoMemory) }
 {
+    image.within();
     let shown = image.image();
     let Ok(verdict) = check_by_ref(alloc, &shown) else {
         return Err(WideRestoreFault::NoMemory);
@@ -71,9 +73,10 @@ fn check_wide(alloc: Global, image: &WideImage) -> Result<(), WideRestoreFault>
     }
 }
 
-/// How many offers an image has is a number of 32 bits. It computes nothing.
-fn has_few_offers(image: &WideImage)
-    ensures { length image.now.offers < 2 ^ 32 }
+/// An image's offers are in order, and how many they are is a number of 32 bits. It computes nothing.
+fn has_offers(image: &WideImage)
+    ensures few { length image.now.offers < 2 ^ 32 }
+    ensures rise { Rise 0 image.now.offers }
 {
     image.within();
 }
@@ -87,9 +90,12 @@ fn has_few_offers(image: &WideImage)
 pub fn restore_wide(alloc: Global, image: WideImage) -> Result<Core, WideRestoreFault>
     ensures resumed { IfOk result (λ core. IsResumed core image) }
     ensures fault { IfErr result (NamesFault image) }
+    ensures passes { IsSoundWide image → IfErr result (λ fault. fault ≡ WideRestoreFault.NoMemory) }
 {
-    has_few_offers(&image);
-    check_wide(alloc, &image)?;
+    has_offers(&image);
+    if let Err(fault) = check_wide(alloc, &image) {
+        return Err(fault);
+    }
     let Ok(made) = image.into_core(alloc) else {
         return Err(WideRestoreFault::NoMemory);
     };

@@ -112,9 +112,7 @@ fn a_machine_is_stored_and_resumed_whole(rt: HostRuntime) {
 
 /// Bytes with one changed.
 fn with_byte<R: AllocGlobal + Abort>(rt: &R, bytes: &[u8], place: usize, byte: u8) -> Vec<u8> {
-    let mut changed = Vec::from_slice(rt.alloc(), bytes)
-        .ok()
-        .expect(rt, "memory");
+    let mut changed = Vec::from_slice(rt.alloc(), bytes).ok().expect(rt, "memory");
     changed[place] = byte;
     changed
 }

@@ -65,9 +65,7 @@ impl WideImage {
     }
 
     /// What each process has, by number, what each frame serves, all bytes, and the offers.
-    pub(crate) fn into_parts(
-        self,
-    ) -> ([Option<Process>; 64], Vec<Role>, Vec<u8>, Vec<PendingOffer>)
+    pub(crate) fn into_parts(self) -> ([Option<Process>; 64], Vec<Role>, Vec<u8>, Vec<PendingOffer>)
         ensures image { image_with result.0 result.1.items result.2.items ≡ self.image }
         ensures offers { result.3.items ≡ self.offers }
         ensures whole { IsWhole self }

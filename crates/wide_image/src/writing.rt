@@ -165,11 +165,7 @@ fn write_frame<W: Write>(
     }
 }
 
-fn write_frames<W: Write>(
-    roles: &[Role],
-    bytes: &[u8],
-    writer: &mut W,
-) -> Result<(), WriteFailed>
+fn write_frames<W: Write>(roles: &[Role], bytes: &[u8], writer: &mut W) -> Result<(), WriteFailed>
     requires few { length roles.now < 2 ^ 32 }
     requires size { length bytes.now ≡ 4096 * length roles.now }
     ensures ok { OnOk result (Appends (W.contents writer.old) (W.contents writer.new)
