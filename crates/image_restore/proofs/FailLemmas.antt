@@ -11,7 +11,8 @@ use Rattle.image_check.specs.declared.clauses.ProcessClause.{ProcessClause}
 use Rattle.image_check.specs.declared.clauses.FrameClause.{FrameClause}
 use Rattle.image_check.specs.Told.{Told, process_told, frame_told, verdict_on}
 use Rattle.image_check.specs.Verdict.{process_clause, frame_clause}
-use Rattle.image_check.proofs.Agreement.{sound_where_nothing_fails, widened}
+use Rattle.image_check.proofs.Agreement.{sound_where_nothing_fails}
+use Rattle.memory_image.proofs.MachineLemmas.{widened}
 use Rattle.image_restore.specs.Failing.{IsFirst, FailsFrame, FailsFirst}
 use Rattle.image_restore.specs.declared.faults.Failed.{Failed}
 use Rattle.image_restore.specs.declared.faults.Failed.TheVariants as failed

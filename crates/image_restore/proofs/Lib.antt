@@ -1,1 +1,4 @@
 pub mod FailLemmas
+pub mod OfferLemmas
+pub mod OffersTaken
+pub mod Resuming

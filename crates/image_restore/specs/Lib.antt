@@ -1,3 +1,4 @@
 pub mod Failing
 pub mod Alike
 pub mod Restored
+pub mod Resumed

@@ -33,6 +33,8 @@ mod spelling_tests;
 #[cfg(test)]
 mod state_tests;
 #[cfg(test)]
+mod stored_tests;
+#[cfg(test)]
 mod wide_tests;
 #[cfg(test)]
 mod worked_tests;

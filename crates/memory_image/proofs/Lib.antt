@@ -8,6 +8,6 @@ pub mod WorkedRefusals
 pub mod ReadingLemmas
 pub mod RespellLemmas
 pub mod FillLemmas
-mod RestoredLemmas
+pub mod RestoredLemmas
 pub mod WritingLemmas
 pub mod WorkedSpelling

@@ -139,3 +139,16 @@ narrowed image I few = record {
   size = I.size;
   small = I.small;
 }
+
+-- an image that bytes of version 1 or 2 encode has no more frames than a wide core
+pub widened : (image : Image) → IsImage image → IsWideImage image
+widened image I = record {
+  version = I.version;
+  most = (let m = I.most in omega arith);
+  fewest = I.fewest;
+  pids = I.pids;
+  processes = I.processes;
+  roles = I.roles;
+  size = I.size;
+  small = I.small;
+}

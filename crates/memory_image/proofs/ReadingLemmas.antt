@@ -19,7 +19,7 @@ use Rattle.memory_image.specs.Reading.{process_of_numbers, process_in, role_of_n
 use Rattle.memory_image.proofs.FieldLemmas.{none_both, none_each}
 use Rattle.memory_image.proofs.PieceLemmas.{number_spells, take-more, pieces, small-drop}
 
-chosen : {C : Type 0} (b : Bool) (x : Option C) (c : C) → (if b then x else Some c) ≡ None → (b ≡ true) × (x ≡ None)
+pub chosen : {C : Type 0} (b : Bool) (x : Option C) (c : C) → (if b then x else Some c) ≡ None → (b ≡ true) × (x ≡ None)
 chosen true x c h = (refl, h)
 chosen false x c h = cc
 
@@ -88,7 +88,7 @@ process_read n p live parent quota used given directory r (inl l) q u g h =
 
 -- ---- One record of a frame
 
-role_kept : (place role pid slot count : ℕ) → first_failing (role_tests place role pid slot count) ≡ None → IsWord count
+pub role_kept : (place role pid slot count : ℕ) → first_failing (role_tests place role pid slot count) ≡ None → IsWord count
     → (role_bytes (role_of_numbers role pid slot count) ≡ number role ++ number pid ++ number slot ++ number count) × IsRole (role_of_numbers role pid slot count)
 role_kept place zero pid slot count h small =
     let a = chosen (pid == 0) _ _ h in
@@ -121,7 +121,7 @@ role_kept place (suc (suc (suc (suc zero)))) pid slot count h small =
     (sym (λ i. number 4 ++ number (x i) ++ number (y i) ++ number count), small)
 role_kept place (suc (suc (suc (suc (suc k))))) pid slot count h small = absurd (let a = leb-true (suc (suc (suc (suc (suc k))))) 4 (chosen (nat_le (suc (suc (suc (suc (suc k))))) 4) _ _ h).0 in omega arith)
 
-role_owner : (place role pid slot count : ℕ) → first_failing (role_tests place role pid slot count) ≡ None → (role ≡ 2) ⊎ (role ≡ 3) → pid < 64
+pub role_owner : (place role pid slot count : ℕ) → first_failing (role_tests place role pid slot count) ≡ None → (role ≡ 2) ⊎ (role ≡ 3) → pid < 64
 role_owner place role pid slot count h (inl e) = ltb-true pid 64 (chosen (nat_lt pid 64) _ _ (rw e at h)).0
 role_owner place role pid slot count h (inr e) = ltb-true pid 64 (chosen (nat_lt pid 64) _ _ (rw e at h)).0
 
@@ -136,7 +136,7 @@ module _ (xs : List ℕ) (small : (i : ℕ) → slice_index xs i < 256) where
       ∙ ap (λ ys. take 4 (drop place xs) ++ take width ys) (ap (λ k. drop k xs) (let e : place + 4 ≡ place + 4 = refl in e) ∙ sym (drop-drop 4 place xs))
       ∙ take-more 4 width (drop place xs)
 
-  four_numbers : (place : ℕ) → place + 16 ≤ length xs
+  pub four_numbers : (place : ℕ) → place + 16 ≤ length xs
       → number (word_at xs place) ++ number (word_at xs (place + 4)) ++ number (word_at xs (place + 8)) ++ number (word_at xs (place + 12)) ≡ take 16 (drop place xs)
   four_numbers place inside =
       one-more place 12 _ (omega arith) (at (place + 4) (place + 8) (place + 12) (omega arith) (omega arith) (omega arith))
@@ -158,18 +158,54 @@ module _ (xs : List ℕ) (small : (i : ℕ) → slice_index xs i < 256) where
           → number (word_at xs a) ++ number (word_at xs b) ++ number (word_at xs c) ++ number (word_at xs d) ≡ take 16 (drop a xs)
       at a b c d e f g inside = (λ i. number (word_at xs a) ++ number (word_at xs (e i)) ++ number (word_at xs (f i)) ++ number (word_at xs (g i))) ∙ four_numbers a inside
 
-flat-same : {A : Type 0} (f g : ℕ → List A) (first count : ℕ) → ((k : ℕ) → first ≤ k → k < first + count → f k ≡ g k) → flat_map f (range_with_len first count) ≡ flat_map g (range_with_len first count)
+pub flat-same : {A : Type 0} (f g : ℕ → List A) (first count : ℕ) → ((k : ℕ) → first ≤ k → k < first + count → f k ≡ g k) → flat_map f (range_with_len first count) ≡ flat_map g (range_with_len first count)
 flat-same f g first zero h = refl
 flat-same f g first (suc count) h = λ i. h first (omega arith) (omega arith) i ++ flat-same f g (first + 1) count (λ k low high. h k (omega arith) (omega arith)) i
 
-get-map : {X : Type 0} (f : ℕ → X) (n p : ℕ) (x : X) → slice_get (map f (range_with_len 0 n)) p ≡ Some x → (p < n) × (f p ≡ x)
+pub get-map : {X : Type 0} (f : ℕ → X) (n p : ℕ) (x : X) → slice_get (map f (range_with_len 0 n)) p ≡ Some x → (p < n) × (f p ≡ x)
 get-map f n p x h =
     let inside : p < n = (let w = slice_get_within (map f (range_with_len 0 n)) p x h in let l = length-map-range_with_len f 0 n in omega arith) in
     (inside, sym (get_or-map-range_with_len f 0 n p p x inside (omega arith)) ∙ get_or_from_slice_get (map f (range_with_len 0 n)) p x x h)
 
-some-unwrapped : {X : Type 0} (x : Option (Option X)) (r : X) → unwrap_or x None ≡ Some r → x ≡ Some (Some r)
+pub some-unwrapped : {X : Type 0} (x : Option (Option X)) (r : X) → unwrap_or x None ≡ Some r → x ≡ Some (Some r)
 some-unwrapped None r h = cc
 some-unwrapped (Some y) r h = ap Some h
+
+-- a part of a list, and what comes after it
+pub rest_of : (xs : List ℕ) (a b : ℕ) (ys : List ℕ) → ys ≡ drop (a + b) xs → take b (drop a xs) ++ ys ≡ drop a xs
+rest_of xs a b ys h = ap (λ zs. take b (drop a xs) ++ zs) (h ∙ sym (drop-drop b a xs)) ∙ take-append-drop b (drop a xs)
+
+-- ---- The records of processes, in an image of n frames
+
+module _ (xs : List ℕ) (small : (i : ℕ) → slice_index xs i < 256) (n : ℕ) (long : 1548 ≤ length xs) (kept : (p : ℕ) → p < 64 → first_failing (process_fields xs n p) ≡ None) where
+  process-kind : (p : ℕ) → p < 64 → AreLive n p (word_at xs (process_place p)) (word_at xs (process_place p + 4)) (word_at xs (process_place p + 20))
+      ⊎ AreZero (word_at xs (process_place p)) (word_at xs (process_place p + 4)) (word_at xs (process_place p + 8)) (word_at xs (process_place p + 12)) (word_at xs (process_place p + 16)) (word_at xs (process_place p + 20))
+  process-kind p low = process_kept n p (process_place p) _ _ _ _ _ _ (kept p low)
+
+  process-piece : (p : ℕ) → p < 64 → process_bytes (process_in xs p) ≡ take 24 (drop (12 + 24 * p) xs)
+  process-piece p low =
+      process_respelled n p _ _ _ _ _ _ (process-kind p low)
+      ∙ six_numbers xs small (process_place p) (omega arith)
+
+  -- their bytes are those at their places
+  pub records_spelled : flat_map process_bytes (map (process_in xs) (range_with_len 0 64)) ≡ take 1536 (drop 12 xs)
+  records_spelled =
+      flat_map-map process_bytes (process_in xs) (range_with_len 0 64)
+      ∙ flat-same (λ p. process_bytes (process_in xs p)) (λ p. take 24 (drop (12 + 24 * p) xs)) 0 64 (λ p _ high. process-piece p (omega (arith, high)))
+      ∙ pieces xs 24 12 0 64
+
+  -- their numbers are within their limits
+  pub process_fits : (p : ℕ) (r : Process) → unwrap_or (slice_get (map (process_in xs) (range_with_len 0 64)) p) None ≡ Some r → IsProcess n p r
+  process_fits p r h =
+      let k = get-map (process_in xs) 64 p (Some r) (some-unwrapped _ r h) in
+      process_read n p _ _ _ _ _ _ r (process-kind p k.0) (word_at-lt xs (process_place p + 8) small) (word_at-lt xs (process_place p + 12) small) (word_at-lt xs (process_place p + 16) small) k.1
+
+-- a live process's parent is the number of one
+pub parent_in : (xs : List ℕ) (n p : ℕ) → first_failing (process_fields xs n p) ≡ None → HasParent xs p
+parent_in xs n p kept live = elim (process_kept n p (process_place p) _ _ _ _ _ _ kept) [
+  | inl l ↦ l.parent
+  | inr z ↦ absurd (let a = z.live in let b : 0 ≡ 1 = sym a ∙ live in cc)
+]
 
 -- what no reason against bytes says of them
 pub record HeadStands (xs : List ℕ) (n : ℕ) : Type 0 where
@@ -181,25 +217,25 @@ pub record HeadStands (xs : List ℕ) (n : ℕ) : Type 0 where
   pub processes : (p : ℕ) → p < 64 → first_failing (process_fields xs n p) ≡ None
   pub roles : (f : ℕ) → f < n → first_failing (role_fields xs f) ≡ None
 
-no_fault : {X : Type 0} (b : Bool) (x : X) (y : Option X) → (if not b then Some x else y) ≡ None → (b ≡ true) × (y ≡ None)
+pub no_fault : {X : Type 0} (b : Bool) (x : X) (y : Option X) → (if not b then Some x else y) ≡ None → (b ≡ true) × (y ≡ None)
 no_fault true x y h = (refl, h)
 no_fault false x y h = cc
 
-no_bad : {X : Type 0} (b : Bool) (x : X) (y : Option X) → (if b then Some x else y) ≡ None → (b ≡ false) × (y ≡ None)
+pub no_bad : {X : Type 0} (b : Bool) (x : X) (y : Option X) → (if b then Some x else y) ≡ None → (b ≡ false) × (y ≡ None)
 no_bad true x y h = cc
 no_bad false x y h = (refl, h)
 
-or_none : (a b : Bool) → (a || b) ≡ false → (a ≡ false) × (b ≡ false)
+pub or_none : (a b : Bool) → (a || b) ≡ false → (a ≡ false) × (b ≡ false)
 or_none true b h = cc
 or_none false b h = (refl, h)
 
-not_less : (a b : ℕ) → nat_lt a b ≡ false → b ≤ a
+pub not_less : (a b : ℕ) → nat_lt a b ≡ false → b ≤ a
 not_less a b h = elim (cases_lt a b) [
   | inl low ↦ absurd (let y = lt-ltb a b low in cc)
   | inr high ↦ high
 ]
 
-unmapped : {A B : Type 0} (f : A → B) (x : Option A) → option_map f x ≡ None → x ≡ None
+pub unmapped : {A B : Type 0} (f : A → B) (x : Option A) → option_map f x ≡ None → x ≡ None
 unmapped f None h = refl
 unmapped f (Some a) h = cc
 
@@ -224,7 +260,7 @@ kept_of xs h =
       roles = λ f low. none_each (role_fields xs) 0 (word_at xs 8) g.1 f (omega arith) (omega (arith, low));
     }
 
-begins_so : (xs : List ℕ) → begins xs ≡ true → take 4 xs ≡ magic
+pub begins_so : (xs : List ℕ) → begins xs ≡ true → take 4 xs ≡ magic
 begins_so [] h = cc
 begins_so (a ∷ []) h = cc
 begins_so (a ∷ b ∷ []) h = cc
@@ -241,15 +277,6 @@ module _ (xs : List ℕ) (small : (i : ℕ) → slice_index xs i < 256) (K : Hea
 
   word-small : (place : ℕ) → IsWord (word_at xs place)
   word-small place = word_at-lt xs place small
-
-  process-kind : (p : ℕ) → p < 64 → AreLive (word_at xs 8) p (word_at xs (process_place p)) (word_at xs (process_place p + 4)) (word_at xs (process_place p + 20))
-      ⊎ AreZero (word_at xs (process_place p)) (word_at xs (process_place p + 4)) (word_at xs (process_place p + 8)) (word_at xs (process_place p + 12)) (word_at xs (process_place p + 16)) (word_at xs (process_place p + 20))
-  process-kind p low = process_kept (word_at xs 8) p (process_place p) _ _ _ _ _ _ (K.processes p low)
-
-  process-piece : (p : ℕ) → p < 64 → process_bytes (process_in xs p) ≡ take 24 (drop (12 + 24 * p) xs)
-  process-piece p low =
-      process_respelled (word_at xs 8) p _ _ _ _ _ _ (process-kind p low)
-      ∙ six_numbers xs small (process_place p) (let l = K.long in let f = K.fewest in omega arith)
 
   role-read : (f : ℕ) → f < word_at xs 8 → (role_bytes (role_in xs f) ≡ take 16 (drop (1548 + 16 * f) xs)) × IsRole (role_in xs f)
   role-read f low =
@@ -268,23 +295,14 @@ module _ (xs : List ℕ) (small : (i : ℕ) → slice_index xs i < 256) (K : Hea
     most = (let l = roles-long in let k = K.most in omega arith);
     fewest = (let l = roles-long in let k = K.fewest in omega arith);
     pids = length-map-range_with_len (process_in xs) 0 64;
-    processes = λ p r h.
-        let k = get-map (process_in xs) 64 p (Some r) (some-unwrapped _ r h) in
-        subst (λ m. IsProcess m p r) (sym roles-long)
-        (process_read (word_at xs 8) p _ _ _ _ _ _ r (process-kind p k.0) (word-small (process_place p + 8)) (word-small (process_place p + 12)) (word-small (process_place p + 16)) k.1);
+    processes = λ p r h. subst (λ m. IsProcess m p r) (sym roles-long) (process_fits xs small (word_at xs 8) (let l = K.long in omega arith) K.processes p r h);
     roles = λ f r h. let k = get-map (role_in xs) (word_at xs 8) f r h in subst IsRole k.1 (role-read f k.0).1;
     size = body-long ∙ ap (λ m. 4096 * m) (sym roles-long);
     small = small-drop xs (1548 + 16 * word_at xs 8) small;
   }
 
-  rest-of : (a b : ℕ) (ys : List ℕ) → ys ≡ drop (a + b) xs → take b (drop a xs) ++ ys ≡ drop a xs
-  rest-of a b ys h = ap (λ zs. take b (drop a xs) ++ zs) (h ∙ sym (drop-drop b a xs)) ∙ take-append-drop b (drop a xs)
-
   processes-spelled : flat_map process_bytes (map (process_in xs) (range_with_len 0 64)) ≡ take 1536 (drop 12 xs)
-  processes-spelled =
-      flat_map-map process_bytes (process_in xs) (range_with_len 0 64)
-      ∙ flat-same (λ p. process_bytes (process_in xs p)) (λ p. take 24 (drop (12 + 24 * p) xs)) 0 64 (λ p _ high. process-piece p (omega (arith, high)))
-      ∙ pieces xs 24 12 0 64
+  processes-spelled = records_spelled xs small (word_at xs 8) (let l = K.long in omega arith) K.processes
 
   roles-spelled : flat_map role_bytes (map (role_in xs) (range_with_len 0 (word_at xs 8))) ≡ take (16 * word_at xs 8) (drop 1548 xs)
   roles-spelled =
@@ -296,10 +314,10 @@ module _ (xs : List ℕ) (small : (i : ℕ) → slice_index xs i < 256) (K : Hea
   unfolding spelling
   respelled =
       let l = K.long in
-      let body = rest-of 1548 (16 * word_at xs 8) (drop (1548 + 16 * word_at xs 8) xs) refl in
-      let records = rest-of 12 1536 (drop 1548 xs) refl in
-      let count = rest-of 8 4 (drop 12 xs) refl in
-      let version = rest-of 4 4 (drop 8 xs) refl in
+      let body = rest_of xs 1548 (16 * word_at xs 8) (drop (1548 + 16 * word_at xs 8) xs) refl in
+      let records = rest_of xs 12 1536 (drop 1548 xs) refl in
+      let count = rest_of xs 8 4 (drop 12 xs) refl in
+      let version = rest_of xs 4 4 (drop 8 xs) refl in
       let front = take-append-drop 4 xs in
       sym (
       (λ i. magic ++ (number (word_at xs 4) ++ (number (roles-long i) ++ (processes-spelled i ++ (roles-spelled i ++ drop (1548 + 16 * word_at xs 8) xs)))))
@@ -315,10 +333,7 @@ pub spelled : (xs : List ℕ) → ((i : ℕ) → slice_index xs i < 256) → fau
 spelled xs small h = let K = kept_of xs h in record { fits = is_image xs small K; is = respelled xs small K }
 
 pub has_parent : (xs : List ℕ) → fault_of xs ≡ None → (p : ℕ) → p < 64 → HasParent xs p
-has_parent xs h p low live = elim (process_kept (word_at xs 8) p (process_place p) _ _ _ _ _ _ ((kept_of xs h).processes p low)) [
-  | inl l ↦ l.parent
-  | inr z ↦ absurd (let a = z.live in let b : 0 ≡ 1 = sym a ∙ live in cc)
-]
+has_parent xs h p low = parent_in xs (word_at xs 8) p ((kept_of xs h).processes p low)
 
 pub has_owner : (xs : List ℕ) → fault_of xs ≡ None → (f : ℕ) → f < word_at xs 8 → HasOwner xs f
 has_owner xs h f low owned = role_owner (role_place f) (word_at xs (role_place f)) _ _ _ ((kept_of xs h).roles f low) owned

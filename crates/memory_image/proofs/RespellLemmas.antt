@@ -25,11 +25,11 @@ use Rattle.memory_image.proofs.ReadingLemmas.{spelled}
 
 -- ---- Words of a spelling
 
-word_of_number : (m : ℕ) (rest : List ℕ) → IsWord m → word_at (number m ++ rest) 0 ≡ m
+pub word_of_number : (m : ℕ) (rest : List ℕ) → IsWord m → word_at (number m ++ rest) 0 ≡ m
 unfolding word_at
 word_of_number m rest small = four (number m ++ rest) (omega arith) ∙ from_le_bytes-to_le_bytes_4 m small
 
-word-shift : (xs ys : List ℕ) (a o : ℕ) → drop a xs ≡ ys → word_at xs (a + o) ≡ word_at ys o
+pub word-shift : (xs ys : List ℕ) (a o : ℕ) → drop a xs ≡ ys → word_at xs (a + o) ≡ word_at ys o
 unfolding word_at
 word-shift xs ys a o h = ap (λ zs. word_at zs 0) (sym (drop-drop o a xs) ∙ ap (drop o) h)
 
@@ -66,11 +66,11 @@ process_passes n p place r K =
     let d = lt-ltb r.directory n K.directory in
     λ i. if a i then (if d i then None else Some (place + 20)) else Some (place + 4)
 
-abbrev AllProcess : ℕ → ℕ → Option Process → Type 0
+abbrev pub AllProcess : ℕ → ℕ → Option Process → Type 0
 AllProcess n p None = Unit {0}
 AllProcess n p (Some r) = IsProcess n p r
 
-record_passes : (xs rest : List ℕ) (n p : ℕ) (x : Option Process) → n ≤ 4096 → AllProcess n p x → drop (process_place p) xs ≡ process_bytes x ++ rest → first_failing (process_fields xs n p) ≡ None
+record_passes : (xs rest : List ℕ) (n p : ℕ) (x : Option Process) → n ≤ 1048576 → AllProcess n p x → drop (process_place p) xs ≡ process_bytes x ++ rest → first_failing (process_fields xs n p) ≡ None
 unfolding word_at
 record_passes xs rest n p None most K h =
     let w : (o : ℕ) → word_at xs (process_place p + o) ≡ word_at (process_bytes None ++ rest) o = λ o. word-shift xs (process_bytes None ++ rest) (process_place p) o h in
@@ -84,36 +84,48 @@ record_passes xs rest n p (Some r) most K h =
     (λ i. first_failing (process_tests n p (process_place p) (first i) ((w 4 ∙ word_of_number r.parent [] q) i) ((w 8 ∙ word_of_number r.quota [] K.quota) i) ((w 12 ∙ word_of_number r.used [] K.used) i) ((w 16 ∙ word_of_number r.given [] K.given) i) ((w 20 ∙ word_of_number r.directory [] d) i)))
     ∙ process_passes n p (process_place p) r K
 
+some-there : {X : Type 0} (xs : List X) (k : ℕ) (d : X) → k < length xs → (x : X) × (slice_get xs k ≡ Some x)
+some-there xs k d inside = (_, slice_get-get_or xs k d inside)
+
+-- no test refuses the records of an image's processes
+pub processes_pass : (xs rest : List ℕ) (n : ℕ) (processes : List (Option Process)) → n ≤ 1048576 → length processes ≡ 64 → ((p : ℕ) (x : Option Process) → slice_get processes p ≡ Some x → AllProcess n p x)
+    → drop 12 xs ≡ flat_map process_bytes processes ++ rest → (p : ℕ) → p < 64 → first_failing (process_fields xs n p) ≡ None
+processes_pass xs rest n processes most pids fit at p low =
+    let x = some-there processes p None (omega arith) in
+    let r = piece-at process_bytes 24 process_wide processes rest p x.0 x.1 in
+    record_passes xs r.0 n p x.0 most (fit p x.0 x.1)
+    (sym (drop-drop (24 * p) 12 xs) ∙ ap (drop (24 * p)) at ∙ r.1)
+
 -- ---- A record of a frame
 
-abbrev role_numbers : Role → ℕ × ℕ × ℕ × ℕ
+abbrev pub role_numbers : Role → ℕ × ℕ × ℕ × ℕ
 role_numbers Reserved = (0, 0, 0, 0)
 role_numbers Free = (1, 0, 0, 0)
 role_numbers (Directory p) = (2, p, 0, 0)
 role_numbers (Table p s) = (3, p, s, 0)
 role_numbers (Page c) = (4, 0, 0, c)
 
-role_passes : (place : ℕ) (r : Role) → IsRole r → first_failing (role_tests place (role_numbers r).0 (role_numbers r).1 (role_numbers r).2 (role_numbers r).3) ≡ None
+pub role_passes : (place : ℕ) (r : Role) → IsRole r → first_failing (role_tests place (role_numbers r).0 (role_numbers r).1 (role_numbers r).2 (role_numbers r).3) ≡ None
 role_passes place Reserved K = refl
 role_passes place Free K = refl
 role_passes place (Directory p) K = let a = lt-ltb p 64 K in λ i. if a i then None else Some (place + 4)
 role_passes place (Table p s) K = let a = lt-ltb p 64 K.0 in let b = lt-ltb s 1024 K.1 in λ i. if a i then (if b i then None else Some (place + 8)) else Some (place + 4)
 role_passes place (Page c) K = refl
 
-role_four : (r : Role) → role_bytes r ≡ number (role_numbers r).0 ++ number (role_numbers r).1 ++ number (role_numbers r).2 ++ number (role_numbers r).3
+pub role_four : (r : Role) → role_bytes r ≡ number (role_numbers r).0 ++ number (role_numbers r).1 ++ number (role_numbers r).2 ++ number (role_numbers r).3
 role_four Reserved = refl
 role_four Free = refl
 role_four (Directory p) = refl
 role_four (Table p s) = refl
 role_four (Page c) = refl
 
-record Small (r : Role) : Type 0 where
-  role : IsWord (role_numbers r).0
-  pid : IsWord (role_numbers r).1
-  slot : IsWord (role_numbers r).2
-  count : IsWord (role_numbers r).3
+pub record Small (r : Role) : Type 0 where
+  pub role : IsWord (role_numbers r).0
+  pub pid : IsWord (role_numbers r).1
+  pub slot : IsWord (role_numbers r).2
+  pub count : IsWord (role_numbers r).3
 
-role_small : (r : Role) → IsRole r → Small r
+pub role_small : (r : Role) → IsRole r → Small r
 role_small Reserved K = record { role = omega arith; pid = omega arith; slot = omega arith; count = omega arith }
 role_small Free K = record { role = omega arith; pid = omega arith; slot = omega arith; count = omega arith }
 role_small (Directory p) K = record { role = omega arith; pid = omega (arith, K); slot = omega arith; count = omega arith }
@@ -132,20 +144,17 @@ role_record_passes xs rest f r K h =
 
 -- ---- All of them
 
-passes_not : {X : Type 0} (b : Bool) (x : X) (y : Option X) → b ≡ true → y ≡ None → (if not b then Some x else y) ≡ None
+pub passes_not : {X : Type 0} (b : Bool) (x : X) (y : Option X) → b ≡ true → y ≡ None → (if not b then Some x else y) ≡ None
 passes_not true x y h k = k
 passes_not false x y h k = cc
 
-passes_other : {X : Type 0} (b : Bool) (x : X) (y : Option X) → b ≡ false → y ≡ None → (if b then Some x else y) ≡ None
+pub passes_other : {X : Type 0} (b : Bool) (x : X) (y : Option X) → b ≡ false → y ≡ None → (if b then Some x else y) ≡ None
 passes_other true x y h k = cc
 passes_other false x y h k = k
 
 version_known : (v : ℕ) → (v ≡ 1) ⊎ (v ≡ 2) → (v == 1 || v == 2) ≡ true
 version_known v (inl e) = λ i. e i == 1 || e i == 2
 version_known v (inr e) = λ i. e i == 1 || e i == 2
-
-some-there : {X : Type 0} (xs : List X) (k : ℕ) (d : X) → k < length xs → (x : X) × (slice_get xs k ≡ Some x)
-some-there xs k d inside = (_, slice_get-get_or xs k d inside)
 
 module _ (image : Image) (I : IsImage image) where
   abbrev tail-3 : List ℕ
@@ -185,11 +194,7 @@ module _ (image : Image) (I : IsImage image) where
   fitting p (Some r) h = I.processes p r (ap (λ o. unwrap_or o None) h)
 
   process-passes : (p : ℕ) → p < 64 → first_failing (process_fields (spelling image) (frames image) p) ≡ None
-  process-passes p low =
-      let x = some-there image.processes p None (let k = I.pids in omega arith) in
-      let r = piece-at process_bytes 24 process_wide image.processes tail-3 p x.0 x.1 in
-      record_passes (spelling image) r.0 (frames image) p x.0 I.most (fitting p x.0 x.1)
-      (sym (drop-drop (24 * p) 12 (spelling image)) ∙ ap (drop (24 * p)) records-at ∙ r.1)
+  process-passes = processes_pass (spelling image) tail-3 (frames image) image.processes (let m = I.most in omega arith) I.pids fitting records-at
 
   role-passes : (f : ℕ) → f < frames image → first_failing (role_fields (spelling image) f) ≡ None
   role-passes f low =

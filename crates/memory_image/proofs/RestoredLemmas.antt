@@ -18,7 +18,7 @@ use Rattle.process_table.specs.Image as machine
 use Rattle.process_table.specs.Image.{as_account, account_of}
 use Rattle.process_table.specs.Restored.{account_told, image_in, RootIsItsParent}
 use Rattle.memory_image.specs.declared.processes.Process.{Process}
-use Rattle.memory_image.specs.Image.{Image, process_at, directory_from, memory_of, IsImage}
+use Rattle.memory_image.specs.Image.{Image, process_at, directory_from, memory_of, HasFields}
 use Rattle.memory_image.specs.Machine.{process_from, process_told, IsImageOf}
 use Rattle.memory_image.specs.Restored.{account_from}
 use Rattle.memory_image.specs.Sound as sound
@@ -39,7 +39,7 @@ index_is xs p long = elim (cases_lt p 64) [
   | inr past ↦ get_or_past xs p None (omega (arith, past, long)) ∙ sym (ap (λ o. unwrap_or o None) (slice_get_past xs p (omega (arith, past, long))))
 ]
 
-module _ (image : Image) (fits : IsImage image) (today : image.version ≡ 2) (directories : List (Option ℕ)) (accounts : List (Option quota_tree.Account))
+module _ (limit : ℕ) (image : Image) (fits : HasFields limit image) (today : image.version ≡ 2) (directories : List (Option ℕ)) (accounts : List (Option quota_tree.Account))
     (directories_long : length directories ≡ 64) (accounts_long : length accounts ≡ 64)
     (each_directory : (p : ℕ) → p < 64 → slice_get directories p ≡ Some (directory_from (slice_index_or image.processes p None)))
     (each_account : (p : ℕ) → p < 64 → slice_get accounts p ≡ Some (account_from (slice_index_or image.processes p None))) where

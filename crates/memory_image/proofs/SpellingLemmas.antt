@@ -1,5 +1,5 @@
 -- Each image has one encoding, and no bytes encode two.
-use Rattle.std.proofs.Common.{◌≡◌, ℕ, suc, ◌+◌, ◌*◌, List, [], ◌∷◌, ◌++◌, length, refl, sym, ap, ◌∙◌, arith, append_assoc, length-append, inl, inr, Option, Some, None}
+use Rattle.std.proofs.Common.{◌≡◌, ℕ, suc, ◌+◌, ◌*◌, ◌≤◌, ◌^◌, List, [], ◌∷◌, ◌++◌, length, refl, sym, ap, ◌∙◌, arith, append_assoc, length-append, inl, inr, Option, Some, None}
 use Rattle.std.specs.Prelude.{slice_get, ◌⊎◌}
 use Rattle.std.specs.Option.{unwrap_or}
 use Rattle.std.specs.Int.{w32, from_le_bytes}
@@ -8,7 +8,7 @@ use Rattle.std.proofs.lemmas.Nat.{from_le_bytes-to_le_bytes_4}
 use Rattle.alloc_table.specs.declared.Role.{Role}
 use Rattle.alloc_table.specs.declared.Role.TheVariants.{Reserved, Free, Directory, Table, Page}
 use Rattle.memory_image.specs.declared.processes.Process.{Process}
-use Rattle.memory_image.specs.Image.{Image, IsWord, IsRole, IsImage, frames}
+use Rattle.memory_image.specs.Image.{Image, IsWord, IsRole, HasFields, IsImage, frames}
 use Rattle.memory_image.specs.Spelling.{magic, number, process_bytes, role_bytes, spelling, SpellingIsExact, SpellingsAreLong}
 
 -- two lists in two parts, the first ones as long
@@ -21,16 +21,16 @@ same_parts (a ∷ more) (b ∷ bs) x y l h =
     let r = same_parts more bs x y (omega arith) cc in
     (λ i. e i ∷ r.0 i, r.1)
 
-same_number : (m n : ℕ) → IsWord m → IsWord n → number m ≡ number n → m ≡ n
+pub same_number : (m n : ℕ) → IsWord m → IsWord n → number m ≡ number n → m ≡ n
 same_number m n p q h = sym (from_le_bytes-to_le_bytes_4 m p) ∙ ap (from_le_bytes w32) h ∙ from_le_bytes-to_le_bytes_4 n q
 
-first_number : (m n : ℕ) (x y : List ℕ) → IsWord m → IsWord n → number m ++ x ≡ number n ++ y → (m ≡ n) × (x ≡ y)
+pub first_number : (m n : ℕ) (x y : List ℕ) → IsWord m → IsWord n → number m ++ x ≡ number n ++ y → (m ≡ n) × (x ≡ y)
 first_number m n x y p q h = let a = same_parts (number m) (number n) x y refl h in (same_number m n p q a.0, a.1)
 
 -- ---- Pieces of one width
 
 module _ {X : Type 0} (f : X → List ℕ) (width : ℕ) (Q : X → Type 0) (wide : (x : X) → length (f x) ≡ width) (exact : (x y : X) → Q x → Q y → f x ≡ f y → x ≡ y) where
-  same_pieces : (xs ys : List X) (a b : List ℕ) → length xs ≡ length ys
+  pub same_pieces : (xs ys : List X) (a b : List ℕ) → length xs ≡ length ys
       → ((i : ℕ) (x : X) → slice_get xs i ≡ Some x → Q x) → ((i : ℕ) (y : X) → slice_get ys i ≡ Some y → Q y)
       → flat_map f xs ++ a ≡ flat_map f ys ++ b → (xs ≡ ys) × (a ≡ b)
   same_pieces [] [] a b l p q h = (refl, h)
@@ -45,14 +45,14 @@ module _ {X : Type 0} (f : X → List ℕ) (width : ℕ) (Q : X → Type 0) (wid
 
 -- ---- Processes
 
-record IsWide (r : Process) : Type 0 where
-  parent : IsWord r.parent
-  quota : IsWord r.quota
-  used : IsWord r.used
-  given : IsWord r.given
-  directory : IsWord r.directory
+pub record IsWide (r : Process) : Type 0 where
+  pub parent : IsWord r.parent
+  pub quota : IsWord r.quota
+  pub used : IsWord r.used
+  pub given : IsWord r.given
+  pub directory : IsWord r.directory
 
-abbrev Fits : Option Process → Type 0
+abbrev pub Fits : Option Process → Type 0
 Fits None = Unit {0}
 Fits (Some r) = IsWide r
 
@@ -60,7 +60,7 @@ pub process_wide : (x : Option Process) → length (process_bytes x) ≡ 24
 process_wide None = refl
 process_wide (Some r) = refl
 
-process_exact : (x y : Option Process) → Fits x → Fits y → process_bytes x ≡ process_bytes y → x ≡ y
+pub process_exact : (x y : Option Process) → Fits x → Fits y → process_bytes x ≡ process_bytes y → x ≡ y
 process_exact None None p q h = refl
 process_exact None (Some s) p q h = absurd (let e = (first_number 0 1 _ _ (omega arith) (omega arith) h).0 in omega arith)
 process_exact (Some r) None p q h = absurd (let e = (first_number 1 0 _ _ (omega arith) (omega arith) h).0 in omega arith)
@@ -82,7 +82,7 @@ role_wide (Directory p) = refl
 role_wide (Table p s) = refl
 role_wide (Page c) = refl
 
-role_exact : (x y : Role) → IsRole x → IsRole y → role_bytes x ≡ role_bytes y → x ≡ y
+pub role_exact : (x y : Role) → IsRole x → IsRole y → role_bytes x ≡ role_bytes y → x ≡ y
 role_exact Reserved Reserved p q h = refl
 role_exact Free Free p q h = refl
 role_exact (Directory a) (Directory b) p q h =
@@ -122,9 +122,9 @@ role_exact (Page a) (Table b t) p q h = absurd (let e = (first_number 4 3 _ _ (o
 
 -- ---- Images
 
-fields_fit : (image : Image) → IsImage image → (i : ℕ) (x : Option Process) → slice_get image.processes i ≡ Some x → Fits x
-fields_fit image I i None h = tt
-fields_fit image I i (Some r) h =
+pub fields_fit : (limit : ℕ) (image : Image) → limit ≤ 2 ^ 32 → HasFields limit image → (i : ℕ) (x : Option Process) → slice_get image.processes i ≡ Some x → Fits x
+fields_fit limit image low I i None h = tt
+fields_fit limit image low I i (Some r) h =
     let k = I.processes i r (ap (λ o. unwrap_or o None) h) in
     let most = I.most in
     let a = k.parent in
@@ -143,7 +143,7 @@ same_spelling image other I J h =
     let a = same_parts magic magic _ _ refl h in
     let v = first_number image.version other.version _ _ (version_small image.version I.version) (version_small other.version J.version) a.1 in
     let n = first_number (frames image) (frames other) _ _ (omega arith) (omega arith) v.1 in
-    let p = same_pieces process_bytes 24 Fits process_wide process_exact image.processes other.processes _ _ (I.pids ∙ sym J.pids) (fields_fit image I) (fields_fit other J) n.1 in
+    let p = same_pieces process_bytes 24 Fits process_wide process_exact image.processes other.processes _ _ (I.pids ∙ sym J.pids) (fields_fit 4096 image (omega arith) I) (fields_fit 4096 other (omega arith) J) n.1 in
     let r = same_pieces role_bytes 16 IsRole role_wide role_exact image.roles other.roles image.bytes other.bytes n.0 I.roles J.roles p.1 in
     λ i. record { version = v.0 i; processes = p.0 i; roles = r.0 i; bytes = r.1 i }
 

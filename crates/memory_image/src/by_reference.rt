@@ -49,7 +49,7 @@ impl<'a> Model for ImageRef<'a> {
 
 impl<'a> ImageRef<'a> {
     /// The image with these fields.
-    pub(crate) fn of_parts(
+    pub fn of_parts(
         version: u32,
         processes: &'a [Option<Process>; 64],
         roles: &'a [Role],
@@ -121,6 +121,28 @@ impl<'a> ImageRef<'a> {
         ensures { result ≡ word_of (memory_of self.now) frame index }
     {
         word_or_zero(self.bytes, self.frames(), frame.0, index)
+    }
+
+    /// What each process has, by number, where it is live.
+    pub fn processes(&self) -> &[Option<Process>]
+        ensures { result.now ≡ self.now.processes }
+    {
+        let processes = self.processes;
+        processes
+    }
+
+    /// What each frame serves, by number.
+    pub fn roles(&self) -> &[Role]
+        ensures { result.now ≡ self.now.roles }
+    {
+        self.roles
+    }
+
+    /// All bytes of all frames, from place 0 of frame 0 on.
+    pub fn bytes(&self) -> &[u8]
+        ensures { result.now ≡ self.now.bytes }
+    {
+        self.bytes
     }
 
     /// Whether frame 0 holds zeros.

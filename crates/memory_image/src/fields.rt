@@ -11,7 +11,7 @@ use page_words::is_frame_count;
 
 /// The number in four bytes, the lowest first.
 #[tactic(auto, using(crate::proofs::PieceLemmas::number_of_four))]
-pub(crate) fn number_at(bytes: &[u8], place: usize) -> u32
+pub fn number_at(bytes: &[u8], place: usize) -> u32
     requires { place + 4 ≤ length bytes.now }
     ensures { result ≡ word_at bytes.now place }
 {
@@ -89,7 +89,7 @@ fn bad_role(bytes: &[u8], frame: u32) -> Option<u32>
 }
 
 /// The place of the first field of the 64 records of processes that breaks its rule.
-fn bad_in_processes(bytes: &[u8], frames: u32) -> Option<u32>
+pub fn bad_in_processes(bytes: &[u8], frames: u32) -> Option<u32>
     requires { 1548 ≤ length bytes.now }
     ensures { result ≡ first_failing (flat_map (process_fields bytes.now frames) (range_with_len 0 64)) }
 {
@@ -131,7 +131,8 @@ fn first_bad(bytes: &[u8], frames: u32) -> Option<u32>
     bad_in_roles(bytes, frames)
 }
 
-fn begins(bytes: &[u8]) -> bool
+/// Whether bytes begin with the four of an image.
+pub fn begins(bytes: &[u8]) -> bool
     ensures { result ≡ begins bytes.now }
 {
     match bytes {

@@ -16,13 +16,14 @@ mod writing;
 pub use by_reference::ImageRef;
 pub use core_image::processes_of;
 pub use faults::{CoreImageFault, ImageFault, NoMemory};
-pub use fields::fault_in;
+pub use fields::{bad_in_processes, begins, fault_in, number_at};
 pub use images::Image;
 pub use laws::{
     bytes_are_refused_where_they_spell_none, images_have_one_spelling, images_of_machines_stand,
     images_stand_for_one,
 };
 pub use processes::Process;
-pub use reading::read_image;
+pub use reading::{processes_in, read_image};
+pub use restoring::core_of;
 pub use text_output::WriteFailed;
-pub use writing::write_image;
+pub use writing::{record_of, role_numbers, write_image, write_processes};

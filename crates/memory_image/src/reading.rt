@@ -47,7 +47,7 @@ fn process_in(bytes: &[u8], number: u32) -> Option<Process>
 }
 
 /// What the 64 records of processes say.
-fn processes_in(bytes: &[u8]) -> [Option<Process>; 64]
+pub fn processes_in(bytes: &[u8]) -> [Option<Process>; 64]
     requires long { 1548 ≤ length bytes.now }
     requires parents { (p : ℕ) → p < 64 → HasParent bytes.now p }
     ensures { result ≡ map (process_in bytes.now) (range_with_len 0 64) }

@@ -2,14 +2,15 @@
 
 ghost use Rattle.std.specs.Prelude.{◌≡◌, ℕ, ◌<◌, Some, None, IfOk, length, slice_get, slice_index_or};
 ghost use Rattle.page_words.specs.FiniteMap as map;
-ghost use Rattle.memory_image.specs.Image.{directory_from};
+ghost use Rattle.memory_image.specs.Image.{directory_from, IsWideImage};
 ghost use Rattle.memory_image.specs.Machine.{IsImageOf};
-ghost use Rattle.memory_image.specs.Restored.{account_from};
+ghost use Rattle.memory_image.specs.Restored.{account_from, image_with};
 ghost use Rattle.memory_image.specs.Sound.{IsSound, StandsFor};
 
 use crate::faults::NoMemory;
 use crate::images::Image;
 use crate::processes::Process;
+use alloc_table::Role;
 use kernel_calls::Core;
 use page_words::Frame;
 use quota_tree::Account;
@@ -60,6 +61,30 @@ fn directories_of(processes: &[Option<Process>; 64]) -> [Option<Frame>; 64]
     directories
 }
 
+/// Makes the core that records, roles and bytes represent: those of a sound image with the words of version 2, of up to
+/// 1,048,576 frames. No offer is pending. The bytes and the roles become the core's.
+///
+/// NoMemory if there is no memory for what a core keeps in addition to them.
+pub fn core_of(
+    alloc: Global,
+    processes: &[Option<Process>; 64],
+    roles: Vec<Role>,
+    bytes: Vec<u8>,
+) -> Result<Core, NoMemory>
+    requires fields { IsWideImage (image_with processes.now roles.items bytes.items) }
+    requires sound { IsSound (image_with processes.now roles.items bytes.items) }
+    ensures shows { IfOk result (λ core. IsImageOf core (image_with processes.now roles.items bytes.items)) }
+    ensures stands { IfOk result (λ core. StandsFor (image_with processes.now roles.items bytes.items) core.state) }
+    ensures offers { IfOk result (λ core. core.state.offers ≡ map.empty) }
+{
+    let accounts = accounts_of(processes);
+    let directories = directories_of(processes);
+    match Core::of_image(alloc, directories, &accounts, bytes, roles) {
+        Ok(core) => Ok(core),
+        Err(_) => Err(NoMemory),
+    }
+}
+
 impl Image {
     /// Makes the core that a sound image with the words of version 2 represents. No offer is pending. The image's bytes
     /// and roles become the core's.
@@ -73,11 +98,6 @@ impl Image {
         ensures offers { IfOk result (λ core. core.state.offers ≡ map.empty) }
     {
         let (processes, roles, bytes) = self.into_parts();
-        let accounts = accounts_of(&processes);
-        let directories = directories_of(&processes);
-        match Core::of_image(alloc, directories, &accounts, bytes, roles) {
-            Ok(core) => Ok(core),
-            Err(_) => Err(NoMemory),
-        }
+        core_of(alloc, &processes, roles, bytes)
     }
 }

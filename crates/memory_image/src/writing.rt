@@ -19,7 +19,7 @@ use text_output::{WriteFailed, write_whole};
 const MAGIC: u32 = 0x4932_436d;
 
 /// The bytes of up to six numbers.
-type Record = ArrayVec<u8, 24>;
+pub type Record = ArrayVec<u8, 24>;
 
 /// Puts the bytes of a number behind a record, the lowest first.
 fn push_number(bytes: &mut Record, n: u32)
@@ -31,7 +31,7 @@ fn push_number(bytes: &mut Record, n: u32)
 }
 
 /// The bytes of numbers, one after the other.
-fn record_of(numbers: &[u32]) -> Record
+pub fn record_of(numbers: &[u32]) -> Record
     requires { length numbers.now ≤ 6 }
     ensures { result.items ≡ flat_map number numbers.now }
 {
@@ -67,7 +67,7 @@ fn process_numbers(process: &Option<Process>) -> [u32; 6]
 }
 
 /// The numbers of the record of a frame.
-fn role_numbers(role: Role) -> [u32; 4]
+pub fn role_numbers(role: Role) -> [u32; 4]
     ensures { flat_map number result ≡ role_bytes role }
 {
     match role {
@@ -94,7 +94,10 @@ fn write_role<W: Write>(role: Role, writer: &mut W) -> Result<(), WriteFailed>
     write_whole(writer, &record_of(&role_numbers(role)))
 }
 
-fn write_processes<W: Write>(
+/// Writes the records of processes, one after the other.
+///
+/// WriteFailed if a write fails; a front of them was written then.
+pub fn write_processes<W: Write>(
     processes: &[Option<Process>],
     writer: &mut W,
 ) -> Result<(), WriteFailed>

@@ -1,0 +1,6 @@
+use Rattle.std.proofs.Common.{take}
+use Rattle.image_restore.proofs.OfferLemmas.{AreMade}
+use Rattle.image_restore.proofs.wide.make_offers.Given as goal
+
+abbrev pub invariant-loop-place : goal.invariant-loop-place
+invariant-loop-place l = AreMade l.fn.core.state l.core.state (take l.place l.offers)

@@ -1,0 +1,180 @@
+//! Images of version 3: a machine of any size is stored and resumed, with its offers.
+
+use crate::comparing::{same, same_bytes};
+use image_restore::{WideRestoreFault, restore_wide};
+use kernel_calls::{Call, Cause, Core, Event, Reply};
+use page_words::{Page, Pid, Size, Vaddr};
+use std::process::Abort;
+use wide_image::{WideImageFault, read_wide_image, write_core};
+
+/// How many frames the core has.
+const FRAMES: u32 = 5000;
+
+/// The page that process 0 offers.
+const OFFERED: Page = Page(0x40003);
+
+/// Where process 1 accepts it.
+const ACCEPTED: Page = Page(0x50000);
+
+/// The reply to a call of a process.
+fn reply(rt: &impl Abort, core: &mut Core, number: u8, call: Call) -> Reply {
+    let pid = Pid::new(number).expect(rt, "a number below 64");
+    core.step(&Event { cpu: 0, pid, call })
+}
+
+/// Process 0 stores the number of each of its first pages in it.
+fn fill(rt: &impl Abort, core: &mut Core, pages: u32) {
+    for page in 0..pages {
+        let store = Call::Store {
+            addr: Vaddr(0x4000_0000 + 4096 * page),
+            size: Size::Four,
+            value: page,
+        };
+        same(rt, &reply(rt, core, 0, store), &Reply::Done);
+    }
+}
+
+/// Process 0 offers a page to process 1.
+fn offer(rt: &impl Abort, core: &mut Core, page: Page, write: bool) {
+    let target = Pid::new(1).expect(rt, "a number below 64");
+    let call = Call::Offer {
+        page,
+        target,
+        write,
+    };
+    same(rt, &reply(rt, core, 0, call), &Reply::Done);
+}
+
+/// A core with a child, two offers, and a free frame that still holds what was stored.
+fn prepared<R: AllocGlobal + Abort>(rt: &R) -> Core {
+    let core = Core::boot_wide(rt.alloc(), FRAMES);
+    let mut core = core.ok().expect(rt, "a wide core");
+    fill(rt, &mut core, 20);
+    let child = Pid::new(1).expect(rt, "a number below 64");
+    let spawned = reply(rt, &mut core, 0, Call::Spawn { quota: 9 });
+    same(rt, &spawned, &Reply::Child(child));
+    offer(rt, &mut core, Page(0x40005), false);
+    offer(rt, &mut core, OFFERED, true);
+    let page = Page(0x40013);
+    let unmapped = reply(rt, &mut core, 0, Call::Unmap { page });
+    same(rt, &unmapped, &Reply::Done);
+    core
+}
+
+/// The image of a core.
+fn stored<R: AllocGlobal + Abort>(rt: &R, core: &Core) -> Vec<u8> {
+    let mut bytes = Vec::new(rt.alloc());
+    let written = write_core(rt.alloc(), core, &mut bytes);
+    written.ok().expect(rt, "an image of a core");
+    bytes
+}
+
+/// The core of an image.
+fn resumed<R: AllocGlobal + Abort>(rt: &R, bytes: &[u8]) -> Core {
+    let image = read_wide_image(rt.alloc(), bytes);
+    let core = restore_wide(rt.alloc(), image.ok().expect(rt, "an image"));
+    core.ok().expect(rt, "a core")
+}
+
+/// Process 1 accepts the offered page, reads it, and can't accept it again.
+fn check_offer(rt: &impl Abort, core: &mut Core) {
+    let accept = Call::Accept {
+        giver: Pid::new(0).expect(rt, "a number below 64"),
+        giver_page: OFFERED,
+        page: ACCEPTED,
+    };
+    let load = Call::Load {
+        addr: Vaddr(0x5000_0000),
+        size: Size::Four,
+    };
+    same(rt, &reply(rt, core, 1, accept), &Reply::Done);
+    same(rt, &reply(rt, core, 1, load), &Reply::Value(3));
+    let again = reply(rt, core, 1, accept);
+    same(rt, &again, &Reply::Refused(Cause::NoOffer));
+}
+
+#[test]
+fn a_machine_is_stored_and_resumed_whole(rt: HostRuntime) {
+    let mut core = prepared(&rt);
+    let bytes = stored(&rt, &core);
+    // Frame 0, two directories, a table and 19 pages.
+    same(&rt, &bytes.len(), &(1556 + 16 * 2 + 4116 * 23));
+    let mut other = resumed(&rt, bytes.as_slice());
+    same_bytes(&rt, stored(&rt, &other).as_slice(), bytes.as_slice());
+    check_offer(&rt, &mut core);
+    check_offer(&rt, &mut other);
+    same_bytes(
+        &rt,
+        stored(&rt, &other).as_slice(),
+        stored(&rt, &core).as_slice(),
+    );
+}
+
+/// Bytes with one changed.
+fn with_byte<R: AllocGlobal + Abort>(rt: &R, bytes: &[u8], place: usize, byte: u8) -> Vec<u8> {
+    let mut changed = Vec::from_slice(rt.alloc(), bytes).ok().expect(rt, "memory");
+    changed[place] = byte;
+    changed
+}
+
+/// With that byte at a place, the bytes are refused so.
+fn check_refused<R: AllocGlobal + Abort>(
+    rt: &R,
+    bytes: &[u8],
+    place: usize,
+    byte: u8,
+    expected: WideImageFault,
+) {
+    let changed = with_byte(rt, bytes, place, byte);
+    let fault = read_wide_image(rt.alloc(), changed.as_slice()).err();
+    same(rt, &fault, &Some(expected));
+}
+
+#[test]
+fn other_bytes_are_refused_by_the_first_reason(rt: HostRuntime) {
+    let bytes = stored(&rt, &prepared(&rt));
+    let bytes = bytes.as_slice();
+    let bad = |offset| WideImageFault::BadField { offset };
+    check_refused(&rt, bytes, 0, 0, WideImageFault::NotImage);
+    check_refused(&rt, bytes, 4, 2, WideImageFault::BadVersion);
+    check_refused(&rt, bytes, 10, 0x11, bad(8));
+    check_refused(&rt, bytes, 12, 2, bad(12));
+    check_refused(&rt, bytes, 1548, 3, WideImageFault::BadLength);
+    check_refused(&rt, bytes, 1556, 64, bad(1556));
+    check_refused(&rt, bytes, 1556 + 12, 2, bad(1556 + 12));
+    check_refused(&rt, bytes, 1556 + 16 + 4, 0, bad(1556 + 16));
+    check_refused(&rt, bytes, 1588 + 4, 1, bad(1588 + 4));
+    check_refused(&rt, bytes, 1588 + 4116, 0, bad(1588 + 4116));
+    let cut = &bytes[..bytes.len() - 1];
+    let fault = read_wide_image(rt.alloc(), cut).err();
+    same(&rt, &fault, &Some(WideImageFault::BadLength));
+}
+
+/// With that byte at a place, no core comes of the image, for this reason.
+fn check_unsound<R: AllocGlobal + Abort>(
+    rt: &R,
+    bytes: &[u8],
+    place: usize,
+    byte: u8,
+    number: u32,
+    reply: Reply,
+) {
+    let changed = with_byte(rt, bytes, place, byte);
+    let image = read_wide_image(rt.alloc(), changed.as_slice());
+    let fault = restore_wide(rt.alloc(), image.ok().expect(rt, "an image")).err();
+    same(
+        rt,
+        &fault,
+        &Some(WideRestoreFault::BadOffer { number, reply }),
+    );
+}
+
+#[test]
+fn an_offer_that_the_machine_refuses_makes_no_core(rt: HostRuntime) {
+    let bytes = stored(&rt, &prepared(&rt));
+    let bytes = bytes.as_slice();
+    let unmapped = Reply::Refused(Cause::NotMapped);
+    check_unsound(&rt, bytes, 1556 + 16 + 4, 0x20, 1, unmapped);
+    let no_target = Reply::Refused(Cause::NoTarget);
+    check_unsound(&rt, bytes, 1556 + 8, 7, 0, no_target);
+}

@@ -1,0 +1,11 @@
+pub mod FrameTexts
+pub mod Passing
+pub mod Kept
+pub mod Loops
+pub mod Records
+pub mod OfferTexts
+pub mod WrittenWhole
+pub mod Whole
+pub mod InUse
+pub mod Told
+pub mod GatherLemmas

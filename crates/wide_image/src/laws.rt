@@ -1,0 +1,20 @@
+//! Laws of images of version 3. Each is the contract of a function that computes nothing.
+
+ghost use Rattle.wide_image.specs.InUse.{FreeFramesDoNotMatter, MachinesAreRead, TextsTellMachines};
+
+/// States that what free frames hold is no part of the state that an image represents. It computes nothing.
+pub fn free_frames_do_not_matter()
+    ensures { FreeFramesDoNotMatter }
+{}
+
+/// States that two images with one text have the same offers, and the same in each frame that isn't free. It computes
+/// nothing.
+pub fn texts_tell_machines()
+    ensures { TextsTellMachines }
+{}
+
+/// States that the image which is read of a machine's text represents the machine's state, and has its offers. It
+/// computes nothing.
+pub fn machines_are_read()
+    ensures { MachinesAreRead }
+{}
