@@ -24,7 +24,7 @@ use Rattle.address_space.specs.ImageWords.{is_lazy_word, own_frame}
 use Rattle.memory_image.proofs.References.{same_some}
 use Rattle.image_check.specs.Told.{fails_nothing, verdict_on}
 use Rattle.image_check.specs.Verdict.{is_table_of}
-use Rattle.image_check.proofs.Agreement.{widened}
+use Rattle.memory_image.proofs.MachineLemmas.{widened}
 use Rattle.image_check.proofs.ToldLemmas.{sound_is_told}
 use Rattle.image_map.specs.declared.runs.Run.{Run}
 use Rattle.image_map.specs.Runs.{pages_of, runs_of, own_table, own_if, runs_in, runs_at, pages_in}
