@@ -1,5 +1,4 @@
-# The functions that ./tower and ./memory_map share. $name is the name of the program and of its crate, $root the
-# repository's folder. The same functions serve what is made of the other crates in prebuilt/: $made is its name, $others
+# What ./tower and ./memory_map do. $name is the name of the program and of its crate, $root the repository's folder. The same functions serve what is made of the other crates in prebuilt/: $made is its name, $others
 # what the page of scripts is made of besides its crate.
 made=$name others=
 case $name in
@@ -143,7 +142,8 @@ run_unproved() {
     child=$!
     status=0
     wait "$child" || status=$?
-    [ "$status" -ne 6 ] || refuse "an unproved run $limits"
+    [ "$status" -ne 6 ] || refuse "an unproved run gives at most 1 MiB of output, in 600 seconds; \
+'./$name prove' makes the program without these limits"
     if ! cat "$work/output" 2>/dev/null; then
         echo "$name: write failed" >&2
         exit 1
@@ -152,19 +152,65 @@ run_unproved() {
         sed "s,^Usage: program,Usage: $name," >&2 || true
     exit "$status"
 }
-limits="gives at most 1 MiB of output, in 600 seconds; './$name prove' makes the program without these limits"
 
-# Ends with status 1 if a file can't be read, with a line that names it. The program's own line names no file.
-refuse_unread() {
-    [ -r "$1" ] && [ ! -d "$1" ] || {
-        echo "$name: the file $1 can't be read" >&2
-        exit 1
-    }
+# Returns whether the arguments have the program read a script.
+reads_script() {
+    case $name:${1-}:" $* " in
+    tower:run:* | tower:image:* | tower:resume:* | memory_map:*" --film "*) ;;
+    *) return 1 ;;
+    esac
 }
 
-# Answers a request for help, or arguments that begin with no command, with a text of tools/help. It writes to
-# standard error and ends with status 2, as the program does.
-tell() {
-    cat "$root/tools/help/$1" >&2
-    exit 2
+# Returns whether the arguments, behind the command of `tower`, are options and files.
+names_files() {
+    case $name:${1-}:" $* " in
+    tower:check:* | tower:resume:*) ;;
+    tower:* | memory_map:*" --film "*) return 1 ;;
+    esac
+}
+
+# Ends with status 1 if a file that is named can't be read, with a line that names it. The program's own line names none.
+refuse_unread() {
+    [ "$name" != tower ] || shift
+    for word do
+        case $word in
+        -* | '') ;;
+        *) [ -r "$word" ] && [ ! -d "$word" ] || {
+            echo "$name: the file $word can't be read" >&2
+            exit 1
+        } ;;
+        esac
+    done
+}
+
+# An unproved run reads no terminal, no slow pipe and no file except those that it gets. The whole script is therefore
+# read first, and each file is copied, up to one byte more than the program takes.
+unproved() {
+    begin_unproved
+    if reads_script "$@"; then head -c 16777217 >"$work/script"; fi
+    files=
+    if names_files "$@"; then files=yes; fi
+    nth=0
+    for word do
+        shift
+        if [ -n "$files" ] && [ -f "$word" ] && [ "$name$nth" != tower0 ]; then
+            head -c 16844301 -- "$word" >"$work/image$nth"
+            word=$work/image$nth
+        fi
+        set -- "$@" "$word"
+        nth=$((nth + 1))
+    done
+    run_unproved "$@"
+}
+
+# Runs the program with these arguments: a proved one, or else its sources.
+front() {
+    if [ "${1-}" = prove ]; then
+        [ $# -eq 1 ] || refuse "prove takes no words"
+        prove
+        exit
+    fi
+    if names_files "$@"; then refuse_unread "$@"; fi
+    run_proved "$@"
+    unproved "$@"
 }

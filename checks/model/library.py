@@ -10,7 +10,7 @@ import machine
 import memory
 from machine import Reply
 
-ROOT = Path(__file__).resolve().parent.parent
+ROOT = Path(__file__).resolve().parent.parent.parent
 sys.path.append(str(ROOT / "tools"))
 from wants import wants  # noqa: E402, F401 (for the checks that import this module)
 
@@ -133,7 +133,7 @@ def built(folder, *archives):
             f"-I{c}/include",
             "-o",
             made,
-            ROOT / "checks" / "look.c",
+            Path(__file__).with_name("look.c"),
             "-Wl,--whole-archive",
             *archives,
             "-Wl,--no-whole-archive",

@@ -1,5 +1,5 @@
 /* A library to preload: it refuses the allocation of the number in REFUSE, counted from 1, and counts them in the first
- * eight bytes of the file in COUNTED, which is mapped. checks/fail_alloc builds it. */
+ * eight bytes of the file in COUNTED, which is mapped. checks/programs/fail_alloc builds it. */
 #define _GNU_SOURCE
 #include <dlfcn.h>
 #include <fcntl.h>

@@ -1,6 +1,6 @@
 /* Each allocation of each function of the C library that makes one is refused in turn. The function then returns that
  * there is no memory, leaves the handle and the number of blocks as they were, and succeeds at the next call. Prints how
- * many allocations each makes. The status is 1 at the first that does otherwise. checks/fail_alloc runs it. */
+ * many allocations each makes. The status is 1 at the first that does otherwise. checks/programs/fail_alloc runs it. */
 #include <stdio.h>
 #include <stdlib.h>
 #include <string.h>

@@ -8,7 +8,7 @@ from pathlib import Path
 import machine
 import memory
 
-ROOT = Path(__file__).resolve().parent.parent
+ROOT = Path(__file__).resolve().parent.parent.parent
 sys.path.append(str(ROOT / "tools"))
 from wants import wants  # noqa: E402, F401 (for the checks that import this module)
 
