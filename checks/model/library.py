@@ -2,6 +2,7 @@
 has them."""
 import ctypes
 import os
+import re
 import subprocess
 import sys
 from pathlib import Path
@@ -17,81 +18,61 @@ from wants import wants  # noqa: E402, F401 (for the checks that import this mod
 PROVED = ROOT / "crates" / "tower_c" / "out" / "libtower_c.a"
 IMAGES = ROOT / "crates" / "tower_images" / "out" / "libtower_images.a"
 HEADER = ROOT / "c" / "include" / "tower.h"
-NUMBERS = {
-    "load": 0,
-    "store": 1,
-    "map": 2,
-    "unmap": 3,
-    "protect": 4,
-    "info": 5,
-    "offer": 6,
-    "withdraw": 7,
-    "accept": 8,
-    "spawn": 9,
-    "exit": 10,
-    "quota": 11,
-    "fork": 12,
-}
-CAUSES = {
-    1: "NoProcess",
-    2: "BadPage",
-    4: "NotMapped",
-    5: "Mapped",
-    6: "Quota",
-    7: "Rights",
-    8: "SelfOffer",
-    9: "NoTarget",
-    10: "OfferPending",
-    11: "TooManyOffers",
-    12: "NoOffer",
-    13: "TableFull",
-    14: "BadQuota",
-    15: "HasChildren",
-    16: "RootExit",
-    17: "TooSmall",
-}
+TEXT = HEADER.read_text(encoding="utf-8")
+
+
+def named(kind):
+    """The names of an enum of the header, by their numbers: those that its function of names returns."""
+    numbers = dict(
+        re.findall(r"^    (TOWER_\w+) = (\d+),", re.search(rf"^enum {kind} {{.*?^}}", TEXT, re.M | re.S)[0], re.M)
+    )
+    names = dict(re.findall(r'case (TOWER_\w+): return "(\w+)";', TEXT))
+    return {int(number): names[name] for name, number in numbers.items()}
+
+
+NUMBERS = {name.lower(): number for number, name in named("tower_call").items()}
+CAUSES = named("tower_cause")
 KINDS = ["done", "value", "child", "info", "quota", "fault", "refused", "no event"]
 # How many numbers a reply of each kind has.
 TELLS = [0, 1, 1, 1, 3, 2, 1, 0]
 NO_DIRECTORY = 0xFFFFFFFF
 
 
+def fields(**kinds):
+    """The fields of a struct, each kind with its names."""
+    return [(name, getattr(ctypes, f"c_{kind}")) for kind, names in kinds.items() for name in names.split()]
+
+
 class Tower(ctypes.Structure):
-    _fields_ = [("live", ctypes.c_bool), ("core", ctypes.c_void_p)]
+    _fields_ = fields(bool="live", void_p="core")
 
 
 class Numbers(ctypes.Structure):
     """The numbers of an event."""
 
-    _fields_ = [(name, ctypes.c_uint8) for name in ("cpu", "pid", "call", "flag")] + [
-        (name, ctypes.c_uint32) for name in ("first", "second", "third")
-    ]
+    _fields_ = fields(uint8="cpu pid call flag", uint32="first second third")
 
 
 class Answer(ctypes.Structure):
-    _fields_ = [(name, ctypes.c_uint32) for name in ("kind", "first", "second", "third")] + [
-        (name, ctypes.c_bool) for name in ("write", "may", "accessed", "dirty")
-    ]
+    _fields_ = fields(uint32="kind first second third", bool="write may accessed dirty")
 
 
 class End(ctypes.Structure):
     """How a walk ends."""
 
-    _fields_ = [(name, ctypes.c_uint32) for name in ("kind", "frame", "code")]
+    _fields_ = fields(uint32="kind frame code")
 
 
 class Translations(ctypes.Structure):
     """The translations that an event ends."""
 
-    _fields_ = [(name, ctypes.c_uint32) for name in ("kind", "pid", "first", "second")]
+    _fields_ = fields(uint32="kind pid first second")
 
 
 class Page(ctypes.Structure):
     """The state of a page."""
 
-    _fields_ = [("holders", ctypes.c_uint32)] + [
-        (name, ctypes.c_bool) for name in ("write", "may", "accessed", "dirty", "lazy")
-    ]
+    _fields_ = fields(uint32="holders", bool="write may accessed dirty lazy")
 
 
 class Processes(ctypes.Structure):
@@ -104,70 +85,33 @@ class Processes(ctypes.Structure):
 
 
 class Offer(ctypes.Structure):
-    _fields_ = [("page", ctypes.c_uint32), ("target", ctypes.c_uint32), ("write", ctypes.c_bool)]
+    _fields_ = fields(uint32="page target", bool="write")
 
 
 class Holder(ctypes.Structure):
-    _fields_ = [("pid", ctypes.c_uint32), ("page", ctypes.c_uint32)]
+    _fields_ = fields(uint32="pid page")
 
 
 class Block(ctypes.Structure):
-    _fields_ = [("begins", ctypes.c_void_p), ("length", ctypes.c_size_t)]
+    _fields_ = fields(void_p="begins", size_t="length")
 
 
 class Verdict(ctypes.Structure):
     """The verdict of a check."""
 
-    _fields_ = [(name, ctypes.c_uint32) for name in ("number", "clause")]
+    _fields_ = fields(uint32="number clause")
 
 
 def built(folder, *archives):
     """The archives, and look.c with its heap, as one shared object, loaded."""
-    made, c = os.path.join(folder, "library.so"), ROOT / "c"
-    subprocess.run(
-        [
-            "gcc",
-            "-shared",
-            "-fPIC",
-            "-O2",
-            f"-I{c}/include",
-            "-o",
-            made,
-            Path(__file__).with_name("look.c"),
-            "-Wl,--whole-archive",
-            *archives,
-            "-Wl,--no-whole-archive",
-        ],
-        check=True,
-    )
+    made, here = os.path.join(folder, "library.so"), Path(__file__).parent
+    include = [f"-I{ROOT / it}" for it in ("c/include", "examples/c")]
+    whole = ["-Wl,--whole-archive", *archives, "-Wl,--no-whole-archive"]
+    subprocess.run(["gcc", "-shared", "-fPIC", "-O2", *include, "-o", made, here / "look.c", *whole], check=True)
     library = ctypes.CDLL(made)
-    for name in (
-        "step",
-        "step_ending",
-        "ends",
-        "run",
-        "run_until",
-        "read",
-        "write",
-        "next_page",
-        "directory",
-        "container",
-        "role",
-        "walk",
-        "copy_frame",
-        "memory",
-        "children",
-        "next_offer",
-        "next_holder",
-        "next_dirty",
-        "peek",
-        "clean",
-        "end",
-        "take_back",
-        "load_bytes",
-        "may_write",
-    ):
-        getattr(library, "tower_" + name).restype = ctypes.c_bool
+    library.look_blocks.restype = ctypes.c_size_t
+    for name in re.findall(r"^TOWER_NODISCARD bool (tower_\w+)\(|^bool (tower_\w+)\(", TEXT, re.M):
+        getattr(library, "".join(name)).restype = ctypes.c_bool
     return library
 
 

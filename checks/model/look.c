@@ -1,30 +1,13 @@
 /* Reads all roles, containers and directories of a core in one call, and counts the library's blocks, for
  * against_library and damaged. */
-#include <stdlib.h>
-
+#define HEAP_OF_LIBRARY
+#include "heap.h"
 #include "tower.h"
-#include "tower_heap.h"
 
-size_t look_blocks;
-static char nothing;
+size_t look_blocks(void);
 
-struct rattle_tried rattle_alloc(size_t size, size_t align) {
-    void *block = malloc(size ? size : align);
-    struct rattle_tried tried = {block != NULL, block ? block : &nothing};
-    look_blocks += tried.ok;
-    return tried;
-}
-
-struct rattle_tried rattle_realloc(void *block, size_t kept, size_t size, size_t align) {
-    (void)kept;
-    void *moved = realloc(block, size ? size : align);
-    struct rattle_tried tried = {moved != NULL, moved ? moved : &nothing};
-    return tried;
-}
-
-void rattle_dealloc(void *block) {
-    look_blocks -= block != NULL;
-    free(block);
+size_t look_blocks(void) {
+    return heap_blocks;
 }
 
 static void look_at_roles(const struct tower *tower, uint32_t *roles) {

@@ -2,41 +2,20 @@
  * there is no memory, leaves the handle and the number of blocks as they were, and succeeds at the next call. Prints how
  * many allocations each makes. The status is 1 at the first that does otherwise. checks/programs/fail_alloc runs it. */
 #include <stdio.h>
-#include <stdlib.h>
 #include <string.h>
 
-#include "tower_heap.h"
+#define HEAP_OF_LIBRARY
+#include "heap.h"
 #include "tower_images.h"
 
 enum { FRAMES = 32, LENGTH = TOWER_IMAGE_LENGTH(FRAMES), NONE = -1 };
 
-static char nothing;
-static long blocks, made, refused = NONE;
 static uint8_t image[LENGTH], bytes[LENGTH];
 static struct tower tower = TOWER_NONE;
 
-struct rattle_tried rattle_alloc(size_t size, size_t align) {
-    void *block = made++ == refused ? NULL : malloc(size ? size : align);
-    struct rattle_tried tried = {block != NULL, block ? block : &nothing};
-    blocks += tried.ok;
-    return tried;
-}
-
-struct rattle_tried rattle_realloc(void *block, size_t kept, size_t size, size_t align) {
-    void *moved = made++ == refused ? NULL : realloc(block, size ? size : align);
-    struct rattle_tried tried = {moved != NULL, moved ? moved : &nothing};
-    (void)kept;
-    return tried;
-}
-
-void rattle_dealloc(void *block) {
-    blocks -= block != NULL;
-    free(block);
-}
-
 static void need(bool holds, const char *name, const char *what) {
     if (!holds) {
-        printf("%s: not so, with allocation %ld refused: %s\n", name, refused, what);
+        printf("%s: not so, with allocation %ld refused: %s\n", name, heap_refused, what);
         exit(1);
     }
 }
@@ -93,25 +72,25 @@ static void open_core(void) {
 
 /* Calls it with one allocation refused, and returns whether it got that far. */
 static bool refuses(const struct trial *it, long which) {
-    long before = blocks;
+    size_t before = heap_blocks;
     bool was_live = tower.live;
-    refused = which;
-    made = 0;
+    heap_refused = which;
+    heap_requests = 0;
     uint32_t status = it->call();
-    bool reached = made > which;
+    bool reached = heap_requests > which;
     if (reached) {
         need(status == it->no_memory, it->name, "it returns that there is no memory");
-        need(blocks == before, it->name, "it frees what it got");
+        need(heap_blocks == before, it->name, "it frees what it got");
         need(tower.live == was_live, it->name, "it leaves the handle");
-        refused = NONE;
+        heap_refused = NONE;
         status = it->call();
     }
-    refused = NONE;
+    heap_refused = NONE;
     need(status == 0, it->name, "it succeeds with memory");
     if (it->makes_core) {
         tower_free(&tower);
     }
-    need(blocks == before, it->name, "it keeps no block");
+    need(heap_blocks == before, it->name, "it keeps no block");
     return reached;
 }
 
@@ -132,6 +111,6 @@ int main(void) {
         need(!memcmp(image, bytes, LENGTH), trials[at].name, "the core is as it was");
         tower_free(&tower);
     }
-    need(blocks == 0, "all", "no block is left");
+    need(heap_blocks == 0, "all", "no block is left");
     return 0;
 }

@@ -2,21 +2,14 @@
  * and the word is from a frame that was copied out. It ends with status 1 at the first answer that is not the expected
  * one. */
 #include <stdio.h>
-#include <stdlib.h>
 #include <string.h>
 
+#include "expect.h"
 #include "tower.h"
 
 enum { PAGE = TOWER_FIRST_PAGE, ADDRESS = PAGE << 12, OTHER_PAGE = 0x50000, WORD = 0x11223344 };
 
 static struct tower tower = TOWER_NONE;
-
-static void expect(bool holds, const char *what) {
-    printf("%s: %s\n", what, holds ? "yes" : "NO");
-    if (!holds) {
-        exit(1);
-    }
-}
 
 static void need(bool holds, const char *what) {
     if (!holds) {

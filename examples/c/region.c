@@ -9,34 +9,14 @@
 #include <sys/wait.h>
 #include <unistd.h>
 
-#include "tower_region.h"
+#include "expect.h"
+#include "heap.h"
 
 enum { PAGE = TOWER_FIRST_PAGE, ADDRESS = PAGE << 12, FRAMES = 64, WIDE = 5000 };
-
-#define EXPECT(fact) do { if (!(fact)) { printf("region.c:%d: not so: %s\n", __LINE__, #fact); return 1; } } while (0)
 
 static _Alignas(4096) uint8_t first[TOWER_BLOCK_BYTES(FRAMES)];
 static _Alignas(4096) uint8_t second[TOWER_BLOCK_BYTES(WIDE)];
 static _Alignas(4096) uint8_t around[TOWER_BLOCK_BYTES(FRAMES) + 2 * 4096];
-
-static size_t others, requested;
-
-static struct rattle_tried other_alloc(size_t size, size_t align) {
-    void *block = malloc(size ? size : align);
-    others += block != NULL;
-    requested += size;
-    return (struct rattle_tried){block != NULL, block ? block : &others};
-}
-
-static struct rattle_tried other_realloc(void *block, size_t kept, size_t size, size_t align) {
-    (void)block, (void)kept, (void)size, (void)align;
-    return (struct rattle_tried){false, &others};
-}
-
-static void other_dealloc(void *block) {
-    others--;
-    free(block);
-}
 
 static bool answers(struct tower *tower, struct tower_event event, uint32_t kind, uint32_t first_number) {
     struct tower_reply reply = {0};
@@ -122,20 +102,12 @@ int main(void) {
 
     /* other requests are refused until they have functions of their own */
     EXPECT(tower_boot(FRAMES, &three) == TOWER_NO_MEMORY && !three.live);
-    struct tower_other_heap heap = {other_alloc, other_realloc, other_dealloc};
-    tower_set_other_heap(&heap);
-    EXPECT(tower_boot(FRAMES, &three) == TOWER_BOOTED && others == 5);
+    tower_set_other_heap(&counting_heap);
+    EXPECT(tower_boot(FRAMES, &three) == TOWER_BOOTED && heap_blocks == 5);
     EXPECT(works(&three, 79));
     tower_free(&three);
-    EXPECT(others == 0);
+    EXPECT(heap_blocks == 0);
 
-    /* a core requests what TOWER_BLOCK_BYTES counts on */
-    for (uint32_t frames = TOWER_MIN_FRAMES; frames <= 65536; frames *= 4) {
-        requested = 0;
-        EXPECT(tower_boot_wide(frames, &three) == TOWER_BOOTED);
-        EXPECT(requested == (size_t)frames * (TOWER_FRAME_BYTES + 16) + TOWER_CORE_BYTES);
-        tower_free(&three);
-    }
     tower_set_other_heap(NULL);
 
     /* a block that no function returned */

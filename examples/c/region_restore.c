@@ -4,35 +4,18 @@
 #include <stdlib.h>
 #include <string.h>
 
+#include "expect.h"
+#include "heap.h"
 #include "tower_region_images.h"
 
 enum { PAGE = TOWER_FIRST_PAGE, ADDRESS = PAGE << 12, FRAMES = 64, LENGTH = TOWER_IMAGE_LENGTH(FRAMES) };
 enum { VERSION = 4, QUOTA = 20 };
-
-#define EXPECT(fact) do { if (!(fact)) { printf("region_restore.c:%d: not so: %s\n", __LINE__, #fact); return 1; } } while (0)
 
 static _Alignas(4096) uint8_t first[TOWER_BLOCK_BYTES(FRAMES)];
 static _Alignas(4096) uint8_t second[TOWER_RESTORE_BLOCK_BYTES(FRAMES)];
 static uint8_t image[LENGTH], other_image[LENGTH];
 static struct tower one = TOWER_NONE, two = TOWER_NONE;
 static struct tower_verdict verdict;
-static size_t others;
-
-static struct rattle_tried other_alloc(size_t size, size_t align) {
-    void *block = malloc(size ? size : align);
-    others += block != NULL;
-    return (struct rattle_tried){block != NULL, block ? block : &others};
-}
-
-static struct rattle_tried other_realloc(void *block, size_t kept, size_t size, size_t align) {
-    (void)block, (void)kept, (void)size, (void)align;
-    return (struct rattle_tried){false, &others};
-}
-
-static void other_dealloc(void *block) {
-    others--;
-    free(block);
-}
 
 static bool answers(struct tower *tower, struct tower_event event, uint32_t kind, uint32_t number) {
     struct tower_reply reply = {0};
@@ -41,12 +24,11 @@ static bool answers(struct tower *tower, struct tower_event event, uint32_t kind
 
 /* Writes a core's image. An image is no core: its memory comes from another heap. */
 static bool writes(const struct tower *tower, uint8_t *bytes, size_t count) {
-    static const struct tower_other_heap heap = {other_alloc, other_realloc, other_dealloc};
     size_t length = 0;
-    tower_set_other_heap(&heap);
+    tower_set_other_heap(&counting_heap);
     bool is_written = tower_image(tower, bytes, count, &length) == TOWER_IMAGE_WRITTEN && length == count;
     tower_set_other_heap(NULL);
-    return is_written && others == 0;
+    return is_written && heap_blocks == 0;
 }
 
 /* A restore over a block that it refuses, or of bytes that it refuses. */
@@ -97,7 +79,7 @@ int main(void) {
 
     /* the core: its frames lie in the block, it has the same image, and both go on alike */
     verdict = (struct tower_verdict){7, 7};
-    EXPECT(restored(LENGTH, second, sizeof second) == TOWER_RESTORED && two.live && others == 0);
+    EXPECT(restored(LENGTH, second, sizeof second) == TOWER_RESTORED && two.live && heap_blocks == 0);
     EXPECT(verdict.number == 7 && verdict.clause == 7);
     struct tower_memory memory;
     EXPECT(tower_memory(&two, &memory) && memory.begins == second && memory.length == FRAMES * 4096);
@@ -123,7 +105,7 @@ int main(void) {
         EXPECT(tower_frames(&two) == frames && writes(&two, other_image, length));
         EXPECT(memcmp(image, other_image, length) == 0);
         tower_free(&two);
-        EXPECT(!tower_holds(second) && others == 0);
+        EXPECT(!tower_holds(second) && heap_blocks == 0);
     }
     puts("restored over regions: as expected");
     return 0;

@@ -8,11 +8,10 @@
 #include <string.h>
 #include <sys/mman.h>
 
+#include "expect.h"
 #include "tower_region.h"
 
 enum { FRAMES = TOWER_WIDE_FRAMES, PAGES = 5000, CHILD = 1 };
-
-#define EXPECT(fact) do { if (!(fact)) { printf("whole.c:%d: not so: %s\n", __LINE__, #fact); exit(1); } } while (0)
 
 static uint8_t *zeros;
 
