@@ -1,14 +1,16 @@
 """The pictures that show facts: pages and frames in docs/MACHINE.md, and the files of docs/pictures."""
-import os
 import pathlib
 import re
-import struct
 import subprocess
+import sys
 import tempfile
 
 from copies import drawn, with_block
 from sources import CRATES, ROOT
 from wants import wants
+
+sys.path.append(str(ROOT / "checks" / "model"))
+from program import Image  # noqa: E402
 
 MADE, PAGE = ROOT / "docs" / "pictures", ROOT / "docs" / "MACHINE.md"
 PROGRAMS = [CRATES / name / "out" / name for name in ("tower", "memory_map")]
@@ -22,26 +24,20 @@ SCRIPT = b"""0 0 store 40000ffc 4 deadbeef
 
 
 def pages():
-    """Each process's directory, tables and pages in an image, as the words lead (docs/IMAGES.md has its bytes)."""
-    how = {"input": SCRIPT, "stdout": subprocess.PIPE, "check": True, "env": {**os.environ, "TOWER_QUIET": "1"}}
-    image = subprocess.run([PROGRAMS[0], "image"], **how).stdout
-    frames = struct.unpack_from("<I", image, 8)[0]
-
-    def words(frame):
-        found = struct.unpack_from("<1024I", image, 1548 + 16 * frames + 4096 * frame)
-        return [(index, word) for index, word in enumerate(found) if word]
-
-    for pid in range(64):
-        live, _, quota, used, _, directory = struct.unpack_from("<6I", image, 12 + 24 * pid)
-        if live:
-            yield f"process {pid}, which uses {used} of {quota}"
-            yield f"  directory, frame {directory}"
-        for slot, word in words(directory) if live else ():
+    """Each process's directory, tables and pages in an image, as the words lead."""
+    how = {"input": SCRIPT, "stdout": subprocess.PIPE, "check": True}
+    shown = Image(subprocess.run([PROGRAMS[0], "image"], **how).stdout)
+    for pid, (container, directory) in enumerate(zip(shown.containers, shown.directories)):
+        if not container:
+            continue
+        yield f"process {pid}, which uses {container.used} of {container.quota}"
+        yield f"  directory, frame {directory}"
+        for slot, word in shown.words(directory).items():
             yield f"    slot {slot}: {word:08x} -> table, frame {word >> 12}"
-            for index, entry in words(word >> 12):
+            for index, entry in shown.words(word >> 12).items():
                 frame = entry >> 12
-                holders = struct.unpack_from("<I", image, 1548 + 16 * frame + 12)[0]
-                leads = f"page, frame {frame}, which {holders} slots map" if frame else "no frame of its own: lazy"
+                leads = f"page, frame {frame}, which {shown.roles[frame].count} slots map"
+                leads = leads if frame else "no frame of its own: lazy"
                 yield f"      index {index:4} (page {slot * 1024 + index:05x}): {entry:08x} -> {leads}"
 
 

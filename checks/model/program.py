@@ -36,6 +36,20 @@ class Image:
         place = self.begins + 4096 * frame
         return self.image[place : place + 4096]
 
+    def words(self, frame):
+        """The words of a frame that are not 0, by their indices."""
+        return {at: word for at, (word,) in enumerate(struct.iter_unpack("<I", self.page(frame))) if word}
+
+    def film_roles(self):
+        """The roles as a film's rows have them."""
+        kinds = ("R", "F", "D{0.process}", "T{0.process}.{0.slot}", "P{0.count}")
+        return [kinds[role.kind].format(role) for role in self.roles]
+
+    def film_processes(self):
+        """The processes as a film's rows have them."""
+        both = zip(self.containers, self.directories)
+        return [f"{it.parent},{it.quota},{it.used},{it.given},{at}" if it else "-" for it, at in both]
+
 
 def ran(program, words, script=b""):
     """Runs a command. Returns its standard output, and the line on standard error with the status."""
