@@ -1,7 +1,8 @@
 """Mutants as files: their pairs of texts, where these are, and which functions they change.
 
 A mutant is lines `file: src/..`, `old: TEXT` and `new: TEXT`. The old text occurs once in that file, or once in the
-function that a line `in: fn NAME` before it names. Further pairs apply to what the earlier ones made.
+function that a line `in: fn NAME` or `in: fn TYPE::NAME` before it names. Further pairs apply to what the earlier ones
+made.
 """
 import pathlib
 import re
@@ -54,7 +55,7 @@ def place_of(text, pair, functions):
     places = [found.start() for found in re.finditer(re.escape(pair.old), text)]
     if pair.inside:
         of = {at: function_at(text, text.count("\n", 0, at), functions) for at in places}
-        places = [at for at in places if of[at] and of[at].name == pair.inside]
+        places = [at for at in places if of[at] and pair.inside in (of[at].name, of[at].full())]
     return places[0] if len(places) == 1 else -1
 
 
