@@ -1,4 +1,4 @@
-#!/usr/bin/env python3
+#!/usr/bin/env -S python3 -B
 """The scripts that bench/run runs: three of 16 MiB, and short ones in which one thing grows.
 
 `bench/scripts.py FOLDER` writes the three into a folder. Their language is that of docs/MACHINE.md.

@@ -14,7 +14,7 @@ import sys
 from sources import CRATES, ROOT
 
 
-def kit_module():
+def kit():
     """The module of the kit that knows a library's stamp."""
     file = pathlib.Path(os.path.realpath(shutil.which("rt"))).parent / "rtlib.py"
     loader = importlib.machinery.SourceFileLoader("rtlib", str(file))
@@ -31,7 +31,7 @@ def any_built():
 
 def stamp():
     """Writes the stamp of each library that is there, and returns how many."""
-    libraries = [it for it in kit_module().crates_below(str(ROOT)) if it.makes_rlib() and os.path.isdir(it.rlib)]
+    libraries = [it for it in kit().crates_below(str(ROOT)) if it.makes_rlib() and os.path.isdir(it.rlib)]
     for crate in libraries:
         (pathlib.Path(crate.folder) / "out" / "rlib" / "stamp").write_text(crate.stamp(), encoding="utf-8")
     return len(libraries)
