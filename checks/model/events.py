@@ -3,7 +3,7 @@ that fails. The same seed gives the same events."""
 import random
 import time
 
-from machine import FIRST_PAGE, LAST_PAGE, LINES, PROCESSES, Event
+from machine import FIRST_PAGE, LAST_PAGE, LINES, PROCESSES, Event, step
 
 CALLS = list(LINES)
 # The weight of each call, by the style of a run; a call that a style does not name has weight 4.
@@ -35,7 +35,7 @@ ENDS = [0, 0xFFFFFFFF, 0xFFFFFFFE, 0xFFFFFFFD, 0x3FFFFFFD, 0x3FFFFFFF, 0xEFFFFFF
 
 
 class Events:
-    """Makes random events for a state. The caller carries them out on it."""
+    """Makes random events for a state. The caller carries them out on it, or `lines` does."""
 
     def __init__(self, seed, state):
         self.draw = random.Random(seed)
@@ -177,6 +177,13 @@ class Events:
             call = self.draw.choice(["unmap", "unmap", "exit", "protect", "offer"])
         operands = [] if call == "quota" else getattr(self, call)(number)
         return Event(self.draw.randrange(8), number, call, operands)
+
+    def lines(self, count):
+        """The lines of that many events, each of which is carried out before the next is made."""
+        for _ in range(count):
+            event = self.event()
+            step(self.state, event)
+            yield line(event)
 
 
 def frames(seed, place):

@@ -95,12 +95,9 @@ def written(draw, line):
 def drawn(seed, frames, count):
     """A run's lines: events, some in another encoding, and skipped lines. Half of the runs have an unusual line near
     the end, and half have no line feed after the last."""
-    draw, state = random.Random(f"lines {seed}"), machine.boot(frames)
-    source, lines, line = events.Events(seed, state), [], ""
-    for _ in range(count):
-        event = source.event()
-        machine.step(state, event)
-        line = events.line(event)
+    draw, source = random.Random(f"lines {seed}"), events.Events(seed, machine.boot(frames))
+    lines, line = [], ""
+    for line in source.lines(count):
         lines += written(draw, line)
     if draw.random() < 0.5:
         lines.insert(len(lines) - draw.randrange(min(len(lines), 4)), strange(draw, line))
