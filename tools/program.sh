@@ -1,5 +1,6 @@
-# What ./tower and ./memory_map do. $name is the name of the program and of its crate, $root the repository's folder. The same functions serve what is made of the other crates in prebuilt/: $made is its name, $others
-# what the page of scripts is made of besides its crate.
+# What ./tower and ./memory_map do. $name is the name of the program and of its crate, $root the repository's folder. The
+# same functions serve what is made of the other crates in prebuilt/: $made is its name, $others what the page of scripts
+# is made of besides its crate.
 made=$name others=
 case $name in
 tower_c | tower_images) made=lib$name.a ;;
