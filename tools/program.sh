@@ -170,7 +170,7 @@ names_files() {
     esac
 }
 
-# Ends with status 1 if a file that is named can't be read, with a line that names it. The program's own line names none.
+# Ends with status 1 if a file that is named can't be read, with a line that names it. The program's line names none.
 refuse_unread() {
     [ "$name" != tower ] || shift
     for word do
