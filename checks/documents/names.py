@@ -5,7 +5,7 @@ import pathlib
 import re
 
 from clones import documents, own_files
-from markdown import rows, without_code
+from pages import rows, without_code
 from sources import CRATES, ROOT, crates, functions_of, mutants, sources
 
 # The documents in which each name has to be declared, and each clause has to be one of its function.

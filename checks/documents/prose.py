@@ -3,7 +3,7 @@ import functools
 import re
 
 from clones import documents
-from markdown import MARKS, comments, plain, sentences, texts
+from pages import MARKS, comments, plain, sentences, texts
 from sources import CRATES, ROOT
 
 SHEET, GLOSSARY = ROOT / "docs" / "WORDS.md", ROOT / "docs" / "GLOSSARY.md"
