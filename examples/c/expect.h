@@ -6,6 +6,8 @@
 #include <stdio.h>
 #include <stdlib.h>
 
+#include "tower.h"
+
 /* Ends the program if a fact is not so, with the line and the fact on standard error. */
 #define EXPECT(fact) \
     do { \
@@ -21,6 +23,12 @@ static inline void expect(bool holds, const char *what) {
     if (!holds) {
         exit(1);
     }
+}
+
+/* Carries out an event, and returns whether its reply has this kind and this first number. */
+static inline bool answers(struct tower *tower, struct tower_event event, uint32_t kind, uint32_t first) {
+    struct tower_reply reply = {0};
+    return tower_do(tower, event, &reply) != TOWER_OUTCOME_NO_CORE && reply.kind == kind && reply.first == first;
 }
 
 #endif

@@ -18,11 +18,6 @@ static _Alignas(4096) uint8_t first[TOWER_BLOCK_BYTES(FRAMES)];
 static _Alignas(4096) uint8_t second[TOWER_BLOCK_BYTES(WIDE)];
 static _Alignas(4096) uint8_t around[TOWER_BLOCK_BYTES(FRAMES) + 2 * 4096];
 
-static bool answers(struct tower *tower, struct tower_event event, uint32_t kind, uint32_t first_number) {
-    struct tower_reply reply = {0};
-    return tower_do(tower, event, &reply) == TOWER_OUTCOME_DONE && reply.kind == kind && reply.first == first_number;
-}
-
 static bool works(struct tower *tower, uint32_t value) {
     return answers(tower, tower_map(0, PAGE, TOWER_READ_WRITE), TOWER_DONE, 0)
         && answers(tower, tower_store(0, ADDRESS, 4, value), TOWER_DONE, 0)

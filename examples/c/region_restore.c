@@ -17,11 +17,6 @@ static uint8_t image[LENGTH], other_image[LENGTH];
 static struct tower one = TOWER_NONE, two = TOWER_NONE;
 static struct tower_verdict verdict;
 
-static bool answers(struct tower *tower, struct tower_event event, uint32_t kind, uint32_t number) {
-    struct tower_reply reply = {0};
-    return tower_do(tower, event, &reply) != TOWER_OUTCOME_NO_CORE && reply.kind == kind && reply.first == number;
-}
-
 /* Writes a core's image. An image is no core: its memory comes from another heap. */
 static bool writes(const struct tower *tower, uint8_t *bytes, size_t count) {
     size_t length = 0;

@@ -13,11 +13,6 @@ enum { VERSION = 4, QUOTA = 20, ROLES = 1548, COUNT = 12 };
 static struct tower first = TOWER_NONE, second = TOWER_NONE;
 static uint8_t image[LENGTH], first_image[LENGTH], second_image[LENGTH];
 
-static bool answers(struct tower *tower, struct tower_event event, uint32_t kind, uint32_t value) {
-    struct tower_reply reply = {0};
-    return tower_do(tower, event, &reply) != TOWER_OUTCOME_NO_CORE && reply.kind == kind && reply.first == value;
-}
-
 /* Process 0 stores a word, and process 1 gets its page. */
 static void boots(void) {
     struct tower_event store = tower_store(0, PAGE << 12, 4, 0xdeadbeef), spawn = tower_spawn(0, 6);

@@ -14,11 +14,6 @@
 
 enum { FRAMES = 262144, TENANTS = 4, PAGES = 10000, QUOTA = 25000, FIRST = TOWER_FIRST_PAGE };
 
-static bool ends(struct tower *tower, struct tower_event event, uint32_t kind, uint32_t first) {
-    struct tower_reply reply = {0};
-    return tower_do(tower, event, &reply) == TOWER_OUTCOME_DONE && reply.kind == kind && reply.first == first;
-}
-
 static uint32_t address_of(uint32_t page) {
     return (FIRST + page) << 12 | (page % 1000) * 4;
 }
@@ -36,7 +31,7 @@ static uint32_t frame_of(struct tower *tower, uint32_t pid, uint32_t page) {
 
 static void fill(struct tower *tower, uint32_t pid, uint32_t first, uint32_t end) {
     for (uint32_t page = first; page < end; page++) {
-        EXPECT(ends(tower, tower_store(pid, address_of(page), 4, word_of(pid, page)), TOWER_DONE, 0));
+        EXPECT(answers(tower, tower_store(pid, address_of(page), 4, word_of(pid, page)), TOWER_DONE, 0));
     }
 }
 
@@ -45,7 +40,7 @@ static uint32_t same(struct tower *tower, const uint8_t *block, uint32_t pid, ui
     uint32_t highest = 0;
     for (uint32_t page = 0; page < end; page++) {
         uint32_t frame = frame_of(tower, pid, page), wanted = word_of(parent, page), word;
-        EXPECT(ends(tower, tower_load(pid, address_of(page), 4), TOWER_VALUE, wanted));
+        EXPECT(answers(tower, tower_load(pid, address_of(page), 4), TOWER_VALUE, wanted));
         memcpy(&word, block + (size_t)frame * TOWER_FRAME_BYTES + address_of(page) % TOWER_FRAME_BYTES, sizeof word);
         EXPECT(word == wanted);
         highest = frame > highest ? frame : highest;
@@ -82,7 +77,7 @@ int main(void) {
     struct tower tower = TOWER_NONE;
     EXPECT(tower_boot_over(FRAMES, &tower, block, size) == TOWER_BOOTED && tower_frames(&tower) == FRAMES);
     for (uint32_t pid = 1; pid <= TENANTS; pid++) {
-        EXPECT(ends(&tower, tower_spawn(0, QUOTA + pid), TOWER_CHILD, pid));
+        EXPECT(answers(&tower, tower_spawn(0, QUOTA + pid), TOWER_CHILD, pid));
     }
     /* in turns, so that their frames are mixed */
     for (uint32_t page = 0; page < PAGES; page += 1000) {
@@ -96,12 +91,12 @@ int main(void) {
     audit(&tower);
 
     /* a page lent, a tenant forked, and one gone */
-    EXPECT(ends(&tower, tower_fork(3, 12000), TOWER_CHILD, TENANTS + 1));
-    EXPECT(ends(&tower, tower_offer(1, FIRST, TENANTS + 1, TOWER_READ_ONLY), TOWER_DONE, 0));
-    EXPECT(ends(&tower, tower_accept(TENANTS + 1, 1, FIRST, FIRST + PAGES + 5000), TOWER_DONE, 0));
-    EXPECT(frame_of(&tower, 1, 0) > 0 && ends(&tower, tower_load(TENANTS + 1, (FIRST + PAGES + 5000) << 12, 4),
-                                              TOWER_VALUE, word_of(1, 0)));
-    EXPECT(ends(&tower, tower_exit(4), TOWER_DONE, 0));
+    EXPECT(answers(&tower, tower_fork(3, 12000), TOWER_CHILD, TENANTS + 1));
+    EXPECT(answers(&tower, tower_offer(1, FIRST, TENANTS + 1, TOWER_READ_ONLY), TOWER_DONE, 0));
+    EXPECT(answers(&tower, tower_accept(TENANTS + 1, 1, FIRST, FIRST + PAGES + 5000), TOWER_DONE, 0));
+    EXPECT(frame_of(&tower, 1, 0) > 0);
+    EXPECT(answers(&tower, tower_load(TENANTS + 1, (FIRST + PAGES + 5000) << 12, 4), TOWER_VALUE, word_of(1, 0)));
+    EXPECT(answers(&tower, tower_exit(4), TOWER_DONE, 0));
     EXPECT(same(&tower, block, TENANTS + 1, 3, PAGES) > TOWER_MAX_FRAMES);
     fill(&tower, 2, PAGES, 2 * PAGES);
     same(&tower, block, 1, 1, PAGES);
