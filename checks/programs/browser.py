@@ -16,6 +16,15 @@ WORDS = [
 ]
 
 
+class Failed(Exception):
+    """A page differs from what it must be."""
+
+
+def must(holds, told):
+    if not holds:
+        raise Failed(told)
+
+
 class Browser:
     """One tab of a browser of its own, with a profile that is removed with it."""
 
