@@ -18,7 +18,7 @@ def terms():
     """A pattern of the phrases in the sheet's left columns, without those that have a place for a word."""
     rows = re.findall(r"^\| (.+?) \| .+? \| (.+?) \| .+? \|$", SHEET.read_text(encoding="utf-8"), re.M)
     entries = [it for row in rows for it in row if it not in FOR_READERS and not re.search(r"\(|\b[A-Z]\b|\d|^-", it)]
-    return re.compile(rf"(?<![\w.-])(?:{'|'.join(entries).replace(', ', '|')})(?![\w-])")
+    return re.compile(rf"(?<![\w.-])(?:{'|'.join(entries).replace(', ', '|')})(?![\w-])", re.I)
 
 
 def length(words):
