@@ -4,7 +4,8 @@
  *    TOWER_NONE) once, and then pass it only to these functions. Write none of its fields, and make no
  *    copy of it, since two copies would own one core.
  *  - One call at a time for each handle. It may come from any thread or CPU, under a lock of the
- *    caller's own. Calls with different handles need no common lock.
+ *    caller's own. Calls with different handles need no common lock. Over blocks of tower_region.h, calls that allocate
+ *    or free do: they come one at a time, whatever their handles are.
  *  - Each pointer is to memory that is valid, aligned and, unless it is const, writable. No other argument
  *    of the same call shares that memory. A slice is a pointer and its length. If the length is 0, the
  *    pointer may be NULL. Each `bool` is 0 or 1.
@@ -300,7 +301,7 @@ enum tower_service {
     TOWER_FRAME_FREE = 1,
     TOWER_FRAME_DIRECTORY = 2,  /* of process pid */
     TOWER_FRAME_TABLE = 3,      /* of process pid, in its directory's slot */
-    TOWER_FRAME_PAGE = 4,       /* that count pages share */
+    TOWER_FRAME_PAGE = 4,       /* that count slots share */
 };
 
 /* The name of a role; "" for a number that is no role. */
@@ -427,8 +428,8 @@ TOWER_NODISCARD bool tower_ends(const struct tower *tower, const struct tower_ev
 /* Whether an event may write a frame, if it were the next one, whatever its reply is. It may write frames that are free,
  * the directory, the tables and the pages of its process, and, if it is a TOWER_ACCEPT of a lazy page, the giver's
  * directory and that page's table. The frames that it frees are among them. Every other frame stays as it is, except that
- * accessed may be set in a directory's words. Whoever keeps something by frames, as an emulator keeps translated code,
- * drops what it keeps of those frames. It changes nothing of the core. For a frame of a page it looks up the pages that
+ * accessed may be set or cleared in a directory's words. What a program keeps of those frames, as an emulator keeps
+ * translated code, it drops. It changes nothing of the core. For a frame of a page it looks up the pages that
  * the process has mapped, up to that one, and for another frame one page at most. False if the handle has no core, the
  * numbers are no event or there is no such frame; then nothing is written. */
 TOWER_NODISCARD bool tower_may_write(const struct tower *tower, const struct tower_event *event, uint32_t frame,
