@@ -10,6 +10,8 @@ tower_film)
     ;;
 esac
 program=$root/crates/$name/out/$made
+# Whether the program reads a script from standard input.
+reads_script=
 # The sums of what it was built from, as `prove` noted them.
 made_of=$program.sources
 # The same program, as it was proved and built before (prebuilt/README.md), with the same sums.
@@ -62,12 +64,40 @@ run_proved() {
     today=$(sources)
     if [ -x "$program" ] && is_of "$today" "$program"; then
         say "this is the proved program"
-        exec "$program" "$@"
+        run_it "$program" "$@"
     fi
     if is_of "$today" "$prebuilt" && runs_here "$prebuilt"; then
         say "this is the proved program, from prebuilt/"
-        exec "$prebuilt" "$@"
+        run_it "$prebuilt" "$@"
     fi
+}
+
+# Runs a program in place of this script. If it reads a script from a file, this script stays, to show a malformed line.
+run_it() {
+    [ -n "$reads_script" ] && [ -f /dev/stdin ] || exec "$@"
+    from=$(sed -n 's/^pos:[^0-9]*//p' /proc/self/fdinfo/0 2>/dev/null || true)
+    exec 3>&1
+    ended=0
+    errors=$("$@" 2>&1 >&3 3>&- || { ended=$?; printf /; exit "$ended"; }; printf /) || ended=$?
+    printf %s "${errors%/}" >&2
+    tail -c "+$((${from:-0} + 1))" /dev/stdin 2>/dev/null | show_malformed "$errors"
+    exit "$ended"
+}
+
+# If the program's last line names a malformed line, shows that line of standard input, and which word is wrong.
+show_malformed() {
+    nth=$(printf '%s\n' "${1%/}" | sed -n "s/^$name: line \([0-9]*\) is malformed\$/\1/p")
+    [ -z "$nth" ] || sed -n "$nth{p;q}" | LC_ALL=C awk -v name="$name" -f "$root/tools/malformed.awk" >&2
+}
+
+# Says that a script is read from the terminal, and refuses one from a folder, as the program does.
+look_at_input() {
+    reads_script=yes
+    [ ! -t 0 ] || say "reading the script from the terminal; Ctrl-D at the start of a line ends it"
+    [ ! -d /dev/stdin ] || {
+        echo "$name: the script can't be read: standard input is a folder" >&2
+        exit 1
+    }
 }
 
 # Prints why no proved program is run, or nothing if none is there.
@@ -149,7 +179,8 @@ run_unproved() {
         exit 1
     fi
     grep -a -v -e "^checked: ended " -e "^run=" -e "^races: not looked for" "$work/messages" |
-        sed "s,^Usage: program,Usage: $name," >&2 || true
+        sed "s,^Usage: program,Usage: $name," | tee "$work/errors" >&2 || true
+    show_malformed "$(tail -n 1 "$work/errors")" <"$work/script"
     exit "$status"
 }
 limits="gives at most 1 MiB of output, in 600 seconds; './$name prove' makes the program without these limits"
@@ -157,9 +188,20 @@ limits="gives at most 1 MiB of output, in 600 seconds; './$name prove' makes the
 # Ends with status 1 if a file can't be read, with a line that names it. The program's own line names no file.
 refuse_unread() {
     [ -r "$1" ] && [ ! -d "$1" ] || {
-        echo "$name: the file $1 can't be read" >&2
+        printf "%s: the file %s can't be read\n" "$name" "$(printf %s "$1" | tr '\n\r\t' '???')" >&2
         exit 1
     }
+}
+
+# Copies a file that an unproved run reads, up to a number of bytes. Its name may be `-` or begin with one.
+copy_file() {
+    { head -c "$2" <"$1" >"$3"; } 2>/dev/null
+}
+
+# Prints the version, which c/Makefile has, and ends.
+tell_version() {
+    echo "$name $(sed -n 's/^VERSION = //p' "$root/c/Makefile")"
+    exit
 }
 
 # Answers a request for help, or arguments that begin with no command, with a text of tools/help. It writes to
