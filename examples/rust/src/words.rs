@@ -376,7 +376,24 @@ impl fmt::Display for WalkEnd {
 
 impl Error for WalkEnd {}
 
-/// Which cached translations an event ends.
+/// Which cached translations an event ends: what each processor that caches them has to invalidate before the next access
+/// or event. A process doesn't get it. A program in which nothing caches translations drops it by [`Ended::ignore`].
+///
+/// ```compile_fail
+/// #![deny(unused_must_use)]
+/// # use tower::{Core, Page, Pid};
+/// # let mut core = Core::boot(16).unwrap();
+/// core.unmap(Pid::ROOT, Page(0x40000)).unwrap(); // an error: what it ended is dropped
+/// ```
+///
+/// ```
+/// #![deny(unused_must_use)]
+/// # use tower::{Core, Page, Pid};
+/// # let mut core = Core::boot(16).unwrap();
+/// core.map(Pid::ROOT, Page(0x40000), true).unwrap();
+/// core.unmap(Pid::ROOT, Page(0x40000)).unwrap().ignore();
+/// ```
+#[must_use = "processors that cache translations have to invalidate these; `ignore` drops them"]
 #[derive(Clone, Copy, Debug, PartialEq, Eq, Hash)]
 pub enum Ended {
     /// None.
@@ -402,6 +419,11 @@ pub enum Ended {
         /// Whose they were.
         pid: Pid,
     },
+}
+
+impl Ended {
+    /// Does nothing: for a program in which no processor, emulator or copy caches translations.
+    pub const fn ignore(self) {}
 }
 
 /// Returns the value of a number of the library's, whose contracts leave no other number.
