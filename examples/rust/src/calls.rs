@@ -211,7 +211,8 @@ impl Core<'_> {
         self.child(pid, Call::Fork { quota })
     }
 
-    /// Ends a process, whose quota returns to its parent, and all of its translations.
+    /// Ends a process, whose quota returns to its parent, and all of its translations. The next spawn or fork may give its
+    /// number to another process.
     ///
     /// # Errors
     ///

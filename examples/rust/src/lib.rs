@@ -45,6 +45,20 @@
 //! assert_eq!(invalidate(core.unmap(Pid::ROOT, Page(0x40000))?), 1);
 //! # Ok::<(), Box<dyn std::error::Error>>(())
 //! ```
+//!
+//! # For a host of plugins
+//!
+//! `examples/tenants.rs` is one, with two tenants, a buffer that both see, and quotas. Four things differ from what a host
+//! may expect:
+//!
+//! - **A stray address is no error within the user range.** A load or a store of a page that isn't mapped maps a page of
+//!   zeros, if the quota allows it, and the tenant pays for it. Check the bounds of an offset before the access.
+//!   [`Core::peek`] reads without mapping.
+//! - **Each holder of a page may offer it to others.** If the plugins make their own offers, a buffer that one tenant
+//!   gave another may therefore be a third's.
+//! - **After [`Core::take_back`] a tenant may store at the same address.** Its store is done, in a page of its own that
+//!   the access maps. The tenant gets no notice of the loss, so the host gives it one.
+//! - **A [`Pid`] comes again** once its process has ended.
 #![no_std]
 #![warn(missing_docs)]
 

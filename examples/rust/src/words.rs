@@ -7,19 +7,33 @@ use ::core::fmt;
 /// The bytes of a frame.
 pub const FRAME_BYTES: usize = 4096;
 
-/// A virtual address.
-#[derive(Clone, Copy, Debug, PartialEq, Eq, PartialOrd, Ord, Hash)]
+/// A virtual address. Its debug output is in hexadecimal, as in docs/MACHINE.md.
+#[derive(Clone, Copy, PartialEq, Eq, PartialOrd, Ord, Hash)]
 pub struct Vaddr(pub u32);
 
-/// A page: an address without its last 12 bits.
-#[derive(Clone, Copy, Debug, PartialEq, Eq, PartialOrd, Ord, Hash)]
+impl fmt::Debug for Vaddr {
+    fn fmt(&self, to: &mut fmt::Formatter<'_>) -> fmt::Result {
+        write!(to, "Vaddr({:#x})", self.0)
+    }
+}
+
+/// A page: an address without its last 12 bits. Its debug output is in hexadecimal, as in docs/MACHINE.md.
+#[derive(Clone, Copy, PartialEq, Eq, PartialOrd, Ord, Hash)]
 pub struct Page(pub u32);
+
+impl fmt::Debug for Page {
+    fn fmt(&self, to: &mut fmt::Formatter<'_>) -> fmt::Result {
+        write!(to, "Page({:#x})", self.0)
+    }
+}
 
 /// A frame of memory.
 #[derive(Clone, Copy, Debug, PartialEq, Eq, PartialOrd, Ord, Hash)]
 pub struct Frame(pub u32);
 
-/// The number of a process, 0 to 63.
+/// The number of a process, 0 to 63. It has no generation: once a process has ended, the next spawn or fork may give its
+/// number to another. A copy that a program keeps then names the other process. `examples/tenants.rs` has each number in
+/// one place, and ends the process when that is dropped.
 #[derive(Clone, Copy, Debug, PartialEq, Eq, PartialOrd, Ord, Hash)]
 pub struct Pid(u8);
 

@@ -505,3 +505,15 @@ fn goes_over_pages() {
     assert_eq!(core.next_page(Pid::ROOT, Page(0xf0000)), None);
     assert_eq!(core.pages(Pid::new(9).unwrap()).count(), 0);
 }
+
+#[test]
+fn addresses_print_in_hexadecimal() {
+    let failure = Failure::Fault {
+        addr: Vaddr(0x5000_0000),
+        code: 7,
+    };
+    assert_eq!(
+        format!("{failure:?} {:?}", Page(0x40000)),
+        "Fault { addr: Vaddr(0x50000000), code: 7 } Page(0x40000)"
+    );
+}
