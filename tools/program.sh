@@ -49,6 +49,11 @@ is_proved() {
     [ -x "$program" ] && is_of "$(sources)" "$program"
 }
 
+# Returns whether a program is the one that was noted with its sources, whichever these are, and runs here.
+is_older() {
+    [ -x "$1" ] && [ -e "$1.sources" ] && sha256sum <"$1" | sed "s,-\$,$made," | grep -qxFf - "$1.sources" && runs_here "$1"
+}
+
 # Returns whether a program runs on this machine: without arguments it writes its help, and ends with 2.
 runs_here() {
     ended=0
@@ -62,12 +67,32 @@ run_proved() {
     today=$(sources)
     if [ -x "$program" ] && is_of "$today" "$program"; then
         say "this is the proved program"
-        exec "$program" "$@"
+        run_it "$program" "$@"
     fi
     if is_of "$today" "$prebuilt" && runs_here "$prebuilt"; then
         say "this is the proved program, from prebuilt/"
-        exec "$prebuilt" "$@"
+        run_it "$prebuilt" "$@"
     fi
+}
+
+# Runs a program in place of this script. If it reads a script from a file, this script stays, to show a malformed line.
+run_it() {
+    it=$1
+    shift
+    { reads_script "$@" && [ -f /dev/stdin ]; } || exec "$it" "$@"
+    from=$(sed -n 's/^pos:[^0-9]*//p' /proc/self/fdinfo/0 2>/dev/null || true)
+    exec 3>&1
+    ended=0
+    errors=$("$it" "$@" 2>&1 >&3 3>&- || { ended=$?; printf /; exit "$ended"; }; printf /) || ended=$?
+    printf %s "${errors%/}" >&2
+    tail -c "+$((${from:-0} + 1))" /dev/stdin 2>/dev/null | show_malformed "${errors%/}"
+    exit "$ended"
+}
+
+# If the program's last line names a malformed line, shows that line of standard input, and which word is wrong.
+show_malformed() {
+    nth=$(printf '%s\n' "$1" | sed -n "s/^$name: line \([0-9]*\) is malformed\$/\1/p")
+    [ -z "$nth" ] || sed -n "$nth{p;q}" | LC_ALL=C awk -v name="$name" -f "$root/tools/malformed.awk" >&2
 }
 
 # Prints why no proved program is run, or nothing if none is there.
@@ -115,9 +140,26 @@ not_proved() {
     refuse "$1 is not proved; all that the prover said is in crates/$name/out/prove.log"
 }
 
+# Has the program of prebuilt/ refuse wrong arguments, though it is of other sources: a build takes a minute.
+refuse_arguments() {
+    ended=0
+    said=$(timeout 1 "$prebuilt" "$@" 2>&1 >/dev/null </dev/null) || ended=$?
+    case $ended:$said in 2:error:* | 2:*Usage:*) printf '%s\n' "$said" >&2; exit 2 ;; esac
+}
+
+# Without `rt`, runs the program of prebuilt/ though it is of other sources, and names one that is another now.
+run_older() {
+    say "this is the program of prebuilt/, proved of older sources, since $why and no 'rt' is on PATH"
+    run_it "$prebuilt" "$@"
+}
+
 # Makes a folder for what an unproved run reads and writes. The run's end removes it.
 begin_unproved() {
     why=$(why_unproved)
+    if is_older "$prebuilt"; then
+        refuse_arguments "$@"
+        command -v rt >/dev/null || run_older "$@"
+    fi
     command -v rt >/dev/null ||
         refuse "there is no proved program${why:+, since $why}, and no 'rt' is on PATH (README.md says what it is)"
     why=${why:+since $why}
@@ -150,7 +192,8 @@ run_unproved() {
         exit 1
     fi
     grep -a -v -e "^checked: ended " -e "^run=" -e "^races: not looked for" "$work/messages" |
-        sed "s,^Usage: program,Usage: $name," >&2 || true
+        sed "s,^Usage: program,Usage: $name," | tee "$work/errors" >&2 || true
+    show_malformed "$(tail -n 1 "$work/errors")" <"$work/script"
     exit "$status"
 }
 
@@ -175,19 +218,29 @@ refuse_unread() {
     [ "$name" != tower ] || shift
     for word do
         case $word in
-        -* | '') ;;
+        -?* | '') ;;
         *) [ -r "$word" ] && [ ! -d "$word" ] || {
-            echo "$name: the file $word can't be read" >&2
+            printf "%s: the file %s can't be read\n" "$name" "$(printf %s "$word" | tr '\n\r\t' '???')" >&2
             exit 1
         } ;;
         esac
     done
 }
 
+# Says that a script is read from the terminal, and refuses one from a folder.
+look_at_input() {
+    case " $* " in *" -h "* | *" --help "*) return ;; esac
+    [ ! -t 0 ] || say "reading the script from the terminal; Ctrl-D at the start of a line ends it"
+    [ ! -d /dev/stdin ] || {
+        echo "$name: the script can't be read: standard input is a folder" >&2
+        exit 1
+    }
+}
+
 # An unproved run reads no terminal, no slow pipe and no file except those that it gets. The whole script is therefore
 # read first, and each file is copied, up to one byte more than the program takes.
 unproved() {
-    begin_unproved
+    begin_unproved "$@"
     if reads_script "$@"; then head -c 16777217 >"$work/script"; fi
     files=
     if names_files "$@"; then files=yes; fi
@@ -195,7 +248,7 @@ unproved() {
     for word do
         shift
         if [ -n "$files" ] && [ -f "$word" ] && [ "$name$nth" != tower0 ]; then
-            head -c 16844301 -- "$word" >"$work/image$nth"
+            head -c 16844301 <"$word" >"$work/image$nth"
             word=$work/image$nth
         fi
         set -- "$@" "$word"
@@ -206,11 +259,12 @@ unproved() {
 
 # Runs the program with these arguments: a proved one, or else its sources.
 front() {
-    if [ "${1-}" = prove ]; then
-        [ $# -eq 1 ] || refuse "prove takes no words"
-        prove
-        exit
-    fi
+    case $#:${1-} in
+    1:prove) prove; exit ;;
+    *:prove) refuse "prove takes no words" ;;
+    1:--version | 1:-V) echo "$name $(sed -n 's/^VERSION = //p' "$root/c/Makefile")"; exit ;;
+    esac
+    if reads_script "$@"; then look_at_input "$@"; fi
     if names_files "$@"; then refuse_unread "$@"; fi
     run_proved "$@"
     unproved "$@"

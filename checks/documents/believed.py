@@ -145,6 +145,12 @@ def lines_of(chosen):
     return sum(len(it.lines()) for it in chosen)
 
 
+def listed(title):
+    """Each definition that one of the promises reaches, with its file."""
+    for it in reached(roots_of(title, dict(PROMISES)[title])):
+        yield f"{path_of(it).relative_to(CRATES)}: {it.name}"
+
+
 def table():
     """For each function how many definitions it adds to those before it, and the files of these by crates."""
     each = {title: reached(roots_of(title, file)) for title, file in PROMISES}

@@ -1,9 +1,10 @@
 """What documents copy from elsewhere, by the marks around it: code, counts of definitions, drawings of crates.
 
 A piece of code is a block after a comment `<!-- PATH: NAME, NAME .. -->`. It has the functions of these names in that
-file, in sequence, with their attributes and docstrings. Of a file of definitions it has the definitions of these names,
-with the comments above them. `NAME [contract]` is a function's head with its clauses. `NAME [FIRST .. LAST]` is the
-lines of a function from the first that has FIRST to the next that has LAST. Both are without their indent.
+file, in sequence, with their attributes and docstrings, or in C with the comments above them. Of a file of definitions
+it has the definitions of these names, with the comments above them. `NAME [contract]` is a function's head with its
+clauses. `NAME [FIRST .. LAST]` is the lines of a function from the first that has FIRST to the next that has LAST. Both
+are without their indent. `whole` is all of a file.
 """
 import re
 import textwrap
@@ -12,9 +13,7 @@ import believed
 from clones import documents
 from sources import ROOT, crates, functions_in
 
-# In this document each block of Rattle has to be a piece.
-WHOLE = "docs/CALLING.md"
-PIECE = re.compile(r"(<!-- (\S+): (.*?) -->\n+)?```(rust|antt)\n(.*?)```", re.S)
+PIECE = re.compile(r"(<!-- (\S+): (.*?) -->\n+)?```(rust|antt|c)\n(.*?)```", re.S)
 NO_LAYER = ("_tests", "script_examples")
 
 
@@ -33,7 +32,7 @@ def function(text, name, how):
     lines = text.split("\n")
     it = only([it for it in functions_in(text) if it.name == name], name)
     if how == "contract":
-        head = lines[it.head : it.body + (lines[it.body].endswith(" {"))]
+        head = lines[it.head : it.body + (lines[it.body].strip() != "{")]
         return "\n".join(line for line in head if line.strip() and not line.strip().startswith("//"))
     first = it.head
     while re.match(r"\s*(#\[|///)", lines[first - 1]):
@@ -52,16 +51,27 @@ def definition(text, name):
     return only([block for block in text.split("\n\n") if named.search(block)], name).rstrip("\n")
 
 
+def c_function(text, name):
+    """A function in C with the comment right above it."""
+    named = rf"^(?:/\*(?:(?!\*/).)*\*/\n)?\w[\w *]*\b{name}\([^;{{]*\{{\n.*?^\}}$"
+    return only(re.findall(named, text, re.M | re.S), name)
+
+
+def chosen(path, text, name, how):
+    """The part of a piece for one name."""
+    kind = path.rpartition(".")[2]
+    return function(text, name, how) if kind == "rt" else {"antt": definition, "c": c_function}[kind](text, name)
+
+
 def piece(path, asked):
     text, names = (ROOT / path).read_text(encoding="utf-8"), re.findall(r"(\w+)(?: \[(.*?)\])?(?:, |$)", asked)
-    found = (definition(text, name) if path.endswith(".antt") else function(text, name, how) for name, how in names)
-    return "\n\n".join(map(textwrap.dedent, found)) + "\n"
+    if asked == "whole":
+        return text
+    return "\n\n".join(textwrap.dedent(chosen(path, text, *it)) for it in names) + "\n"
 
 
-def with_code(name, text):
+def with_code(text):
     """A document with each piece as its file has it."""
-    if name == WHOLE and any(not it[1] for it in PIECE.finditer(text)):
-        raise Missing("a block of code names no file")
     return PIECE.sub(lambda it: f"{it[1]}```{it[4]}\n{piece(it[2], it[3])}```" if it[1] else it[0], text)
 
 
@@ -115,7 +125,7 @@ def faults(is_written=False):
     for path in documents(ROOT):
         name, old = str(path.relative_to(ROOT)), path.read_text(encoding="utf-8")
         try:
-            new = with_blocks(with_code(name, old))
+            new = with_blocks(with_code(old))
         except Missing as fault:
             yield f"{name}: {fault}"
             continue

@@ -76,6 +76,9 @@ def facts():
     yield "instructions", ends, {SANDBOX: r"attacks, (\d+) instructions"}
     regions = number("examples/sandbox/engine.h", r"MOST_REGIONS = (\d+)")
     yield "regions of an engine", regions, {SANDBOX: r"at most (\d+) regions"}
+    headers = (it.read_text(encoding="utf-8") for it in (ROOT / "c/include").glob("*.h"))
+    slices = sum(len(re.findall(r"^#define tower_\w+ tower_\w+_inline$", it, re.M)) for it in headers)
+    yield "functions that take a slice", slices, {"docs/C-LIBRARY.md": r"names of the (\w+) functions that take a slice"}
     yield "lines of definitions", believed, {"README.md": r"(\S+) lines of definitions"}
     functions = number("docs/TUTORIAL.md", r"functions=(\d+)")
     yield "functions of quota_tree", functions, {"docs/TUTORIAL.md": r"Each of its (\d+) functions"}
@@ -105,11 +108,11 @@ def facts():
     yield "bytes that are read of an image", image, {
         MACHINE: r"reads at most (\S+) bytes of a file",
         "docs/THEOREMS.md": r"the first (\S+) bytes, one more",
-        "tools/program.sh": r"head -c (\d+) -- ",
+        "tools/program.sh": r"head -c (\d+) <\"\$word",
     }
     yield "bytes of the longest image", image - 1, {"docs/IMAGES.md": r"16 frames, (\S+) for 4,096"}
     # (c/dist reads the commit of the last of these rows)
-    yield "failures in a whole run", 0, {"docs/EVIDENCE.md": r"^\| [0-9a-f]{7,8}[^|]*\| \d+, (\d+) \|"}
+    yield "failures in a whole run", 0, {"docs/EVIDENCE.md": r"^\| [0-9a-f]{7,8}[^\|]*\| \d+, (\d+) \|"}
     yield "version", version(), {"c/include/tower.h": r"TOWER_VERSION (\d+)\b"}
 
 
@@ -178,10 +181,10 @@ def unlike_texts():
 
 
 def unlike_prover():
-    """The prover's output in README, if the tutorial, whose commands are run, does not print it."""
-    said = re.search(r"`rt check` says `([^`]+)`, and that \"([^\"]+)\"", page("README.md").replace("\n", " "))
+    """The prover's output in docs/READING.md, if the tutorial, whose commands are run, does not print it."""
+    said = re.search(r"`rt check` says `([^`]+)`, and that \"([^\"]+)\"", page("docs/READING.md").replace("\n", " "))
     if not said or any(words not in page("docs/TUTORIAL.md") for words in said.groups()):
-        yield "README.md: what the prover says is not what docs/TUTORIAL.md has"
+        yield "docs/READING.md: what the prover says is not what docs/TUTORIAL.md has"
 
 
 def faults():

@@ -1,9 +1,10 @@
-"""What documents name: links, files, crates, tests, mutants, rules, functions and their clauses."""
+"""What documents name: links, files, crates, tests, functions and their clauses; and the rules' mutants."""
 import collections
 import functools
 import pathlib
 import re
 
+import rules
 from clones import documents, own_files
 from pages import rows, without_code
 from sources import CRATES, ROOT, crates, functions_of, mutants, sources
@@ -12,9 +13,6 @@ from sources import CRATES, ROOT, crates, functions_of, mutants, sources
 EXACT = ("README.md", "docs/THEOREMS.md", "docs/ARCHITECTURE.md")
 # This one names what no longer exists.
 HISTORY = ("CHANGELOG.md",)
-# The parts of docs/MAP.md that have rules with their mutants.
-RULES = ("## Calls", "## The other parts of the machine")
-REFUSAL = re.compile(r"^(?:fault \d|[A-Z][A-Za-z]+)")
 # Placeholders for names, and what a build makes.
 LEFT_OUT = re.compile(r"NAME|_tests/\w+$|PATH|FN\b|/f/|(^|/)out(/|$)|/tmp|^(rt|Rattle)\b|\.\.\.|^/|~")
 STARTS = ("crates/", "docs/", "bench/", "checks/", "tools/", "examples/", "c/", "./")
@@ -23,10 +21,11 @@ DECLARED = re.compile(r"\b(?:struct|enum|trait|type|const|mod|fn|ensures|require
 TAKEN = re.compile(r"^ghost use (?!Rattle\.std\.)([\w.]+)\.\{([^}]*)\};", re.M)
 NAME = r"`(?:\w+::)*\w+`"
 RUN = rf"{NAME}(?:(?:, | and |, and ){NAME})*"
-# Functions, then what joins them to their clauses, then the clauses.
-JOINED = re.compile(rf"({RUN})(?:, clauses? |: )({RUN})")
+# Functions, with the crate of the last in brackets or without, then what joins them to their clauses, then the clauses.
+JOINED = re.compile(rf"({RUN})(?: \(\w+\))?(?:, clauses? |: )({RUN})")
 # Words of the language, of the kit and of the machine it runs on, which no file of ours declares.
 KNOWN = set("rt clap self requires ensures true false None Some Ok Err Wait N python3 cargo objdump objcopy".split())
+KNOWN |= {"memset", "memmove"}
 
 
 def page(name):
@@ -82,32 +81,6 @@ def unlisted_crates():
     cells = re.findall(r"^\| (`[a-z]\w*`(?:, `\w+`)*) \|", page("docs/ARCHITECTURE.md"), re.M)
     told = {name for cell in cells for name in words(cell)}
     yield from (f"docs/ARCHITECTURE.md: the crate {name}" for name in sorted(told ^ crates().keys()))
-
-
-def rules():
-    """Each call of docs/MACHINE.md with the rules that need a mutant: its refusals, each order of two, what it does."""
-    part = page("docs/MACHINE.md").partition("## Calls")[2].partition("\n## ")[0]
-    for call, text in re.findall(r"^### (\w+).*?\n\nRefusals: (.*)\.$", part, re.M):
-        parts = re.split(r"[,;]", re.sub(r"\([^)]*\)", "", text))
-        names = [it[0] for it in map(REFUSAL.match, map(str.strip, parts)) if it]
-        yield call, [*names, *(f"{one} before {other}" for one, other in zip(names, names[1:])), "does"]
-
-
-def unlike_rules():
-    """The rules of docs/MACHINE.md without a mutant in docs/MAP.md, and the items there that are no rule."""
-    items = collections.defaultdict(dict)
-    for head in RULES:
-        part = page("docs/MAP.md").partition(f"\n{head}\n")[2].partition("\n## ")[0]
-        for section in part.split("\n### ")[1:]:
-            name, _, body = section.partition("\n")
-            items[name].update(re.findall(r"^- (.*?): (.*)$", body, re.M))
-    for call, wanted in rules():
-        yield from (f"docs/MAP.md: {call}: {rule} has no item" for rule in wanted if rule not in items[call])
-        told = [rule for rule in items[call] if REFUSAL.match(rule) and rule not in wanted]
-        yield from (f"docs/MAP.md: {call}: {rule} is no rule of docs/MACHINE.md" for rule in told)
-    for name, of in items.items():
-        bare = [it for it, cell in of.items() if not re.search(r"`\w+`: `\w+`", cell) and not cell.startswith("none: ")]
-        yield from (f"docs/MAP.md: {name}: {rule} names no mutant" for rule in bare)
 
 
 @functools.cache
@@ -189,7 +162,7 @@ def faults():
     for path in documents(ROOT):
         name = str(path.relative_to(ROOT))
         yield from (f"{name}: {it}" for it in (*dead_links(path), *(dead_files(path) if name not in HISTORY else ())))
-    yield from (*of_map(), *unlisted_crates(), *unlike_rules(), *strangers(), *passed_on())
+    yield from (*of_map(), *unlisted_crates(), *rules.unlike(), *strangers(), *passed_on())
     for name in EXACT:
         for number, *line in rows(page(name)):
             yield from (f"{name}:{number}: {it}" for it in dict.fromkeys(unlike_sources(*line)))

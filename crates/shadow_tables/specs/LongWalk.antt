@@ -35,7 +35,7 @@ step_of bytes pool table address access shift is_last =
     ∷ (not (is_marked word access is_last), Err Unmarked)
     ∷ []) (Ok (target_of word))
 
--- a walk that goes on after a step, or ends there
+-- a walk that continues after a step, or ends there
 abbrev pub and_on : (ℕ → Result ℕ LongEnd) → Result ℕ LongEnd → Result ℕ LongEnd
 and_on more (Ok target) = more target
 and_on more (Err end) = Err end

@@ -310,7 +310,7 @@ impl Tables {
         self.table_below(pid, page, 2, directory)
     }
 
-    /// Enters the translation of a page, and says whether there was a frame for each table that was missing.
+    /// Enters the translation of a page, and returns whether there was a frame for each table that was missing.
     pub fn fill(&mut self, pid: Pid, page: Page, frame: Frame, write: bool) -> bool
         requires stands { IsShadow self.old }
         requires user { IsUserPage page }
