@@ -78,7 +78,7 @@ def facts():
     yield "regions of an engine", regions, {SANDBOX: r"at most (\d+) regions"}
     headers = (it.read_text(encoding="utf-8") for it in (ROOT / "c/include").glob("*.h"))
     slices = sum(len(re.findall(r"^#define tower_\w+ tower_\w+_inline$", it, re.M)) for it in headers)
-    yield "functions that take a slice", slices, {"docs/C-LIBRARY.md": r"names of the (\w+) functions that take a slice"}
+    yield "functions that take a slice", slices, {"docs/C-LIBRARY.md": r"names of the (\w+) functions that take"}
     yield "lines of definitions", believed, {"README.md": r"(\S+) lines of definitions"}
     functions = number("docs/TUTORIAL.md", r"functions=(\d+)")
     yield "functions of quota_tree", functions, {"docs/TUTORIAL.md": r"Each of its (\d+) functions"}

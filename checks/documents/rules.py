@@ -9,7 +9,7 @@ import pathlib
 import re
 import sys
 
-from sources import CRATES, MUTANTS, ROOT, mutants
+from sources import MUTANTS, ROOT, mutants
 
 sys.path.append(str(pathlib.Path(__file__).resolve().parent.parent / "proofs"))
 from edits import applied  # noqa: E402
@@ -40,7 +40,7 @@ def unlike():
         own[part].append(rule)
         if not named and not rest.startswith("none"):
             yield f"rules.txt: {part}: {rule} names no mutant"
-        lost = [f"{crate}/{name}" for crate, name in named if not (CRATES / crate).is_dir() or name not in mutants(crate)]
+        lost = [f"{crate}/{name}" for crate, name in named if name not in mutants(crate)]
         yield from (f"rules.txt: {part}: {rule}: {it} is no mutant" for it in lost)
     for call, needed in wanted():
         yield from (f"rules.txt: {call}: {rule} has no line" for rule in needed if rule not in own[call])
