@@ -72,6 +72,19 @@ run_proved() {
     fi
 }
 
+# Without 'rt' no source can be run. Then this runs the program of prebuilt/ although its sources have changed, and says so
+# even if TOWER_QUIET is set. It returns if there is an 'rt', if no such program is there with the bytes that were noted,
+# or if it doesn't run on this machine.
+run_older() {
+    ! command -v rt >/dev/null || return 0
+    [ -e "$prebuilt" ] && [ -e "$prebuilt.sources" ] || return 0
+    [ "$(sums_with '' "$prebuilt" | tail -n 1)" = "$(tail -n 1 "$prebuilt.sources")" ] || return 0
+    changed=$(changed_source "$prebuilt")
+    [ -n "$changed" ] && runs_here "$prebuilt" || return 0
+    echo "$name: this is the proved program of older sources, from prebuilt/: $changed has changed, and no 'rt' is on PATH" >&2
+    run_it "$prebuilt" "$@"
+}
+
 # Runs a program in place of this script. If it reads a script from a file, this script stays, to show a malformed line.
 run_it() {
     [ -n "$reads_script" ] && [ -f /dev/stdin ] || exec "$@"
@@ -100,11 +113,16 @@ look_at_input() {
     }
 }
 
+# Prints the first source that isn't what a program was built from.
+changed_source() {
+    sums_with "$today" "$1" | diff "$1.sources" - | sed -n '/^[<>]/{s/^..[0-9a-f]*  //p;q;}'
+}
+
 # Prints why no proved program is run, or nothing if none is there.
 why_unproved() {
     for built in "$program" "$prebuilt"; do
         [ -e "$built.sources" ] && [ -e "$built" ] || continue
-        changed=$(sums_with "$today" "$built" | diff "$built.sources" - | sed -n '/^[<>]/{s/^..[0-9a-f]*  //p;q;}')
+        changed=$(changed_source "$built")
         if [ -n "$changed" ]; then
             echo "$changed has changed since the program was proved"
         else
