@@ -51,7 +51,8 @@ is_proved() {
 
 # Returns whether a program is the one that was noted with its sources, whichever these are, and runs here.
 is_older() {
-    [ -x "$1" ] && [ -e "$1.sources" ] && sha256sum <"$1" | sed "s,-\$,$made," | grep -qxFf - "$1.sources" && runs_here "$1"
+    [ -x "$1" ] && [ -e "$1.sources" ] && [ "$(sums_with "" "$1" | tail -n 1)" = "$(tail -n 1 "$1.sources")" ] &&
+        runs_here "$1"
 }
 
 # Returns whether a program runs on this machine: without arguments it writes its help, and ends with 2.
@@ -95,11 +96,16 @@ show_malformed() {
     [ -z "$nth" ] || sed -n "$nth{p;q}" | LC_ALL=C awk -v name="$name" -f "$root/tools/malformed.awk" >&2
 }
 
+# Prints the first source that isn't what a program was built from.
+changed_source() {
+    sums_with "$today" "$1" | diff "$1.sources" - | sed -n '/^[<>]/{s/^..[0-9a-f]*  //p;q;}'
+}
+
 # Prints why no proved program is run, or nothing if none is there.
 why_unproved() {
     for built in "$program" "$prebuilt"; do
         [ -e "$built.sources" ] && [ -e "$built" ] || continue
-        changed=$(sums_with "$today" "$built" | diff "$built.sources" - | sed -n '/^[<>]/{s/^..[0-9a-f]*  //p;q;}')
+        changed=$(changed_source "$built")
         if [ -n "$changed" ]; then
             echo "$changed has changed since the program was proved"
         else
@@ -147,9 +153,10 @@ refuse_arguments() {
     case $ended:$said in 2:error:* | 2:*Usage:*) printf '%s\n' "$said" >&2; exit 2 ;; esac
 }
 
-# Without `rt`, runs the program of prebuilt/ though it is of other sources, and names one that is another now.
+# Runs the program of prebuilt/ though it is of other sources, and says so even if TOWER_QUIET is set.
 run_older() {
-    say "this is the program of prebuilt/, proved of older sources, since $why and no 'rt' is on PATH"
+    why="$(changed_source "$prebuilt") has changed, and no 'rt' is on PATH"
+    echo "$name: this is the proved program of older sources, from prebuilt/: $why" >&2
     run_it "$prebuilt" "$@"
 }
 
