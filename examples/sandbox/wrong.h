@@ -10,6 +10,14 @@ enum wrong {
     WRONG_CODE,   /* what was translated of a page stays when the page is taken out */
     WRONG_FIRST,  /* the instruction that a fetch from a page that wasn't there left stays */
     WRONG_ALIAS,  /* a store to a shared page leaves it in other engines, with what they translated of it */
+    /* Of these only the engine of process 1 is one, as if its tenant had taken it over. No other tenant may see any of it. */
+    WRONG_SILENT,   /* it never reports */
+    WRONG_BUSY,     /* likewise, and takes all of the processor */
+    WRONG_CRASHING, /* it ends by a signal */
+    WRONG_GARBAGE,  /* it reports random bytes, without end */
+    WRONG_FLOOD,    /* it reports one access, without end */
+    WRONG_CALLING,  /* it makes the host's calls that its tenant names */
+    WRONG_KEEPER,   /* it keeps the pages that are taken out, and reads them */
 };
 extern enum wrong wrong;
 
