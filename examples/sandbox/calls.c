@@ -14,18 +14,14 @@ static struct tower_reply refused(uint32_t cause) {
     return (struct tower_reply){.kind = TOWER_REFUSED, .first = cause};
 }
 
-/* 64 KiB of a family's text are taken, and no more. */
 static struct tower_reply write_text(uint32_t pid, uint32_t address, uint32_t count) {
     static char piece[MOST_PIECE];
-    struct tenant *family = &tenants[tenants[pid].family];
     struct tower_reply stop = no_event;
-    if (count > MOST_PIECE || family->text + count > MOST_TEXT) {
+    if (count > MOST_PIECE) {
         return no_event;
     }
     size_t read = kernel_read(pid, address, piece, count, &stop);
-    family->text += (uint32_t)read;
-    output_text(pid, piece, read);
-    return stop;
+    return output_text(pid, piece, read) ? stop : no_event;
 }
 
 /* The first offer to the process, of givers and pages from these on. */

@@ -78,38 +78,33 @@ struct report {
     struct registers registers;
 };
 
-enum holder { HELD_BY_KERNEL, HELD_BY_ENGINE };
+/* Who has the page; WAITED once the other sleeps until it gets it. */
+enum { HELD_BY_KERNEL = 0, HELD_BY_ENGINE = 1, WAITED = 2 };
 struct channel {
     _Atomic uint32_t holder;
-    _Atomic uint32_t sleeps; /* the one that waits has to be woken */
-    uint64_t window;         /* where the engine maps pages, for kernel_check */
+    uint64_t window; /* where the engine maps pages, for kernel_check */
     struct order order;
     struct report report;
 };
 _Static_assert(sizeof(struct channel) <= PAGE_BYTES, "a channel is in one page");
 
 static inline void channel_pass(struct channel *it, uint32_t to) {
-    atomic_store(&it->holder, to);
-    if (atomic_exchange(&it->sleeps, 0)) {
+    if (atomic_exchange(&it->holder, to) & WAITED) {
         syscall(SYS_futex, &it->holder, FUTEX_WAKE, 1, NULL, NULL, 0);
     }
 }
 
-/* Waits, first awake for a short time. Returns whether the channel is held by that one: otherwise the time is over, or a
- * signal came. */
+/* Waits, first awake for some looks. Returns whether that one has the page: otherwise the time is over, or a signal came. */
 static inline bool channel_await(struct channel *it, uint32_t holder, uint32_t looks, const struct timespec *most) {
-    for (uint32_t i = 0; i < looks; i++) {
-        if (atomic_load(&it->holder) == holder) {
-            return true;
-        }
-        __builtin_ia32_pause();
-    }
-    atomic_store(&it->sleeps, 1);
     uint32_t now = atomic_load(&it->holder);
-    if (now != holder) {
-        syscall(SYS_futex, &it->holder, FUTEX_WAIT, now, most, NULL, 0);
+    for (uint32_t i = 0; i < looks && (now & ~(uint32_t)WAITED) != holder; i++) {
+        __builtin_ia32_pause();
+        now = atomic_load(&it->holder);
     }
-    return atomic_load(&it->holder) == holder;
+    if ((now & ~(uint32_t)WAITED) != holder && atomic_compare_exchange_strong(&it->holder, &now, now | WAITED)) {
+        syscall(SYS_futex, &it->holder, FUTEX_WAIT, now | WAITED, most, NULL, 0);
+    }
+    return (atomic_load(&it->holder) & ~(uint32_t)WAITED) == holder;
 }
 
 #endif

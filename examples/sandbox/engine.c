@@ -18,7 +18,7 @@
 #include "need.h"
 
 /* An engine that doesn't report is late: after so much processor time of its own, or so long by the clock. */
-static const uint64_t LATE_TIME = 1000000000, LATE_CLOCK = 20000000000;
+static const uint64_t LATE_TIME = 1000000000, LATE_CLOCK = 10000000000;
 enum { LOOKS = 2000 }; /* of the kernel's side for a report, before it sleeps */
 
 static char program[4096];

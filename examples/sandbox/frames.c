@@ -153,18 +153,21 @@ void frames_show(uint32_t pid, uint32_t page, uint32_t frame, bool may, bool wri
 /* ---- A check: what the host's kernel says that a process has mapped */
 
 static bool is_to_be_told(const struct order *next, uint32_t page) {
+    bool is_found = next->all_out;
     for (uint32_t i = 0; i < next->out_count; i++) {
-        if (next->outs[i] == page) {
-            return true;
-        }
+        is_found = is_found || next->outs[i] == page;
     }
-    return next->all_out;
+    for (uint32_t i = 0; i < next->put_count; i++) {
+        is_found = is_found || next->puts[i].page == page;
+    }
+    return is_found;
 }
 
+/* A page that is told out, and is still its tenant's, may be there until the engine has settled. */
 static bool is_given(uint32_t pid, uint32_t page, unsigned long inode, bool write) {
-    const struct given *given = frames_page(pid, page);
+    const struct given *given = find(&kernel.engines[pid], page);
     struct stat file;
-    if (!given) {
+    if (!given || is_to_be_told(&kernel.engines[pid].next, page)) {
         return is_to_be_told(&kernel.engines[pid].next, page);
     }
     return fstat(frames[given->frame].file, &file) == 0 && file.st_ino == inode && (given->write || !write);

@@ -5,8 +5,22 @@
 
 #include "tenants.h"
 
-static bool is_letter(char it) {
-    return it >= ' ' && it <= '~';
+static size_t lines_in(const char *text, size_t count) {
+    size_t lines = 0;
+    for (size_t i = 0; i < count; i++) {
+        lines += text[i] == '\n';
+    }
+    return lines;
+}
+
+/* Returns whether the family may write so many bytes more, which it then has written. */
+static bool take(const struct tenant *it, size_t count, size_t lines) {
+    struct tenant *family = &tenants[it->family];
+    size_t all = family->text + count + lines * strlen(it->name);
+    if (all <= MOST_TEXT) {
+        family->text = (uint32_t)all;
+    }
+    return all <= MOST_TEXT;
 }
 
 static void end_line(struct tenant *it) {
@@ -14,30 +28,38 @@ static void end_line(struct tenant *it) {
     it->length = 0;
 }
 
-void output_text(uint32_t pid, const char *text, size_t count) {
+static void put(struct tenant *it, char letter) {
+    if (it->length == MOST_LINE) {
+        end_line(it);
+    }
+    it->line[it->length++] = letter >= ' ' && letter <= '~' ? letter : '?';
+}
+
+bool output_text(uint32_t pid, const char *text, size_t count) {
     struct tenant *it = &tenants[pid];
+    if (!take(it, count, lines_in(text, count))) {
+        return false;
+    }
     for (size_t i = 0; i < count; i++) {
-        if (it->length == MOST_LINE) {
-            end_line(it);
-        }
         if (text[i] == '\n') {
             end_line(it);
         } else {
-            it->line[it->length++] = is_letter(text[i]) ? text[i] : '?';
+            put(it, text[i]);
         }
     }
+    return true;
 }
 
-/* Of a family whose text is over only the last line of its first tenant. */
+/* Once a family's text is over, only the line of its first tenant. */
 void output_line(uint32_t pid, const char *line) {
-    struct tenant *it = &tenants[pid], *first = &tenants[it->family];
-    size_t count = strnlen(line, MOST_LINE);
+    struct tenant *it = &tenants[pid];
     if (it->length) {
         end_line(it);
     }
-    if (it == first || first->text + count <= MOST_TEXT) {
-        first->text += (uint32_t)count;
-        output_text(pid, line, count);
+    if (take(it, strlen(line), 1) || it->family == pid) {
+        for (; *line; line++) {
+            put(it, *line);
+        }
         end_line(it);
     }
 }

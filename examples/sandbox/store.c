@@ -141,7 +141,7 @@ static void restore_core(FILE *file, size_t length) {
 
 static bool is_record(const struct record *it) {
     return it->pid != 0 && it->pid < TOWER_PROCESSES && kernel_is_live(it->pid) && !tenants[it->pid].runs &&
-           it->tenant.runs == 1 && it->tenant.length <= MOST_LINE && it->tenant.text <= MOST_TEXT + MOST_LINE &&
+           it->tenant.runs == 1 && it->tenant.length <= MOST_LINE && it->tenant.text <= MOST_TEXT &&
            is_name(it->tenant.name);
 }
 

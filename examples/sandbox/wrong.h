@@ -15,7 +15,7 @@ enum wrong {
     WRONG_BUSY,     /* likewise, and takes all of the processor */
     WRONG_CRASHING, /* it ends by a signal */
     WRONG_GARBAGE,  /* it reports random bytes, without end */
-    WRONG_FLOOD,    /* it reports one access, without end */
+    WRONG_FLOOD,    /* it makes one call, without end */
     WRONG_CALLING,  /* it makes the host's calls that its tenant names */
     WRONG_KEEPER,   /* it keeps the pages that are taken out, and reads them */
 };

@@ -13,7 +13,7 @@
 #include "confine.h"
 #include "regions.h"
 
-enum { LOOKS = 200 }; /* for an order, before the process sleeps: most calls are answered soon */
+enum { LOOKS = 2000 }; /* for an order, before the process sleeps: most reports are answered soon */
 
 enum wrong wrong;
 
@@ -85,7 +85,7 @@ static void exchange(enum report_kind kind) {
     }
     put_in(is_in_access && report.access == ACCESS_FETCH);
     report.executed = 0;
-    is_tick = is_tick && !order.begins_turn;
+    is_tick = is_tick && kind != REPORT_OVER && !order.begins_turn;
 }
 
 struct words serve_call(struct words words) {
