@@ -26,7 +26,13 @@ void confine_first(void) {
 }
 
 #ifdef __SANITIZE_ADDRESS__
-void confine(void) { /* the address sanitizer takes much memory, and opens files when it reports */
+/* The address sanitizer takes much memory, and opens files when it reports. What the emulator does at its end is no report. */
+const char *__asan_default_options(void);
+const char *__asan_default_options(void) {
+    return "handle_sigfpe=0:handle_segv=0:handle_sigbus=0:handle_sigill=0:handle_abort=0";
+}
+
+void confine(void) {
 }
 #else
 
