@@ -162,6 +162,14 @@ refuse_unread() {
     }
 }
 
+# Copies a file, up to that many bytes. A file that is named - is one, and not standard input.
+copy_file() {
+    case $2 in
+    -) head -c "$1" -- ./- ;;
+    *) head -c "$1" -- "$2" ;;
+    esac >"$3" 2>/dev/null
+}
+
 # Answers a request for help, or arguments that begin with no command, with a text of tools/help. It writes to
 # standard error and ends with status 2, as the program does.
 tell() {
