@@ -94,17 +94,35 @@ static inline void channel_pass(struct channel *it, uint32_t to) {
     }
 }
 
-/* Waits, first awake for some looks. Returns whether that one has the page: otherwise the time is over, or a signal came. */
-static inline bool channel_await(struct channel *it, uint32_t holder, uint32_t looks, const struct timespec *most) {
-    uint32_t now = atomic_load(&it->holder);
-    for (uint32_t i = 0; i < looks && (now & ~(uint32_t)WAITED) != holder; i++) {
+static inline bool channel_is_held(struct channel *it, uint32_t holder) {
+    return (atomic_load(&it->holder) & ~(uint32_t)WAITED) == holder;
+}
+
+/* Looks so often before the process sleeps: more often if that helped the last time, and less often if the other didn't run. */
+static inline bool channel_look(struct channel *it, uint32_t holder, uint32_t *looks) {
+    enum { FEW = 16, MORE = 64, MOST = 2000 };
+    for (uint32_t i = 0; i < *looks; i++) {
+        if (channel_is_held(it, holder)) {
+            *looks = *looks + MORE < MOST ? *looks + MORE : MOST;
+            return true;
+        }
         __builtin_ia32_pause();
-        now = atomic_load(&it->holder);
     }
+    *looks = *looks / 2 > FEW ? *looks / 2 : FEW;
+    return false;
+}
+
+/* Waits. Returns whether that one has the page: otherwise the time is over, or a signal came. */
+static inline bool channel_await(struct channel *it, uint32_t holder, uint32_t *looks, const struct timespec *most) {
+    uint32_t now;
+    if (channel_look(it, holder, looks)) {
+        return true;
+    }
+    now = atomic_load(&it->holder);
     if ((now & ~(uint32_t)WAITED) != holder && atomic_compare_exchange_strong(&it->holder, &now, now | WAITED)) {
         syscall(SYS_futex, &it->holder, FUTEX_WAIT, now | WAITED, most, NULL, 0);
     }
-    return (atomic_load(&it->holder) & ~(uint32_t)WAITED) == holder;
+    return channel_is_held(it, holder);
 }
 
 #endif

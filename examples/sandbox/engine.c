@@ -19,7 +19,6 @@
 
 /* An engine that doesn't report is late: after so much processor time of its own, or so long by the clock. */
 static const uint64_t LATE_TIME = 1000000000, LATE_CLOCK = 10000000000;
-enum { LOOKS = 2000 }; /* of the kernel's side for a report, before it sleeps */
 
 static char program[4096];
 static uint32_t open_count;
@@ -248,7 +247,7 @@ static const char *exchange(struct engine *it, struct report *report) {
     it->next.begins_turn = it->next.all_out = false;
     it->next.out_count = it->next.put_count = 0;
     channel_pass(it->channel, HELD_BY_ENGINE);
-    while (!channel_await(it->channel, HELD_BY_KERNEL, LOOKS, &SLEEP)) {
+    while (!channel_await(it->channel, HELD_BY_KERNEL, &it->looks, &SLEEP)) {
         used = used ? used : time_of(it);
         siginfo_t ended = {0};
         status = waitid(P_PID, (id_t)it->process, &ended, WEXITED | WNOHANG | WNOWAIT);

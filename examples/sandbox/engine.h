@@ -22,6 +22,7 @@ struct engine {
     pid_t process; /* 0: it isn't open */
     int socket;
     struct channel *channel;
+    uint32_t looks; /* for a report, before the kernel sleeps */
     struct order next; /* what it gets next; the files of its puts are those of these frames */
     uint32_t put_frames[MOST_PUTS];
     struct given given[MOST_PAGES];

@@ -13,8 +13,6 @@
 #include "confine.h"
 #include "regions.h"
 
-enum { LOOKS = 2000 }; /* for an order, before the process sleeps: most reports are answered soon */
-
 enum wrong wrong;
 
 static struct channel *channel;
@@ -22,6 +20,7 @@ static struct processor *processor;
 static struct order order;
 static struct report report;
 static volatile sig_atomic_t is_tick;
+static uint32_t looks; /* for an order, before the process sleeps */
 
 /* ---- Pages, as an order says */
 
@@ -62,7 +61,7 @@ static void put_in(bool is_fetch) {
 /* ---- Reports and orders */
 
 static void await_order(bool is_in_access) {
-    while (!channel_await(channel, HELD_BY_ENGINE, LOOKS, NULL)) {
+    while (!channel_await(channel, HELD_BY_ENGINE, &looks, NULL)) {
     }
     order = channel->order;
     take_out(is_in_access);
