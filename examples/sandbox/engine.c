@@ -107,9 +107,10 @@ static pid_t spawn(int socket, int channel) {
     char *words[] = {program, NULL}, *none[] = {NULL};
     posix_spawn_file_actions_t actions;
     posix_spawnattr_t attributes;
-    sigset_t all;
+    sigset_t all, blocked;
     pid_t process = 0;
     sigfillset(&all);
+    sigemptyset(&blocked);
     posix_spawn_file_actions_init(&actions);
     posix_spawnattr_init(&attributes);
     for (int i = 0; i < SOCKET; i++) {
@@ -122,8 +123,9 @@ static pid_t spawn(int socket, int channel) {
     }
     posix_spawn_file_actions_adddup2(&actions, socket, SOCKET);
     posix_spawn_file_actions_adddup2(&actions, channel, CHANNEL);
-    posix_spawnattr_setflags(&attributes, POSIX_SPAWN_SETSID | POSIX_SPAWN_SETSIGDEF);
+    posix_spawnattr_setflags(&attributes, POSIX_SPAWN_SETSID | POSIX_SPAWN_SETSIGDEF | POSIX_SPAWN_SETSIGMASK);
     posix_spawnattr_setsigdefault(&attributes, &all);
+    posix_spawnattr_setsigmask(&attributes, &blocked);
     int error = posix_spawn(&process, program, &actions, &attributes, words, none);
     posix_spawn_file_actions_destroy(&actions);
     posix_spawnattr_destroy(&attributes);

@@ -3,6 +3,7 @@
 
 #include <errno.h>
 #include <linux/audit.h>
+#include <linux/capability.h>
 #include <linux/filter.h>
 #include <linux/seccomp.h>
 #include <signal.h>
@@ -54,10 +55,17 @@ static void limit_all(void) {
     limit(RLIMIT_CORE, 0);
 }
 
+/* Also if the kernel's process is root's. */
+static void drop_rights(void) {
+    struct __user_cap_header_struct header = {_LINUX_CAPABILITY_VERSION_3, 0};
+    const struct __user_cap_data_struct none[2] = {{0, 0, 0}, {0, 0, 0}};
+    need(syscall(SYS_capset, &header, none) == 0, "this process has no rights of its own");
+}
+
 /* All that the emulator and the allocator do is memory of their own; the rest is for the channel, the ticks and the end. Any
  * other call, also one by another table of calls, kills the process. */
 static const uint32_t calls[] = {
-    SYS_futex, SYS_recvmsg, SYS_close, SYS_mmap, SYS_munmap, SYS_mremap, SYS_mprotect, SYS_madvise, SYS_brk,
+    SYS_futex, SYS_recvmsg, SYS_close, SYS_mmap, SYS_munmap, SYS_mremap, SYS_brk,
     SYS_rt_sigreturn, SYS_rt_sigprocmask, SYS_getrandom, SYS_exit_group,
 };
 enum { CALLS = sizeof calls / sizeof *calls, BEFORE = 4 };
@@ -76,6 +84,7 @@ void confine(void) {
     filter[BEFORE + CALLS + 1] = (struct sock_filter)BPF_STMT(BPF_RET | BPF_K, SECCOMP_RET_ALLOW);
     const struct sock_fprog program = {sizeof filter / sizeof *filter, filter};
     limit_all();
+    drop_rights();
     need(prctl(PR_SET_NO_NEW_PRIVS, 1, 0, 0, 0) == 0, "no program gives this process more rights");
     need(prctl(PR_SET_SECCOMP, SECCOMP_MODE_FILTER, &program) == 0, "the host filters system calls");
 }
