@@ -237,10 +237,14 @@ static bool send_files(struct engine *it) {
     return length == 0 || sendmsg(it->socket, &message, MSG_DONTWAIT | MSG_NOSIGNAL) == 1;
 }
 
+static bool has_ended(const struct engine *it) {
+    siginfo_t ended = {0};
+    return waitid(P_PID, (id_t)it->process, &ended, WEXITED | WNOHANG | WNOWAIT) == 0 && ended.si_pid == it->process;
+}
+
 static const char *exchange(struct engine *it, struct report *report) {
     static const struct timespec SLEEP = {0, 50000000};
-    uint64_t from = now(CLOCK_MONOTONIC), used = 0;
-    int status;
+    uint64_t from = 0, used = 0;
     if (!send_files(it)) {
         return gave_up(it);
     }
@@ -250,18 +254,18 @@ static const char *exchange(struct engine *it, struct report *report) {
     it->next.out_count = it->next.put_count = 0;
     channel_pass(it->channel, HELD_BY_ENGINE);
     while (!channel_await(it->channel, HELD_BY_KERNEL, &it->looks, &SLEEP)) {
-        used = used ? used : time_of(it);
-        siginfo_t ended = {0};
-        status = waitid(P_PID, (id_t)it->process, &ended, WEXITED | WNOHANG | WNOWAIT);
-        if (status == 0 && ended.si_pid == it->process) {
+        if (has_ended(it)) {
             return gave_up(it);
         }
-        if (time_of(it) - used > LATE_TIME || now(CLOCK_MONOTONIC) - from > LATE_CLOCK) {
+        used = used ? used : time_of(it);
+        from = from ? from : now(CLOCK_MONOTONIC);
+        if (time_of(it) > used + LATE_TIME || now(CLOCK_MONOTONIC) > from + LATE_CLOCK) {
             engine_close(it);
             return "the emulator doesn't answer";
         }
     }
-    *report = it->channel->report; /* once: it may change at any time */
+    *report = it->channel->report;
+    atomic_thread_fence(memory_order_seq_cst); /* it is read once: it may change at any time */
     return NULL;
 }
 
