@@ -134,12 +134,13 @@ static uint64_t time_left(uint32_t pid) {
     return family->most > family->spent ? family->most - family->spent : 0;
 }
 
+/* False if the host has no process for it. Another tenant may end meanwhile, with all that descend from it. */
 static bool open_engine(uint32_t pid) {
     struct engine *it = &kernel.engines[pid];
     if (!engine_is_open(it) && engines_open() >= limits.engines) {
         park_another();
     }
-    if (!engine_is_open(it)) {
+    if (!engine_is_open(it) && tenants[pid].runs) {
         counts.engines++;
         if (!engine_open(it, &tenants[pid].start, time_left(pid))) {
             return false;
