@@ -97,27 +97,39 @@ static int move(uint32_t frame, bool is_sealed) {
     return old;
 }
 
-static void shut(int file) {
-    if (file != NO_FILE) {
-        close(file);
+/* What is mapped of the old file faults in any process, so not even two that keep it have it in common. */
+static void replace(uint32_t frame, bool is_sealed) {
+    int old = move(frame, is_sealed);
+    need(old == NO_FILE || (ftruncate(old, 0) == 0 && close(old) == 0), "a file is emptied");
+}
+
+static bool is_given_to_any(uint32_t frame) {
+    for (uint32_t pid = 0; pid < TOWER_PROCESSES; pid++) {
+        const struct engine *it = &kernel.engines[pid];
+        for (uint32_t i = 0; i < it->given_count; i++) {
+            if (it->given[i].frame == frame) {
+                return true;
+            }
+        }
+    }
+    return false;
+}
+
+void frames_revoke(uint32_t pid, uint32_t page, uint32_t frame) {
+    struct engine *it = &kernel.engines[pid];
+    struct given *found = find(it, page);
+    if (frame != ZEROS && is_given_to_any(frame)) {
+        replace(frame, false);
+    } else if (found) {
+        need(found->frame == ZEROS, "a page was on the frame of its translation");
+        tell_out(it, found);
+        *found = it->given[--it->given_count];
     }
 }
 
-/* What is mapped of the old file faults in any process, so not even two that keep it have it in common. */
-static void revoke_frame(uint32_t frame) {
-    int old = move(frame, false);
-    need(ftruncate(old, 0) == 0, "a file is emptied");
-    shut(old);
-}
-
-void frames_revoke(uint32_t pid, uint32_t page) {
-    struct engine *it = &kernel.engines[pid];
-    struct given *found = find(it, page);
-    if (found && found->frame == ZEROS) {
-        tell_out(it, found);
-        *found = it->given[--it->given_count];
-    } else if (found) {
-        revoke_frame(found->frame);
+void frames_unseal(uint32_t frame) {
+    if (frames[frame].file != NO_FILE && frames[frame].is_sealed) {
+        replace(frame, false);
     }
 }
 
@@ -136,11 +148,9 @@ static struct given *place(uint32_t pid, uint32_t page) {
 void frames_show(uint32_t pid, uint32_t page, uint32_t frame, bool may, bool write) {
     struct engine *it = &kernel.engines[pid];
     const struct given *before = find(it, page);
-    if (before && before->frame != frame && before->frame != ZEROS) {
-        frames_revoke(pid, page);
-    }
+    need(!before || before->frame == frame || before->frame == ZEROS, "a page stays on its frame until it is taken back");
     if (frames[frame].file == NO_FILE || frames[frame].is_sealed == may) {
-        shut(move(frame, !may));
+        replace(frame, !may);
     }
     need(it->next.put_count < MOST_PUTS, "an access is of at most two pages");
     struct given *now = place(pid, page);

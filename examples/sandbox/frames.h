@@ -8,13 +8,17 @@
 /* As many descriptors as frames are needed. Once, before any engine. */
 void frames_begin(uint32_t frames);
 
-/* The page of a process's engine is on this frame from its next order on. If `may` is false, no process of the host can
- * write there by what it has got; otherwise the engine is trusted to write only once `write` is true. */
+/* The page of a process's engine is on this frame from its next order on. `may` is whether the process may write to the
+ * frame, at any of its pages. If it is false, no process of the host can write there by what it has got. Otherwise the engine
+ * is trusted to write only once `write` is true. */
 void frames_show(uint32_t pid, uint32_t page, uint32_t frame, bool may, bool write);
 /* The engine is told to take the page out, with what it translated of it. The process still may have it. */
 void frames_out(uint32_t pid, uint32_t page);
-/* The process may not have the page any more: what it has got leads nowhere from now on. */
-void frames_revoke(uint32_t pid, uint32_t page);
+/* The process may not have the page any more, which was on that frame, or was lazy (0): what any process has got of it leads
+ * nowhere from now on. */
+void frames_revoke(uint32_t pid, uint32_t page, uint32_t frame);
+/* A process that may have the frame may write there now. No engine is in the middle of an access. */
+void frames_unseal(uint32_t frame);
 
 /* The page, if the engine has it; NULL. */
 const struct given *frames_page(uint32_t pid, uint32_t page);

@@ -44,8 +44,19 @@ void kernel_close(void) {
 
 /* ---- What is taken from engines */
 
-/* The pages that an access has ended are those of its own bytes: kernel_access puts them on their new frames. */
-static void invalidate(const struct tower_ended *ended) {
+static bool finds_frame(uint32_t pid, uint32_t address, bool is_store, struct tower_walk *found) {
+    return tower_walk(&kernel.core, pid, address, is_store, found) && found->kind == TOWER_WALK_FRAME;
+}
+
+/* The frame of a page; 0, the frame of zeros, if it has none. */
+static uint32_t frame_of(uint32_t pid, uint32_t page) {
+    struct tower_walk walk;
+    return page <= TOWER_LAST_PAGE && finds_frame(pid, page << 12, false, &walk) ? walk.frame : 0;
+}
+
+/* The pages that an access has ended are those of its own bytes: kernel_access puts them on their new frames. Of all others
+ * only an Unmap and a Protect end one that isn't lazy: it was on that frame. */
+static void invalidate(const struct tower_ended *ended, uint32_t frame) {
     bool is_kept = wrong == WRONG_KEPT && ended->kind != TOWER_ENDS_SPACE;
     if (is_kept || ended->pid == kernel.accessing) {
         return;
@@ -53,9 +64,9 @@ static void invalidate(const struct tower_ended *ended) {
     if (ended->kind == TOWER_ENDS_SPACE) {
         engine_close(&kernel.engines[ended->pid]);
     } else if (ended->kind != TOWER_ENDS_NOTHING) {
-        frames_revoke(ended->pid, ended->first);
+        frames_revoke(ended->pid, ended->first, frame);
         if (ended->kind == TOWER_ENDS_PAGES) {
-            frames_revoke(ended->pid, ended->second);
+            frames_revoke(ended->pid, ended->second, frame);
         }
     }
 }
@@ -98,9 +109,14 @@ static void page_written(uint32_t pid, uint32_t page) {
 struct tower_reply kernel_event(struct tower_event event) {
     struct tower_reply reply = {0};
     struct tower_ended ended = {0};
+    bool is_of_a_page = event.call == TOWER_UNMAP || event.call == TOWER_PROTECT;
+    uint32_t frame = is_of_a_page ? frame_of(event.pid, event.first) : 0;
     need(tower_step_ending(&kernel.core, &event, &reply, &ended), "a core replies");
     kernel.events++;
-    invalidate(&ended);
+    invalidate(&ended, frame);
+    if ((event.call == TOWER_PROTECT || event.call == TOWER_ACCEPT) && reply.kind == TOWER_DONE) {
+        frames_unseal(frame_of(event.pid, event.call == TOWER_PROTECT ? event.first : event.third));
+    }
     if (event.call == TOWER_STORE && reply.kind == TOWER_DONE) {
         page_written(event.pid, event.first >> 12);
         page_written(event.pid, (event.first + event.flag - 1) >> 12);
@@ -109,8 +125,16 @@ struct tower_reply kernel_event(struct tower_event event) {
     return reply;
 }
 
-static bool finds_frame(uint32_t pid, uint32_t address, bool is_store, struct tower_walk *found) {
-    return tower_walk(&kernel.core, pid, address, is_store, found) && found->kind == TOWER_WALK_FRAME;
+/* Whether a process may write to the frame of a page, there or at another of its pages. */
+static bool may_write(uint32_t pid, uint32_t page, const struct tower_page *found) {
+    bool may = found->write && !found->lazy;
+    uint32_t other, at;
+    for (uint32_t from = 0; !may && found->holders > 1 && tower_next_holder(&kernel.core, pid, page, pid, from, &other);
+         from = other + 1) {
+        struct tower_page there;
+        may = tower_next_page(&kernel.core, pid, other, &at, &there) && at == other && there.write;
+    }
+    return may;
 }
 
 /* A page of an access that the core has carried out. It may be written in the engine only if it is dirty. */
@@ -120,7 +144,7 @@ static void fill(uint32_t pid, uint32_t page) {
     uint32_t at = 0;
     need(finds_frame(pid, page << 12, false, &walk), "a walk finds the page of an access");
     need(tower_next_page(&kernel.core, pid, page, &at, &found) && at == page, "the page of an access is mapped");
-    bool may = found.write && !found.lazy, write = may && (found.dirty || wrong == WRONG_EARLY);
+    bool may = may_write(pid, page, &found), write = found.write && !found.lazy && (found.dirty || wrong == WRONG_EARLY);
     if (found.holders > 1) {
         take_from_others(pid, page, write);
     }
@@ -186,11 +210,12 @@ struct tower_reply kernel_take_back(uint32_t pid, uint32_t page) {
     enum { MOST = 64 };
     struct tower_holder lost[MOST];
     struct tower_reply told = {0};
+    uint32_t frame = frame_of(pid, page);
     size_t count = MOST;
     while (count == MOST) {
         need(tower_take_back(&kernel.core, pid, page, lost, MOST, &count, &told), "a core takes a page back");
         for (size_t i = 0; i < count; i++) {
-            frames_revoke(lost[i].pid, lost[i].page);
+            frames_revoke(lost[i].pid, lost[i].page, frame);
         }
     }
     kernel_check();
