@@ -62,11 +62,11 @@ static void drop_rights(void) {
     need(syscall(SYS_capset, &header, none) == 0, "this process has no rights of its own");
 }
 
-/* All that the emulator and the allocator do is memory of their own; the rest is for the channel, the ticks and the end. Any
- * other call, also one by another table of calls, kills the process. */
+/* All that the emulator and the C library do is memory of their own, its size, and the time; the rest is for the channel, the
+ * ticks and the end. Any other call, also one by another table of calls, kills the process. */
 static const uint32_t calls[] = {
-    SYS_futex, SYS_recvmsg, SYS_close, SYS_mmap, SYS_munmap, SYS_mremap, SYS_brk,
-    SYS_rt_sigreturn, SYS_rt_sigprocmask, SYS_getrandom, SYS_exit_group,
+    SYS_futex, SYS_recvmsg, SYS_close, SYS_mmap, SYS_munmap, SYS_mremap, SYS_mprotect, SYS_brk, SYS_sysinfo,
+    SYS_clock_gettime, SYS_gettimeofday, SYS_getrandom, SYS_rt_sigreturn, SYS_rt_sigprocmask, SYS_exit_group,
 };
 enum { CALLS = sizeof calls / sizeof *calls, BEFORE = 4 };
 

@@ -75,9 +75,15 @@ static uint32_t index_of(const struct processor *it, uint32_t page) {
     return index;
 }
 
-static int by_first(const void *one, const void *other) {
-    const struct region *a = one, *b = other;
-    return a->first < b->first ? -1 : a->first > b->first;
+static void sort_by_first(struct region *regions, uint32_t count) {
+    for (uint32_t i = 1; i < count; i++) {
+        struct region moved = regions[i];
+        uint32_t to = i;
+        for (; to > 0 && regions[to - 1].first > moved.first; to--) {
+            regions[to] = regions[to - 1];
+        }
+        regions[to] = moved;
+    }
 }
 
 /* How many regions from this one on are neighbours that may be written. */
@@ -95,7 +101,7 @@ static void join_all(struct processor *it) {
     struct region old[MOST_REGIONS];
     uint32_t all = it->region_count;
     memcpy(old, it->regions, sizeof old);
-    qsort(old, all, sizeof *old, by_first);
+    sort_by_first(old, all);
     for (uint32_t i = 0, count; i < all; i += count) {
         struct region whole = {.first = old[i].first, .count = 0, .write = true};
         count = run_of(&old[i], all - i);
