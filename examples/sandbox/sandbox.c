@@ -55,7 +55,7 @@ static uint64_t number(const char *text, uint64_t low, uint64_t high) {
 
 static enum wrong wrong_of(const char *word) {
     static const char *const words[] = {"nothing", "kept",     "early",   "untold", "code",    "first", "alias",
-                                        "silent",  "busy", "crashing", "garbage", "flood", "calling", "keeper"};
+                                        "silent",  "busy", "crashing", "garbage", "flood", "slow",    "calling", "keeper"};
     for (uint32_t i = 0; i < sizeof words / sizeof *words; i++) {
         if (strcmp(word, words[i]) == 0) {
             return (enum wrong)i;

@@ -28,9 +28,9 @@ static struct {
     uint64_t turns, calls, faults, engines;
 } counts;
 
-static uint64_t nanoseconds(void) {
-    struct timespec now;
-    clock_gettime(CLOCK_PROCESS_CPUTIME_ID, &now);
+static uint64_t nanoseconds(clockid_t clock) {
+    struct timespec now = {0};
+    clock_gettime(clock, &now);
     return (uint64_t)now.tv_sec * 1000000000 + (uint64_t)now.tv_nsec;
 }
 
@@ -244,19 +244,33 @@ static const char *run_to_report(uint32_t pid, struct report *report) {
     return on_report(pid, report);
 }
 
-/* Runs the tenant until its turn is over, or it has exited. Returns why it has to end, or NULL. An engine that obeys reports
- * the end of its time long before the kernel has worked so long for it. */
+struct moment {
+    uint64_t worked, clock; /* what the kernel has worked, and the time */
+};
+
+static struct moment moment(void) {
+    return (struct moment){nanoseconds(CLOCK_PROCESS_CPUTIME_ID), nanoseconds(CLOCK_MONOTONIC)};
+}
+
+/* An engine that obeys reports the end of its time long before the kernel has worked so long for it, or so long passed. */
+static bool is_late(const struct moment *from, uint32_t reports) {
+    enum { LOOK_EACH = 256 };
+    static const uint64_t MOST_WORK = 1000000000, MOST_CLOCK = 10000000000;
+    return nanoseconds(CLOCK_MONOTONIC) > from->clock + MOST_CLOCK ||
+           (reports % LOOK_EACH == 0 && nanoseconds(CLOCK_PROCESS_CPUTIME_ID) > from->worked + MOST_WORK);
+}
+
+/* Runs the tenant until its turn is over, or it has exited. Returns why it has to end, or NULL. */
 static const char *run(uint32_t pid) {
-    enum { LOOK_EACH = 256, LATE = 1000000000 };
     static struct report report;
-    uint64_t from = nanoseconds();
+    struct moment from = moment();
     const char *why = open_engine(pid) ? NULL : "the host has no process for its engine";
     kernel.engines[pid].next.begins_turn = true;
     for (uint32_t i = 1; !why && !turn_over && tenants[pid].runs; i++) {
         why = run_to_report(pid, &report);
         if (!why && report.kind == REPORT_OVER) {
-            from = nanoseconds();
-        } else if (!why && i % LOOK_EACH == 0 && nanoseconds() - from > LATE) {
+            from = moment();
+        } else if (!why && is_late(&from, i)) {
             why = "the emulator doesn't end its turn";
         }
     }
@@ -282,12 +296,19 @@ static void look_at_memory(uint32_t pid) {
     }
 }
 
+/* Of a turn by time, what it takes longer than so: a sleeping engine holds the others up, too. */
+static uint64_t delay_since(const struct moment *from) {
+    enum { FREE = 200000000 };
+    uint64_t passed = nanoseconds(CLOCK_MONOTONIC) - from->clock;
+    return passed > FREE && !limits.turn && !limits.after ? passed - FREE : 0;
+}
+
 static void turn(uint32_t pid) {
     char line[MOST_WHY + 16];
-    uint64_t from = nanoseconds();
+    struct moment from = moment();
     begin_turn();
     const char *why = run(pid);
-    pay(pid, nanoseconds() - from);
+    pay(pid, nanoseconds(CLOCK_PROCESS_CPUTIME_ID) - from.worked + delay_since(&from));
     if (!tenants[pid].runs) {
         return;
     }
@@ -319,7 +340,7 @@ bool tenants_run(void) {
 void print_counts(void) {
     struct rusage engines;
     need(getrusage(RUSAGE_CHILDREN, &engines) == 0, "the engines' time is known");
-    double seconds = 1e-9 * (double)nanoseconds() + (double)(engines.ru_utime.tv_sec + engines.ru_stime.tv_sec) +
+    double seconds = 1e-9 * (double)nanoseconds(CLOCK_PROCESS_CPUTIME_ID) + (double)(engines.ru_utime.tv_sec + engines.ru_stime.tv_sec) +
                      1e-6 * (double)(engines.ru_utime.tv_usec + engines.ru_stime.tv_usec);
     fprintf(stderr,
             "%.3f s; %llu turns, %llu calls, %llu page faults, %llu events, %llu engines, %llu instructions counted, %llu checks\n",

@@ -16,6 +16,7 @@ enum wrong {
     WRONG_CRASHING, /* it ends by a signal */
     WRONG_GARBAGE,  /* it reports random bytes, without end */
     WRONG_FLOOD,    /* it makes one call, without end */
+    WRONG_SLOW,     /* likewise, and sleeps before each */
     WRONG_CALLING,  /* it makes the host's calls that its tenant names */
     WRONG_KEEPER,   /* it keeps the pages that are taken out, and reads them */
 };
