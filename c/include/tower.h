@@ -610,13 +610,17 @@ static inline const char *tower_outcome_name(uint32_t outcome) {
     }
 }
 
-/* How the event ended that has this reply. */
+/* How the event ended that has this reply. A kind that is none is TOWER_OUTCOME_NO_EVENT: no call wrote the reply. */
 TOWER_NODISCARD static inline enum tower_outcome tower_outcome_of(const struct tower_reply *reply) {
     switch (reply->kind) {
+    case TOWER_DONE:
+    case TOWER_VALUE:
+    case TOWER_CHILD:
+    case TOWER_FLAGS:
+    case TOWER_USAGE: return TOWER_OUTCOME_DONE;
     case TOWER_REFUSED: return TOWER_OUTCOME_REFUSED;
     case TOWER_FAULT: return TOWER_OUTCOME_FAULT;
-    case TOWER_NO_EVENT: return TOWER_OUTCOME_NO_EVENT;
-    default: return TOWER_OUTCOME_DONE;
+    default: return TOWER_OUTCOME_NO_EVENT;
     }
 }
 

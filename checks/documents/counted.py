@@ -74,7 +74,7 @@ def facts():
     yield "instructions", of_hypervisor, {"examples/hypervisor/README.md": r"^- Instructions: (\d+) that"}
     yield "attacks", attacks, {SANDBOX: r"`hostile` \| (\d+) attacks"}
     yield "instructions", ends, {SANDBOX: r"attacks, (\d+) instructions"}
-    regions = number("examples/sandbox/engine.h", r"MOST_REGIONS = (\d+)")
+    regions = number("examples/sandbox/engine/processor.h", r"MOST_REGIONS = (\d+)")
     yield "regions of an engine", regions, {SANDBOX: r"at most (\d+) regions"}
     headers = (it.read_text(encoding="utf-8") for it in (ROOT / "c/include").glob("*.h"))
     slices = sum(len(re.findall(r"^#define tower_\w+ tower_\w+_inline$", it, re.M)) for it in headers)

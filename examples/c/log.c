@@ -132,11 +132,24 @@ static void cuts(void) {
     EXPECT(tower_reply_text(&usage, text, 9) == 38 && strcmp(text, "quota 42") == 0);
 }
 
+/* Of a kind that is none, and of a reply that no call wrote, nothing is said to be done. */
+static void has_no_other_outcome(void) {
+    for (uint32_t kind = 0; kind <= 300; kind++) {
+        const struct tower_reply reply = {.kind = kind < 300 ? kind : UINT32_MAX};
+        enum tower_outcome outcome = tower_outcome_of(&reply);
+        EXPECT((outcome == TOWER_OUTCOME_DONE) == (kind <= TOWER_USAGE));
+        EXPECT((outcome == TOWER_OUTCOME_FAULT) == (kind == TOWER_FAULT));
+        EXPECT((outcome == TOWER_OUTCOME_REFUSED) == (kind == TOWER_REFUSED));
+        EXPECT((outcome == TOWER_OUTCOME_NO_EVENT) == (kind >= TOWER_NO_EVENT));
+    }
+}
+
 int main(int count, char **words) {
     EXPECT(count == 3);
     script = fopen(words[1], "w");
     replies = fopen(words[2], "w");
     EXPECT(script && replies && tower_boot(FRAMES, &tower) == TOWER_BOOTED);
+    has_no_other_outcome();
     cuts();
     fills();
     logs_random_calls();

@@ -48,6 +48,11 @@ int main(void) {
         EXPECT(tower_frames_within(TOWER_BLOCK_BYTES(frames) - 1) < frames);
         EXPECT(TOWER_BLOCK_BYTES(tower_frames_within((size_t)frames * 4096)) <= (size_t)frames * 4096);
     }
+    for (uint32_t frames = 16; frames < 3000;) {
+        uint32_t before = frames;
+        size_t bytes = TOWER_BLOCK_BYTES(frames++);
+        EXPECT(frames == before + 1 && bytes == (size_t)before * TOWER_FRAME_BYTES + TOWER_BOOK_BYTES(before));
+    }
     EXPECT(tower_frames_within(SIZE_MAX / 4096 * 4096) == TOWER_WIDE_FRAMES);
     EXPECT(tower_frames_within(TOWER_BLOCK_BYTES(TOWER_WIDE_FRAMES)) == TOWER_WIDE_FRAMES);
     EXPECT(tower_frames_within(TOWER_BLOCK_BYTES(TOWER_WIDE_FRAMES) - 1) == TOWER_WIDE_FRAMES - 1);
@@ -65,6 +70,13 @@ int main(void) {
     EXPECT(tower_boot_over(15, &one, around, sizeof first) == TOWER_BAD_SIZE);
     EXPECT(tower_boot_over(TOWER_WIDE_FRAMES + 1, &one, around, sizeof first) == TOWER_BAD_SIZE);
     EXPECT(tower_boot_over(UINT32_MAX, &one, around, sizeof first) == TOWER_BAD_SIZE);
+    struct tower *within = (struct tower *)(around + 3 * 4096), *at_end = (struct tower *)(around + sizeof first) - 1;
+    memset(within, 0, sizeof *within);
+    memset(at_end, 0, sizeof *at_end);
+    EXPECT(tower_boot_over(FRAMES, within, around, sizeof first) == TOWER_BAD_BLOCK && !within->live);
+    EXPECT(tower_boot_over(FRAMES, at_end, around, sizeof first) == TOWER_BAD_BLOCK && !at_end->live);
+    memset(within, 0x5a, sizeof *within);
+    memset(at_end, 0x5a, sizeof *at_end);
     EXPECT(!one.live && !tower_holds(around));
     EXPECT(strcmp(tower_status_name(TOWER_BAD_BLOCK), "BadBlock") == 0);
     for (size_t at = 0; at < sizeof around; at++) {

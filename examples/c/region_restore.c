@@ -31,6 +31,15 @@ static uint32_t restored(size_t count, void *block, size_t size) {
     return tower_restore_over(image, count, &two, &verdict, block, size);
 }
 
+/* A restore whose handle lies in its own block, with what the block had there before. */
+static uint32_t restored_within(void *place) {
+    struct tower *handle = place;
+    memset(handle, 0, sizeof *handle);
+    uint32_t status = tower_restore_over(image, LENGTH, handle, &verdict, second, sizeof second);
+    memset(handle, 0x5a, sizeof *handle);
+    return status;
+}
+
 static bool is_filled(const uint8_t *bytes, size_t size) {
     while (size && bytes[size - 1] == 0x5a) {
         size--;
@@ -51,6 +60,8 @@ int main(void) {
     EXPECT(restored(LENGTH, second, sizeof second + 1) == TOWER_RESTORE_BAD_BLOCK);
     EXPECT(restored(LENGTH, first, sizeof second) == TOWER_RESTORE_BAD_BLOCK);
     EXPECT(tower_restore_over(second + 4096, LENGTH, &two, &verdict, second, sizeof second) == TOWER_RESTORE_BAD_BLOCK);
+    EXPECT(restored_within(second + 4096) == TOWER_RESTORE_BAD_BLOCK);
+    EXPECT(restored_within((struct tower *)(second + sizeof second) - 1) == TOWER_RESTORE_BAD_BLOCK);
     EXPECT(tower_restore_over(second + sizeof second - 1, LENGTH, &two, &verdict, second, sizeof second)
            == TOWER_RESTORE_BAD_BLOCK);
     EXPECT(!two.live && !tower_holds(second) && is_filled(second, sizeof second));
