@@ -58,6 +58,7 @@ _Noreturn void begin(const char *word) {
     tell_outcomes();
     tell_counts();
     check_all();
+    need(faults_again() == 0, "no fault comes again once the core has made its access");
     need(found_wrong() == 0, "the processes end as they should");
     say("all is well\n");
     leave(0);

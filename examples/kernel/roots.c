@@ -135,6 +135,7 @@ void release_these(set which, struct order order) {
 /* The others continue at once: they come back to a root only with the lock. */
 void leave_everywhere(uint32_t pid) {
     set which = WRONG_FULL && pid == NOBODY ? 0 : keepers_of(pid);
+    counts.left++;
     stop_these(which);
     release_these(which, (struct order){drop_root_here, NOBODY, 0});
     if (!WRONG_ROOT) {

@@ -15,7 +15,7 @@ static bool is_interrupt(uint64_t vector) {
     return vector >= EXCEPTIONS && vector != VECTOR_CALL;
 }
 
-/* An exception that is no page fault ends the process. */
+/* An exception ends the process, unless it is a page fault that is explained. */
 static void exception_of(const struct thread *it) {
     say("[%s] ended: exception %u\n", process_of(it->pid)->name, (uint32_t)it->cpu.vector);
     end_process(it->pid, ENDED_EXCEPTION, (uint32_t)it->cpu.vector);
@@ -27,8 +27,7 @@ static bool handle_trap(struct thread *it) {
     if (it->state == DYING) {
         return true;
     }
-    if (it->cpu.vector == VECTOR_PAGE_FAULT) {
-        page_fault(it);
+    if (it->cpu.vector == VECTOR_PAGE_FAULT && page_fault(it)) {
         return it->state != RUNNING;
     }
     it->last = (struct fault){0};

@@ -17,7 +17,7 @@ struct spaces_counts spaces_counts(void) {
 }
 
 uint32_t forgets(void) {
-    return counts.pages + counts.processes + counts.all;
+    return counts.pages + counts.processes + counts.all + root_counts().left;
 }
 
 void open_spaces(void) {

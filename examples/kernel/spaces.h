@@ -27,7 +27,7 @@ struct spaces_counts {
     uint32_t pages, processes, all; /* entries forgotten: of pages, of processes, and of all */
 };
 struct spaces_counts spaces_counts(void);
-/* How often anything was forgotten. */
+/* How often anything was forgotten, or processors left tables: a page that was filled may fault again then. */
 uint32_t forgets(void);
 
 #endif

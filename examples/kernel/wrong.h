@@ -24,6 +24,9 @@
 #ifndef WRONG_ADDRESS
 #define WRONG_ADDRESS 0 /* the core gets the lower half of an address of 64 bits */
 #endif
+#ifndef WRONG_USER
+#define WRONG_USER 0 /* a fault whose code lacks the user bit is taken for an access of the process */
+#endif
 #ifndef WRONG_DIRTY
 #define WRONG_DIRTY 0 /* a page that the core lets a process write is filled writable at its first load */
 #endif

@@ -1,7 +1,7 @@
 /* The first process: begins all others, and waits for their ends. */
 #include "program.h"
 
-enum { STRAYS = 17, SPINNERS = 3, STRESSES = 3, HOSTILES = 4 };
+enum { STRAYS = 19, SPINNERS = 3, STRESSES = 3, HOSTILES = 4 };
 
 /* How many children ended, by how and by the number of that. */
 static uint32_t ended[HOWS][32];
@@ -13,6 +13,7 @@ static const struct {
 } expected[] = {
     {ENDED_EXIT, 0, 13},   {ENDED_FAULT, 4, 5},      {ENDED_FAULT, 6, 4},      {ENDED_FAULT, 7, 3},
     {ENDED_REFUSED, TOWER_OVER_QUOTA, 1}, {ENDED_EXCEPTION, 6, 1}, {ENDED_EXCEPTION, 13, 5},
+    {ENDED_EXCEPTION, 14, 2},
 };
 
 static void wait_for_all(uint32_t count) {
