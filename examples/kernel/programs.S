@@ -22,6 +22,7 @@
     program team
     program family
     program hostile
+    program neighbor
     .balign 8
     .globl programs
 programs:                               /* in the order of calls.h */
@@ -38,4 +39,5 @@ programs:                               /* in the order of calls.h */
     entry team
     entry family
     entry hostile
+    entry neighbor
     .section .note.GNU-stack, "", @progbits

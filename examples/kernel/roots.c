@@ -118,7 +118,10 @@ set runners(void) {
 void stop_these(set which) {
     for (uint32_t number = 0; number < MOST_PROCESSORS; number++) {
         if (which >> number & 1) {
+            uint64_t since = moment();
             stop_processor(number);
+            uint32_t took = (uint32_t)((moment() - since) / 1000);
+            counts.longest = took > counts.longest ? took : counts.longest;
             counts.stopped++;
         }
     }

@@ -42,6 +42,7 @@ void release_these(set which, struct order order);
 struct root_counts {
     uint32_t left;        /* times that all processors left a process's tables */
     uint32_t stopped;     /* interrupts for another processor */
+    uint32_t longest;     /* until that stood still, in thousands of ticks */
     uint32_t invalidated; /* a page, or all, on any processor */
 };
 struct root_counts root_counts(void);

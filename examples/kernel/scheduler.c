@@ -11,6 +11,12 @@ struct turns turns_given(void) {
     return turns;
 }
 
+/* Notes a time in thousands of ticks if it is the longest. */
+static void note_time(uint64_t since, uint32_t *longest) {
+    uint32_t took = (uint32_t)((moment() - since) / 1000);
+    *longest = took > *longest ? took : *longest;
+}
+
 static bool is_interrupt(uint64_t vector) {
     return vector >= EXCEPTIONS && vector != VECTOR_CALL;
 }
@@ -92,13 +98,16 @@ void serve(void) {
     arrive();
     while (!is_shut_down()) {
         struct thread *it = take_first();
+        uint64_t since = moment();
         if (it) {
+            note_time(it->queued, &turns.longest_wait);
             bring_here(it->pid);
         }
         let_go();
         share_queue();
         if (it) {
             run(it);
+            note_time(since, &turns.longest);
             end_turn(it);
         } else {
             (void)comes_in_time(is_work, 0);

@@ -79,6 +79,7 @@ void end_threads(uint32_t pid) {
 
 void put_last(struct thread *it) {
     it->state = QUEUED;
+    it->queued = moment();
     queue.at[queue.count++] = it;
 }
 

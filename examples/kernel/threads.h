@@ -27,6 +27,7 @@ struct thread {
     enum thread_state state;
     uint32_t pid;
     struct fault last; /* its last page fault, if nothing came in between */
+    uint64_t queued;   /* the moment since which it waits for a processor */
     struct registers cpu;
 };
 

@@ -25,7 +25,10 @@ void begin_gates(uint32_t number);
 /* Does both for an interrupt that came while a process or a guest ran. */
 void interrupted(uint32_t vector);
 
-/* The timer interrupts 10 ms from now, and not before. The interrupt ends a guest's run. */
+/* The processor's ticks since it began. */
+uint64_t moment(void);
+/* The timer interrupts 10 ms from now, and not before. The interrupt ends a guest's run, also if this processor waits or
+ * rests meanwhile. A stop that came is answered. */
 void start_slice(void);
 /* Returns whether the slice is over. */
 bool is_slice_over(void);

@@ -1,7 +1,7 @@
 /* The first process: begins all others, and waits for their ends. */
-#include "program.h"
+#include "neighbor.h"
 
-enum { STRAYS = 19, SPINNERS = 3, STRESSES = 3, HOSTILES = 4 };
+enum { STRAYS = 19, SPINNERS = 3, STRESSES = 3, HOSTILES = 4, MOST_NEIGHBORS = 2 };
 
 /* How many children ended, by how and by the number of that. */
 static uint32_t ended[HOWS][32];
@@ -76,10 +76,39 @@ static uint32_t run_hostiles(uint32_t number) {
     return HOSTILES - ended[ENDED_EXIT][0];
 }
 
-/* With a number, only hostile programs run, which differ with it. */
+/* Returns how many rounds a process counts while some neighbors do something. */
+static uint32_t rounds_next_to(enum neighbor what, uint32_t count) {
+    uint32_t neighbors[MOST_NEIGHBORS], rounds = 0;
+    for (uint32_t i = 0; i < count; i++) {
+        neighbors[i] = begin(PROGRAM_NEIGHBOR, 400, what);
+    }
+    uint32_t counting = begin(PROGRAM_NEIGHBOR, 40, COUNTS_ROUNDS);
+    for (uint32_t ends = 0; ends <= count; ends++) {
+        struct answer end = wait();
+        rounds = end.first == counting ? end.third : rounds;
+        for (uint32_t i = 0; end.first == counting && i < count; i++) {
+            ask(CALL_END_CHILD, 0, neighbors[i], 0, 0);
+        }
+    }
+    return rounds;
+}
+
+/* The kernel measures the turns. */
+static uint32_t run_neighbors(void) {
+    tell("rounds next to two that compute: #", rounds_next_to(COMPUTES, 2));
+    tell("rounds next to two that make calls: #", rounds_next_to(MAKES_CALLS, 2));
+    tell("rounds next to one that changes pages: #", rounds_next_to(CHANGES_PAGES, 1));
+    return 0;
+}
+
+/* Returns how much was wrong in a trial of some programs only. */
+static uint32_t run_trial(uint32_t trial) {
+    return trial == TRIAL_OF_TURNS ? run_neighbors() : run_hostiles(trial);
+}
+
 uint32_t program(uint32_t number) {
-    if (number) {
-        ask(CALL_SHUT_DOWN, 0, run_hostiles(number), 0, 0);
+    if (number != TRIAL_OF_ALL) {
+        ask(CALL_SHUT_DOWN, 0, run_trial(number), 0, 0);
     }
     tell_reply("a spawn with more than there is: ", ask(TOWER_SPAWN, 0, 100000, 0, 0));
     tell_reply("no child is left to wait for: ", wait());
