@@ -50,6 +50,7 @@ enum program {
     PROGRAM_FAMILY,
     PROGRAM_HOSTILE,
     PROGRAM_NEIGHBOR,
+    PROGRAM_WIDE,
     PROGRAMS
 };
 

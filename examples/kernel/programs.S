@@ -23,6 +23,7 @@
     program family
     program hostile
     program neighbor
+    program wide
     .balign 8
     .globl programs
 programs:                               /* in the order of calls.h */
@@ -40,4 +41,5 @@ programs:                               /* in the order of calls.h */
     entry family
     entry hostile
     entry neighbor
+    entry wide
     .section .note.GNU-stack, "", @progbits

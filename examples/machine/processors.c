@@ -217,8 +217,7 @@ _Noreturn void begin_other(uint32_t number) {
     }
 }
 
-/* Returns how many processors the machine has, as QEMU reports it. */
-static uint32_t processors_there(void) {
+uint32_t processors_there(void) {
     enum { SELECTOR = 0x510, DATA = 0x511, PROCESSORS = 5 };
     out16(SELECTOR, PROCESSORS);
     uint32_t low = in8(DATA);

@@ -14,6 +14,8 @@ void begin_first_processor(void);
 /* Starts all others, by INIT and SIPI. Each does `first`, and then waits for work. */
 void start_processors(void (*first)(void));
 uint32_t processors(void);
+/* How many the machine has, as QEMU reports it: before they start, too. */
+uint32_t processors_there(void);
 uint32_t this_processor(void);
 /* Runs `work` on each processor, this one among them. Returns when all have finished. */
 void on_all(void (*work)(void));

@@ -11,7 +11,7 @@ static const struct {
     enum how how;
     uint32_t number, count;
 } expected[] = {
-    {ENDED_EXIT, 0, 13},   {ENDED_FAULT, 4, 5},      {ENDED_FAULT, 6, 4},      {ENDED_FAULT, 7, 3},
+    {ENDED_EXIT, 0, 14},   {ENDED_FAULT, 4, 5},      {ENDED_FAULT, 6, 4},      {ENDED_FAULT, 7, 3},
     {ENDED_REFUSED, TOWER_OVER_QUOTA, 1}, {ENDED_EXCEPTION, 6, 1}, {ENDED_EXCEPTION, 13, 5},
     {ENDED_EXCEPTION, 14, 2},
 };
@@ -55,6 +55,7 @@ static uint32_t begin_all(void) {
     count += begin(PROGRAM_FAMILY, 80, 4) != 0;
     count += begin(PROGRAM_GREEDY, 9, 3) != 0;
     count += begin(PROGRAM_PARENT, 40, 5) != 0;
+    count += begin(PROGRAM_WIDE, 30, 6) != 0;
     for (uint32_t i = 0; i < SPINNERS; i++) {
         count += begin(PROGRAM_SPINNER, 10, 2 + i) != 0;
     }
@@ -93,8 +94,10 @@ static uint32_t rounds_next_to(enum neighbor what, uint32_t count) {
     return rounds;
 }
 
-/* The kernel measures the turns. */
+/* The kernel measures the turns, and counts whose tables are forgotten. */
 static uint32_t run_neighbors(void) {
+    tell("rounds next to one that computes: #", rounds_next_to(COMPUTES, 1));
+    tell("rounds next to one that walks more regions than there are tables: #", rounds_next_to(WALKS_REGIONS, 1));
     tell("rounds next to two that compute: #", rounds_next_to(COMPUTES, 2));
     tell("rounds next to two that make calls: #", rounds_next_to(MAKES_CALLS, 2));
     tell("rounds next to one that changes pages: #", rounds_next_to(CHANGES_PAGES, 1));
