@@ -58,7 +58,8 @@ static void check_all(void) {
 static void check_turns(void) {
     enum { LONGEST_STOP = 3000, LONGEST_TURN = 60000, LONGEST_WAIT = 150000 };
     need(root_counts().longest < LONGEST_STOP, "a processor that begins a slice stops first, if it is to stop");
-    need(pool_counts().own > 0 && pool_counts().others == 0, "a process that walks many regions takes no tables from others");
+    need(pool_counts().own > 0 && pool_counts().others == 0,
+         "a process that walks many regions takes no tables from others");
     need(turns_given().longest < LONGEST_TURN, "each turn ends with its slice");
     need(turns_given().longest_wait < LONGEST_WAIT, "no thread waits for more than the turns before its own");
 }

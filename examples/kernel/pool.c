@@ -28,14 +28,14 @@ void forget_process(uint32_t pid) {
     shadow_forget_process(pid);
 }
 
-/* Whether a process has more frames, once it gets these, than the instructions that it runs can need. One that waits for
- * its turn needs none. */
+/* Whether a process has more frames, once it gets these, than the instructions that it runs can need. One that waits
+ * for its turn needs none. */
 static bool has_more(uint32_t pid, uint32_t gets) {
     return shadow_frames(pid) + gets > SHADOW_LEAST * running_threads(pid);
 }
 
-/* The process that has taken most, of those that have more than they need; among equals the process itself is last. If no
- * other has more than it needs, the process itself has: the pool has what all need. */
+/* The process that has taken most, of those that have more than they need; among equals the process itself is last.
+ * If no other has more than it needs, the process itself has: the pool has what all need. */
 static uint32_t who_has_most(uint32_t pid) {
     uint32_t most = pid, frames = has_more(pid, 1) ? shadow_frames(pid) : 0;
     for (uint32_t other = 0; other < TOWER_PROCESSES; other++) {

@@ -10,10 +10,10 @@
 #include "tower.h"
 
 /* How many frames of the pool one instruction can need, as it completes only if it finds all of its pages. It has its
- * code and two operands (PUSH and CALL of a word in memory, MOVS, ENTER), and each may lie across the end of a region of 2
- * MiB: six regions, with a table each. ENTER stores to a page below its operand, too: that is in the same two regions.
- * Above these are the root, one table, and a table for each GiB of the user range. No process has an instruction with
- * more operands: those that gather need a register state that the kernel doesn't turn on. */
+ * code and two operands (PUSH and CALL of a word in memory, MOVS, ENTER), and each may lie across the end of a region
+ * of 2 MiB: six regions, with a table each. ENTER stores to a page below its operand, too: that is in the same two
+ * regions. Above these are the root, one table, and a table for each GiB of the user range. No process has an
+ * instruction with more operands: those that gather need a register state that the kernel doesn't turn on. */
 enum {
     SHADOW_REGIONS = 2 * 3,
     SHADOW_GIBS = (TOWER_LAST_PAGE >> 18) - (TOWER_FIRST_PAGE >> 18) + 1,

@@ -46,7 +46,7 @@
 #define WRONG_FULL 0 /* tables are freed, as the pool is full, while other processors are in them */
 #endif
 #ifndef WRONG_MOST
-#define WRONG_MOST 0 /* all processes lose their tables when the pool is full, and not only the one that has taken most */
+#define WRONG_MOST 0 /* all processes lose their tables when the pool is full, and not the one that has taken most */
 #endif
 #ifndef WRONG_LEAST
 #define WRONG_LEAST 0 /* the pool has less than one instruction on each of four processors can need */

@@ -153,9 +153,9 @@ static void pass_with_interrupts(uint64_t ticks) {
     __asm__ volatile("cli" : : : "memory");
 }
 
-/* An interrupt of an earlier countdown is taken once the new one counts, so that none is left. The host may pause this
- * processor meanwhile, and then the new one's only interrupt is taken, too: a count of 0 shows that. A stop that is taken
- * here comes with no other interrupt, and is answered here. */
+/* An interrupt of an earlier countdown is taken once the new one counts, so that none is left. The host may pause
+ * this processor meanwhile, and then the new one's only interrupt is taken, too: a count of 0 shows that. A stop that
+ * is taken here comes with no other interrupt, and is answered here. */
 void start_slice(void) {
     do {
         *apic(APIC_FIRST) = SLICE_COUNT;

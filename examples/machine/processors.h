@@ -29,8 +29,8 @@ void interrupted(uint32_t vector);
 
 /* The processor's ticks since it began. */
 uint64_t moment(void);
-/* The timer interrupts 10 ms from now, and not before. The interrupt ends a guest's run, also if this processor waits or
- * rests meanwhile. A stop that came is answered. */
+/* The timer interrupts 10 ms from now, and not before. The interrupt ends a guest's run, also if this processor waits
+ * or rests meanwhile. A stop that came is answered. */
 void start_slice(void);
 /* Returns whether the slice is over. */
 bool is_slice_over(void);

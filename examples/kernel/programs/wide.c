@@ -1,6 +1,6 @@
-/* Makes an instruction that needs as many shadow tables as one can: PUSH of a word in memory, with its code, its operand
- * and its stack each across the end of a region of 2 MiB, in all GiBs of the user range. It completes only if all six
- * pages have entries. */
+/* Makes an instruction that needs as many shadow tables as one can: PUSH of a word in memory, with its code, its
+ * operand and its stack each across the end of a region of 2 MiB, in all GiBs of the user range. It completes only if
+ * all six pages have entries. */
 #include "program.h"
 
 enum { TIMES = 20 };
