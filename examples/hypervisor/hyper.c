@@ -364,7 +364,6 @@ static uint64_t run(struct guest *guest, uint32_t identifier, uint32_t directory
     uint64_t exit;
     do {
         start_slice();
-        answer_stop();
         need(cache_is_given(this_processor(), identifier, directory), "all that may be kept is what the walks give");
         exit = svm_run(&guest->cpu, identifier);
         cache_keep_accessed(this_processor(), identifier, directory);

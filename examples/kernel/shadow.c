@@ -14,7 +14,7 @@ typedef uint64_t table[ENTRIES];
 static table *pool;
 static uint64_t pool_at, block_at; /* their physical addresses */
 static uint32_t first_free;        /* the free frames of the pool are a list, which NONE ends */
-static uint32_t roots[TOWER_PROCESSES];
+static uint32_t roots[TOWER_PROCESSES], frames_of[TOWER_PROCESSES];
 static uint64_t kernel_entries[HALF];
 
 /* A free frame has the next one's number in its first entry, twice: no entry of it is ever present. */
@@ -24,12 +24,13 @@ static void put_back(uint32_t frame) {
     first_free = frame;
 }
 
-/* Takes a free frame, with no entry present. Returns NONE if there is none. */
-static uint32_t take(void) {
+/* Takes a free frame for a process, with no entry present. Returns NONE if there is none. */
+static uint32_t take(uint32_t pid) {
     uint32_t frame = first_free;
     if (frame != NONE) {
         first_free = (uint32_t)(pool[frame][0] >> 1);
         pool[frame][0] = 0;
+        frames_of[pid]++;
     }
     return frame;
 }
@@ -60,6 +61,10 @@ uint64_t shadow_root(uint32_t pid) {
     return roots[pid] == NONE ? 0 : physical(roots[pid]);
 }
 
+uint32_t shadow_frames(uint32_t pid) {
+    return frames_of[pid];
+}
+
 /* ---- The way to an entry */
 
 /* The index of a page in a table of a level: the last tables have level 0. */
@@ -70,7 +75,7 @@ static uint32_t index_in(uint32_t level, uint32_t page) {
 /* The root of a process, if need be a new one; null if there is none. */
 static uint64_t *root_of(uint32_t pid, int makes) {
     if (roots[pid] == NONE && makes) {
-        roots[pid] = take();
+        roots[pid] = take(pid);
         if (roots[pid] != NONE) {
             memmove(pool[roots[pid]] + HALF, kernel_entries, sizeof kernel_entries);
         }
@@ -78,10 +83,10 @@ static uint64_t *root_of(uint32_t pid, int makes) {
     return roots[pid] == NONE ? 0 : pool[roots[pid]];
 }
 
-/* The table to which an entry leads, if need be a new one; null if there is none. */
-static uint64_t *table_at(uint64_t *entry, int makes) {
+/* The table to which an entry of a process leads, if need be a new one; null if there is none. */
+static uint64_t *table_at(uint32_t pid, uint64_t *entry, int makes) {
     if (!(*entry & PRESENT)) {
-        uint32_t frame = makes ? take() : NONE;
+        uint32_t frame = makes ? take(pid) : NONE;
         if (frame == NONE) {
             return 0;
         }
@@ -94,7 +99,7 @@ static uint64_t *table_at(uint64_t *entry, int makes) {
 static uint64_t *entry_of(uint32_t pid, uint32_t page, int makes) {
     uint64_t *at = root_of(pid, makes);
     for (uint32_t level = ROOT_LEVEL; level && at; level--) {
-        at = table_at(&at[index_in(level, page)], makes);
+        at = table_at(pid, &at[index_in(level, page)], makes);
     }
     return at ? &at[index_in(0, page)] : 0;
 }
@@ -132,11 +137,6 @@ void shadow_forget_process(uint32_t pid) {
     if (roots[pid] != NONE) {
         free_table(roots[pid], ROOT_LEVEL);
         roots[pid] = NONE;
-    }
-}
-
-void shadow_forget_all(void) {
-    for (uint32_t pid = 0; pid < TOWER_PROCESSES; pid++) {
-        shadow_forget_process(pid);
+        frames_of[pid] = 0;
     }
 }

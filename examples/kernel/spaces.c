@@ -1,15 +1,11 @@
 #include "spaces.h"
 
 #include "audit.h"
-#include "place.h"
+#include "pool.h"
 #include "roots.h"
 #include "shadow.h"
 #include "wrong.h"
 
-/* The pool has fewer frames than all processes of the trial would fill: it becomes full at times. */
-enum { POOL_FRAMES = 96 };
-
-static _Alignas(FRAME) uint8_t pool[POOL_FRAMES][FRAME];
 static struct spaces_counts counts;
 
 struct spaces_counts spaces_counts(void) {
@@ -17,11 +13,7 @@ struct spaces_counts spaces_counts(void) {
 }
 
 uint32_t forgets(void) {
-    return counts.pages + counts.processes + counts.all;
-}
-
-void open_spaces(void) {
-    shadow_init(pool, physical_of(pool), POOL_FRAMES, core_physical(), open_roots());
+    return counts.pages + counts.processes + root_counts().left;
 }
 
 /* ---- What an event ended */
@@ -38,7 +30,7 @@ static void forget(struct tower_ended ended) {
         counts.pages++;
         break;
     case TOWER_ENDS_SPACE:
-        shadow_forget_process(ended.pid);
+        forget_process(ended.pid);
         counts.processes++;
     }
 }
@@ -168,11 +160,8 @@ struct tower_reply load_bytes(uint32_t pid, uint32_t address, const uint8_t *byt
 void fill_page(uint32_t pid, uint32_t page, bool write) {
     struct tower_walk walk;
     need(tower_walk(&core, pid, page << 12, write, &walk) && walk.kind == TOWER_WALK_FRAME, "the walk gives a frame");
-    if (shadow_fill(pid, page, walk.frame, write)) { /* no frame of the pool is free: all is forgotten */
-        leave_everywhere(NOBODY);
-        shadow_forget_all();
-        counts.all++;
-        need(!shadow_fill(pid, page, walk.frame, write), "the empty tables have space for a page");
+    while (shadow_fill(pid, page, walk.frame, write)) {
+        make_space(pid);
     }
     counts.fills++;
     need_root(pid);
