@@ -234,9 +234,12 @@ refuse_unread() {
     done
 }
 
-# Says that a script is read from the terminal, and refuses one from a folder.
+# Says how a script is read, if it is a terminal or named as an argument, and refuses one from a folder.
 look_at_input() {
     case " $* " in *" -h "* | *" --help "*) return ;; esac
+    for word do
+        [ "$1" = resume ] || [ ! -f "$word" ] || say "a script is read from standard input: './$name $1 < $word'"
+    done
     [ ! -t 0 ] || say "reading the script from the terminal; Ctrl-D at the start of a line ends it"
     [ ! -d /dev/stdin ] || {
         echo "$name: the script can't be read: standard input is a folder" >&2
