@@ -238,7 +238,7 @@ refuse_unread() {
 look_at_input() {
     case " $* " in *" -h "* | *" --help "*) return ;; esac
     for word do
-        [ "$1" = resume ] || [ ! -f "$word" ] || say "a script is read from standard input: './$name $1 < $word'"
+        [ "$1" = resume ] || [ ! -f "$word" ] || say "a script is read from standard input, as by '< $word'"
     done
     [ ! -t 0 ] || say "reading the script from the terminal; Ctrl-D at the start of a line ends it"
     [ ! -d /dev/stdin ] || {
