@@ -1,4 +1,4 @@
-#!/usr/bin/env python3
+#!/usr/bin/env -S python3 -B
 """The scripts that bench/run runs: three of 16 MiB, and short ones in which one thing grows.
 
 `bench/scripts.py FOLDER` writes the three into a folder. Their language is that of docs/MACHINE.md.
@@ -8,10 +8,6 @@ import pathlib
 import sys
 from dataclasses import dataclass
 
-# The environment of counted runs: a frame is zeroed and copied by vectors, as valgrind counts each byte of `rep stosb`.
-BY_VECTORS = {
-    "GLIBC_TUNABLES": "glibc.cpu.x86_rep_stosb_threshold=2147483647:glibc.cpu.x86_rep_movsb_threshold=2147483647"
-}
 LIMIT = 16_777_216
 FIRST_PAGE = 0x40000
 REGION = 1024
@@ -190,6 +186,26 @@ def charges(processes):
     return Round(MOST_FRAMES, family(processes), "".join(call(1 + i, "quota") for i in range(processes)), processes)
 
 
+def forked(pages, lines):
+    """A process of that many pages, which these lines make, copies itself, and the copy exits."""
+    cost = 1 + -(-pages // REGION) + pages
+    return Round(MOST_FRAMES, "".join(lines), call(0, f"fork {cost}") + call(1, "exit"), 1)
+
+
+def forked_lazy(pages):
+    return forked(pages, [call(0, f"map {FIRST_PAGE + i:x} rw") for i in range(pages)])
+
+
+def forked_real(pages):
+    return forked(pages, [store(0, FIRST_PAGE + i, i) for i in range(pages)])
+
+
+def accessed(words):
+    """An access to a byte of the first of two pages: at a multiple of four, elsewhere, or over both pages."""
+    first = store(0, FIRST_PAGE, 1) + store(0, FIRST_PAGE + 1, 1)
+    return lambda byte: Round(MOST_FRAMES, first, call(0, words % (FIRST_PAGE * 4096 + byte)), 1)
+
+
 # What is repeated, what grows, and at which sizes it is measured.
 GROWTH = (
     ("map, unmap", "frames, all but one in use", mapped, (16, 256, 1024, 4096)),
@@ -205,6 +221,10 @@ GROWTH = (
     ("protect, protect", "other pages of the process", protected, (0, 32, 1023, 4000)),
     ("offer, accept, unmap", "holders of the page", accepted, (1, 8, 32, 63)),
     ("quota", "processes in turn", charges, (1, 8, 32, 63)),
+    ("fork, exit", "lazy pages", forked_lazy, (1, 64, 1000, 2000)),
+    ("fork, exit", "pages with frames", forked_real, (1, 64, 1000, 2000)),
+    ("load", "its first byte in the page", accessed("load %x 4"), (0x10, 0x11, 0xFFC, 0xFFE)),
+    ("store", "its first byte in the page", accessed("store %x 4 12345678"), (0x10, 0x11, 0xFFC, 0xFFE)),
 )
 
 

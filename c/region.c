@@ -102,6 +102,11 @@ static bool overlaps(uintptr_t begins, uintptr_t ends) {
     return false;
 }
 
+bool tower_region_meets(const void *bytes, size_t count, const void *block, size_t size) {
+    uintptr_t first = (uintptr_t)bytes, second = (uintptr_t)block;
+    return first < second ? second - first < count : first - second < size;
+}
+
 bool tower_region_begin(uint32_t frames, size_t least, void *block, size_t size) {
     uintptr_t begins = (uintptr_t)block;
     if (!block || begins % TOWER_FRAME_BYTES || size % TOWER_FRAME_BYTES || size < least
@@ -134,7 +139,8 @@ uint32_t tower_boot_over(uint32_t frames, struct tower *tower, void *block, size
     if (frames < TOWER_MIN_FRAMES || frames > TOWER_WIDE_FRAMES) {
         return TOWER_BAD_SIZE;
     }
-    if (!tower_region_begin(frames, TOWER_BLOCK_BYTES(frames), block, size)) {
+    if (tower_region_meets(tower, sizeof *tower, block, size)
+        || !tower_region_begin(frames, TOWER_BLOCK_BYTES(frames), block, size)) {
         return TOWER_BAD_BLOCK;
     }
     uint32_t status = tower_boot_wide(frames, tower);

@@ -8,6 +8,9 @@
  * beginning. Returns false for a block of fewer bytes than `least`, or one that TOWER_BAD_BLOCK names. */
 bool tower_region_begin(uint32_t frames, size_t least, void *block, size_t size);
 
+/* Whether bytes share one with a block. */
+bool tower_region_meets(const void *bytes, size_t count, const void *block, size_t size);
+
 /* Ends this. If no core was made, the block is the caller's again. */
 void tower_region_end(bool has_core);
 

@@ -10,18 +10,14 @@ static uint32_t frames_of(size_t length) {
     return is_image ? (uint32_t)frames : 0;
 }
 
-static bool meet(const uint8_t *bytes, size_t count, const void *block, size_t size) {
-    uintptr_t first = (uintptr_t)bytes, second = (uintptr_t)block;
-    return first < second ? second - first < count : first - second < size;
-}
-
 uint32_t tower_restore_over(const uint8_t *bytes, size_t byte_count, struct tower *tower, struct tower_verdict *verdict,
                             void *block, size_t size) {
     uint32_t frames = frames_of(byte_count);
     if (tower->live || !frames) {
         return tower_restore(bytes, byte_count, tower, verdict); /* it requests no memory */
     }
-    if (meet(bytes, byte_count, block, size)
+    if (tower_region_meets(bytes, byte_count, block, size) || tower_region_meets(tower, sizeof *tower, block, size)
+        || tower_region_meets(verdict, sizeof *verdict, block, size)
         || !tower_region_begin(frames, TOWER_RESTORE_BLOCK_BYTES(frames), block, size)) {
         return TOWER_RESTORE_BAD_BLOCK;
     }

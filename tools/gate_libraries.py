@@ -1,27 +1,32 @@
-"""The libraries that `rt ci` has just proved, for the archives and checks that come after it.
+"""What this repository takes from the kit's own modules: which libraries are proved, and the stamps that say so.
 
 `rt ci` leaves each crate's library in crates/NAME/out/rlib without a stamp. `rt lib` builds a library with no stamp
 again, with its proofs. One run of `rt ci` from scratch builds all of them over one another, so that they fit together.
 Then a stamp on each says what it was built from, as `rt lib` writes it. A changed source still makes the stamp stale.
 """
+import importlib.machinery
+import importlib.util
 import os
 import pathlib
 import shutil
+import sys
 
-from modules import module_of
-
-ROOT = pathlib.Path(__file__).resolve().parent.parent
-
-
-def any_built():
-    """Whether a crate already has a library. After the gate, `rt ci` puts that one back in place of its own."""
-    return any((ROOT / "crates").glob("*/out/rlib"))
+from sources import CRATES, ROOT
 
 
 def kit():
     """The module of the kit that knows a library's stamp."""
     file = pathlib.Path(os.path.realpath(shutil.which("rt"))).parent / "rtlib.py"
-    return module_of("rtlib", file)
+    loader = importlib.machinery.SourceFileLoader("rtlib", str(file))
+    module = importlib.util.module_from_spec(importlib.util.spec_from_loader("rtlib", loader))
+    sys.modules["rtlib"] = module
+    loader.exec_module(module)
+    return module
+
+
+def any_built():
+    """Whether a crate already has a library. After the gate, `rt ci` puts that one back in place of its own."""
+    return any(CRATES.glob("*/out/rlib"))
 
 
 def stamp():

@@ -1,6 +1,6 @@
-# The functions that ./tower and ./memory_map share. $name is the name of the program and of its crate, $root the
-# repository's folder. The same functions serve what is made of the other crates in prebuilt/: $made is its name, $others
-# what the page of scripts is made of besides its crate.
+# What ./tower and ./memory_map do. $name is the name of the program and of its crate, $root the repository's folder. The
+# same functions serve what is made of the other crates in prebuilt/: $made is its name, $others what the page of scripts
+# is made of besides its crate.
 made=$name others=
 case $name in
 tower_c | tower_images) made=lib$name.a ;;
@@ -49,6 +49,12 @@ is_proved() {
     [ -x "$program" ] && is_of "$(sources)" "$program"
 }
 
+# Returns whether a program is the one that was noted with its sources, whichever these are, and runs here.
+is_older() {
+    [ -x "$1" ] && [ -e "$1.sources" ] && [ "$(sums_with "" "$1" | tail -n 1)" = "$(tail -n 1 "$1.sources")" ] &&
+        runs_here "$1"
+}
+
 # Returns whether a program runs on this machine: without arguments it writes its help, and ends with 2.
 runs_here() {
     ended=0
@@ -62,19 +68,44 @@ run_proved() {
     today=$(sources)
     if [ -x "$program" ] && is_of "$today" "$program"; then
         say "this is the proved program"
-        exec "$program" "$@"
+        run_it "$program" "$@"
     fi
     if is_of "$today" "$prebuilt" && runs_here "$prebuilt"; then
         say "this is the proved program, from prebuilt/"
-        exec "$prebuilt" "$@"
+        run_it "$prebuilt" "$@"
     fi
+}
+
+# Runs a program in place of this script. If it reads a script from a file, this script stays, to show a malformed line.
+run_it() {
+    it=$1
+    shift
+    { reads_script "$@" && [ -f /dev/stdin ]; } || exec "$it" "$@"
+    from=$(sed -n 's/^pos:[^0-9]*//p' /proc/self/fdinfo/0 2>/dev/null || true)
+    exec 3>&1
+    ended=0
+    errors=$("$it" "$@" 2>&1 >&3 3>&- || { ended=$?; printf /; exit "$ended"; }; printf /) || ended=$?
+    printf %s "${errors%/}" >&2
+    tail -c "+$((${from:-0} + 1))" /dev/stdin 2>/dev/null | show_malformed "${errors%/}"
+    exit "$ended"
+}
+
+# If the program's last line names a malformed line, shows that line of standard input, and which word is wrong.
+show_malformed() {
+    nth=$(printf '%s\n' "$1" | sed -n "s/^$name: line \([0-9]*\) is malformed\$/\1/p")
+    [ -z "$nth" ] || sed -n "$nth{p;q}" | LC_ALL=C awk -v name="$name" -f "$root/tools/malformed.awk" >&2
+}
+
+# Prints the first source that isn't what a program was built from.
+changed_source() {
+    sums_with "$today" "$1" | diff "$1.sources" - | sed -n '/^[<>]/{s/^..[0-9a-f]*  //p;q;}'
 }
 
 # Prints why no proved program is run, or nothing if none is there.
 why_unproved() {
     for built in "$program" "$prebuilt"; do
         [ -e "$built.sources" ] && [ -e "$built" ] || continue
-        changed=$(sums_with "$today" "$built" | diff "$built.sources" - | sed -n '/^[<>]/{s/^..[0-9a-f]*  //p;q;}')
+        changed=$(changed_source "$built")
         if [ -n "$changed" ]; then
             echo "$changed has changed since the program was proved"
         else
@@ -115,9 +146,27 @@ not_proved() {
     refuse "$1 is not proved; all that the prover said is in crates/$name/out/prove.log"
 }
 
+# Has the program of prebuilt/ refuse wrong arguments, though it is of other sources: a build takes a minute.
+refuse_arguments() {
+    ended=0
+    said=$(timeout 1 "$prebuilt" "$@" 2>&1 >/dev/null </dev/null) || ended=$?
+    case $ended:$said in 2:error:* | 2:*Usage:*) printf '%s\n' "$said" >&2; exit 2 ;; esac
+}
+
+# Runs the program of prebuilt/ though it is of other sources, and says so even if TOWER_QUIET is set.
+run_older() {
+    why="$(changed_source "$prebuilt") has changed, and no 'rt' is on PATH"
+    echo "$name: this is the proved program of older sources, from prebuilt/: $why" >&2
+    run_it "$prebuilt" "$@"
+}
+
 # Makes a folder for what an unproved run reads and writes. The run's end removes it.
 begin_unproved() {
     why=$(why_unproved)
+    if is_older "$prebuilt"; then
+        refuse_arguments "$@"
+        command -v rt >/dev/null || run_older "$@"
+    fi
     command -v rt >/dev/null ||
         refuse "there is no proved program${why:+, since $why}, and no 'rt' is on PATH (README.md says what it is)"
     why=${why:+since $why}
@@ -143,28 +192,90 @@ run_unproved() {
     child=$!
     status=0
     wait "$child" || status=$?
-    [ "$status" -ne 6 ] || refuse "an unproved run $limits"
+    [ "$status" -ne 6 ] || refuse "an unproved run gives at most 1 MiB of output, in 600 seconds; \
+'./$name prove' makes the program without these limits"
     if ! cat "$work/output" 2>/dev/null; then
         echo "$name: write failed" >&2
         exit 1
     fi
     grep -a -v -e "^checked: ended " -e "^run=" -e "^races: not looked for" "$work/messages" |
-        sed "s,^Usage: program,Usage: $name," >&2 || true
+        sed "s,^Usage: program,Usage: $name," | tee "$work/errors" >&2 || true
+    show_malformed "$(tail -n 1 "$work/errors")" <"$work/script"
     exit "$status"
 }
-limits="gives at most 1 MiB of output, in 600 seconds; './$name prove' makes the program without these limits"
 
-# Ends with status 1 if a file can't be read, with a line that names it. The program's own line names no file.
+# Returns whether the arguments have the program read a script.
+reads_script() {
+    case $name:${1-}:" $* " in
+    tower:run:* | tower:image:* | tower:resume:* | memory_map:*" --film "*) ;;
+    *) return 1 ;;
+    esac
+}
+
+# Returns whether the arguments, behind the command of `tower`, are options and files.
+names_files() {
+    case $name:${1-}:" $* " in
+    tower:check:* | tower:resume:*) ;;
+    tower:* | memory_map:*" --film "*) return 1 ;;
+    esac
+}
+
+# Ends with status 1 if a file that is named can't be read, with a line that names it. The program's line names none.
 refuse_unread() {
-    [ -r "$1" ] && [ ! -d "$1" ] || {
-        echo "$name: the file $1 can't be read" >&2
+    [ "$name" != tower ] || shift
+    for word do
+        case $word in
+        -?* | '') ;;
+        *) [ -r "$word" ] && [ ! -d "$word" ] || {
+            printf "%s: the file %s can't be read\n" "$name" "$(printf %s "$word" | tr '\n\r\t' '???')" >&2
+            exit 1
+        } ;;
+        esac
+    done
+}
+
+# Says how a script is read, if it is a terminal or named as an argument, and refuses one from a folder.
+look_at_input() {
+    case " $* " in *" -h "* | *" --help "*) return ;; esac
+    for word do
+        [ "$1" = resume ] || [ ! -f "$word" ] || say "a script is read from standard input, as by '< $word'"
+    done
+    [ ! -t 0 ] || say "reading the script from the terminal; Ctrl-D at the start of a line ends it"
+    [ ! -d /dev/stdin ] || {
+        echo "$name: the script can't be read: standard input is a folder" >&2
         exit 1
     }
 }
 
-# Answers a request for help, or arguments that begin with no command, with a text of tools/help. It writes to
-# standard error and ends with status 2, as the program does.
-tell() {
-    cat "$root/tools/help/$1" >&2
-    exit 2
+# An unproved run reads no terminal, no slow pipe and no file except those that it gets. The whole script is therefore
+# read first, and each file is copied, up to one byte more than the program takes.
+unproved() {
+    begin_unproved "$@"
+    if reads_script "$@"; then head -c 16777217 >"$work/script"; fi
+    files=
+    if names_files "$@"; then files=yes; fi
+    nth=0
+    for word do
+        shift
+        if [ -n "$files" ] && [ -f "$word" ] && [ "$name$nth" != tower0 ]; then
+            head -c 16844301 <"$word" >"$work/image$nth"
+            word=$work/image$nth
+        fi
+        set -- "$@" "$word"
+        nth=$((nth + 1))
+    done
+    run_unproved "$@"
+}
+
+# Runs the program with these arguments: a proved one, or else its sources.
+front() {
+    case $#:${1-} in
+    1:prove) prove; exit ;;
+    *:prove) refuse "prove takes no words" ;;
+    1:--version | 1:-V) echo "$name $(sed -n 's/^VERSION = //p' "$root/c/Makefile")"; exit ;;
+    esac
+    if reads_script "$@"; then look_at_input "$@"; fi
+    if names_files "$@"; then refuse_unread "$@"; fi
+    run_proved "$@"
+    unproved "$@"
 }

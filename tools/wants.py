@@ -21,10 +21,7 @@ HINTS = {
 
 
 # Whether what this repository built is of its current sources, by its kind: the wrapper's question, and make's.
-CURRENT = {
-    "": "sh -c 'root=$PWD name=$0; . tools/program.sh; is_proved' {name}",
-    ".a": "make -s -q -C c ../{path}",
-}
+CURRENT = {"": "sh -c 'root=$PWD name=$0; . tools/program.sh; is_proved' {name}", ".a": "make -s -q -C c ../{path}"}
 
 
 def is_stale(path):

@@ -1,20 +1,19 @@
-"""A workspace in another folder: a program as one more crate over copies of this repository's crates."""
-import pathlib
+"""A workspace in another folder: copies of this repository's crates, and perhaps a program as one more crate."""
 import shutil
 
-ROOT = pathlib.Path(__file__).resolve().parent.parent
+from sources import CRATES, ROOT, below, crates
 
 
-def crates_below(listed, line):
-    """The crates of `listed`, the text of crates.txt, that a crate with this line would depend on."""
-    below = dict(it.split(":") for it in listed.splitlines() if it and not it.startswith("#"))
-    found, left = set(), line.split(":")[1].split()
-    while left:
-        crate = left.pop()
-        if crate in below and crate not in found:
-            found.add(crate)
-            left += below[crate].split()
-    return found
+def copied(folder, names, parts=("",)):
+    """Puts these parts of these crates into a folder, with their lines of crates.txt and what else `rt` reads."""
+    for crate in names:
+        for part in parts:
+            if (CRATES / crate / part).is_dir():
+                shutil.copytree(CRATES / crate / part, folder / "crates" / crate / part, symlinks=True)
+    lines = (ROOT / "crates.txt").read_text(encoding="utf-8").splitlines()
+    kept = [it for it in lines if it and it[0] != "#" and it.partition(":")[0].split()[0] in names]
+    (folder / "crates.txt").write_text("".join(f"{it}\n" for it in kept), encoding="utf-8")
+    shutil.copy(ROOT / "HANDLES", folder / "HANDLES")
 
 
 def workspace(folder, line, source, parts):
@@ -23,15 +22,13 @@ def workspace(folder, line, source, parts):
     `line` is the program's line for crates.txt, which ends with a line feed. `parts` are its files in `source`, and
     where each is in the program's crate. Returns that crate's folder.
     """
-    listed = (ROOT / "crates.txt").read_text()
-    crates = crates_below(listed, line)
-    for crate in crates:
-        shutil.copytree(ROOT / "crates" / crate, folder / "crates" / crate, symlinks=True)
-    program = folder / "crates" / line.split(":")[0]
+    name, _, used = line.partition(":")
+    own = [it for it in used.split() if it in crates()]
+    copied(folder, [it for it in crates() if any(it in below(crate) for crate in own)])
+    program = folder / "crates" / name
     for kept, place in parts.items():
         (program / place).parent.mkdir(parents=True)
         shutil.copy(source / kept, program / place)
-    shutil.copy(ROOT / "HANDLES", folder / "HANDLES")
-    kept = [it for it in listed.splitlines() if it.split(":")[0] in crates]
-    (folder / "crates.txt").write_text("\n".join(kept) + "\n" + line)
+    with open(folder / "crates.txt", "a", encoding="utf-8") as listed:
+        listed.write(line)
     return program

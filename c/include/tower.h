@@ -4,7 +4,8 @@
  *    TOWER_NONE) once, and then pass it only to these functions. Write none of its fields, and make no
  *    copy of it, since two copies would own one core.
  *  - One call at a time for each handle. It may come from any thread or CPU, under a lock of the
- *    caller's own. Calls with different handles need no common lock.
+ *    caller's own. Calls with different handles need no common lock. Over blocks of tower_region.h, calls that allocate
+ *    or free do: they come one at a time, whatever their handles are.
  *  - Each pointer is to memory that is valid, aligned and, unless it is const, writable. No other argument
  *    of the same call shares that memory. A slice is a pointer and its length. If the length is 0, the
  *    pointer may be NULL. Each `bool` is 0 or 1.
@@ -144,72 +145,88 @@ static inline uint8_t tower_byte(uint32_t number) {
     return number < 255 ? (uint8_t)number : (uint8_t)255;
 }
 
+/* The process if an address or a page has at most 32 bits; otherwise 255, which is no process. */
+static inline uint32_t tower_pid_at(uint32_t pid, uint64_t place) {
+    return place >> 32 ? 255 : pid;
+}
+
 /* An event of these numbers, from CPU 0. */
-static inline struct tower_event tower_event_of(uint32_t pid, uint32_t call, uint32_t flag, uint32_t first,
-                                                uint32_t second, uint32_t third) {
+TOWER_NODISCARD static inline struct tower_event tower_event_of(uint32_t pid, uint32_t call, uint32_t flag,
+                                                                uint32_t first, uint32_t second, uint32_t third) {
     struct tower_event event = {0, tower_byte(pid), tower_byte(call), tower_byte(flag), first, second, third};
     return event;
 }
 
 /* The same event from another CPU. The CPU has no effect; a log may want it. */
-static inline struct tower_event tower_on_cpu(uint8_t cpu, struct tower_event event) {
+TOWER_NODISCARD static inline struct tower_event tower_on_cpu(uint8_t cpu, struct tower_event event) {
     event.cpu = cpu;
     return event;
 }
 
-/* Each call as an event of process pid, from CPU 0. The arguments are in the order of docs/MACHINE.md. If the process,
- * the size or the right is no such number, tower_step replies TOWER_NO_EVENT. A size is 1, 2 or 4, a right one of enum
- * tower_right. */
-static inline struct tower_event tower_load(uint32_t pid, uint32_t address, uint32_t size) {
-    return tower_event_of(pid, TOWER_LOAD, size, address, 0, 0);
+/* An event of an address or of pages, likewise. If one of these has more than 32 bits, it is no event. */
+TOWER_NODISCARD static inline struct tower_event tower_event_at(uint32_t pid, uint32_t call, uint32_t flag,
+                                                                uint64_t first, uint32_t second, uint64_t third) {
+    return tower_event_of(tower_pid_at(pid, first | third), call, flag, (uint32_t)first, second, (uint32_t)third);
 }
 
-static inline struct tower_event tower_store(uint32_t pid, uint32_t address, uint32_t size, uint32_t value) {
-    return tower_event_of(pid, TOWER_STORE, size, address, value, 0);
+/* Each call as an event of process pid, from CPU 0. These only make the event, which tower_step carries out. The
+ * arguments are in the order of docs/MACHINE.md. A size is 1, 2 or 4, a right one of enum tower_right. If the process,
+ * the size or the right is no such number, or an address or a page has more than 32 bits, tower_step replies
+ * TOWER_NO_EVENT: no number is cut off, and becomes another. It is no fault, since a fault's reply has an address of 32
+ * bits. */
+TOWER_NODISCARD static inline struct tower_event tower_load(uint32_t pid, uint64_t address, uint32_t size) {
+    return tower_event_at(pid, TOWER_LOAD, size, address, 0, 0);
 }
 
-static inline struct tower_event tower_map(uint32_t pid, uint32_t page, uint32_t right) {
-    return tower_event_of(pid, TOWER_MAP, right, page, 0, 0);
+TOWER_NODISCARD static inline struct tower_event tower_store(uint32_t pid, uint64_t address, uint32_t size,
+                                                             uint32_t value) {
+    return tower_event_at(pid, TOWER_STORE, size, address, value, 0);
 }
 
-static inline struct tower_event tower_unmap(uint32_t pid, uint32_t page) {
-    return tower_event_of(pid, TOWER_UNMAP, 0, page, 0, 0);
+TOWER_NODISCARD static inline struct tower_event tower_map(uint32_t pid, uint64_t page, uint32_t right) {
+    return tower_event_at(pid, TOWER_MAP, right, page, 0, 0);
 }
 
-static inline struct tower_event tower_protect(uint32_t pid, uint32_t page, uint32_t right) {
-    return tower_event_of(pid, TOWER_PROTECT, right, page, 0, 0);
+TOWER_NODISCARD static inline struct tower_event tower_unmap(uint32_t pid, uint64_t page) {
+    return tower_event_at(pid, TOWER_UNMAP, 0, page, 0, 0);
 }
 
-static inline struct tower_event tower_info(uint32_t pid, uint32_t page) {
-    return tower_event_of(pid, TOWER_INFO, 0, page, 0, 0);
+TOWER_NODISCARD static inline struct tower_event tower_protect(uint32_t pid, uint64_t page, uint32_t right) {
+    return tower_event_at(pid, TOWER_PROTECT, right, page, 0, 0);
 }
 
-static inline struct tower_event tower_offer(uint32_t pid, uint32_t page, uint32_t target, uint32_t right) {
-    return tower_event_of(pid, TOWER_OFFER, right, page, target, 0);
+TOWER_NODISCARD static inline struct tower_event tower_info(uint32_t pid, uint64_t page) {
+    return tower_event_at(pid, TOWER_INFO, 0, page, 0, 0);
 }
 
-static inline struct tower_event tower_withdraw(uint32_t pid, uint32_t page, uint32_t target) {
-    return tower_event_of(pid, TOWER_WITHDRAW, 0, page, target, 0);
+TOWER_NODISCARD static inline struct tower_event tower_offer(uint32_t pid, uint64_t page, uint32_t target,
+                                                             uint32_t right) {
+    return tower_event_at(pid, TOWER_OFFER, right, page, target, 0);
+}
+
+TOWER_NODISCARD static inline struct tower_event tower_withdraw(uint32_t pid, uint64_t page, uint32_t target) {
+    return tower_event_at(pid, TOWER_WITHDRAW, 0, page, target, 0);
 }
 
 /* `page` is the process's own page, at which it maps giver_page of the giver. */
-static inline struct tower_event tower_accept(uint32_t pid, uint32_t giver, uint32_t giver_page, uint32_t page) {
-    return tower_event_of(pid, TOWER_ACCEPT, 0, giver_page, giver, page);
+TOWER_NODISCARD static inline struct tower_event tower_accept(uint32_t pid, uint32_t giver, uint64_t giver_page,
+                                                              uint64_t page) {
+    return tower_event_at(pid, TOWER_ACCEPT, 0, giver_page, giver, page);
 }
 
-static inline struct tower_event tower_spawn(uint32_t pid, uint32_t quota) {
+TOWER_NODISCARD static inline struct tower_event tower_spawn(uint32_t pid, uint32_t quota) {
     return tower_event_of(pid, TOWER_SPAWN, 0, quota, 0, 0);
 }
 
-static inline struct tower_event tower_exit(uint32_t pid) {
+TOWER_NODISCARD static inline struct tower_event tower_exit(uint32_t pid) {
     return tower_event_of(pid, TOWER_EXIT, 0, 0, 0, 0);
 }
 
-static inline struct tower_event tower_quota(uint32_t pid) {
+TOWER_NODISCARD static inline struct tower_event tower_quota(uint32_t pid) {
     return tower_event_of(pid, TOWER_QUOTA, 0, 0, 0, 0);
 }
 
-static inline struct tower_event tower_fork(uint32_t pid, uint32_t quota) {
+TOWER_NODISCARD static inline struct tower_event tower_fork(uint32_t pid, uint32_t quota) {
     return tower_event_of(pid, TOWER_FORK, 0, quota, 0, 0);
 }
 
@@ -300,7 +317,7 @@ enum tower_service {
     TOWER_FRAME_FREE = 1,
     TOWER_FRAME_DIRECTORY = 2,  /* of process pid */
     TOWER_FRAME_TABLE = 3,      /* of process pid, in its directory's slot */
-    TOWER_FRAME_PAGE = 4,       /* that count pages share */
+    TOWER_FRAME_PAGE = 4,       /* that count slots share */
 };
 
 /* The name of a role; "" for a number that is no role. */
@@ -331,7 +348,8 @@ struct tower_container {
     uint32_t children;
 };
 
-/* How the processor's walk of a process's tables ends. A field that its kind does not use is 0. */
+/* How the processor's walk of a process's tables ends. (The function tower_end ends processes.) A field that its kind
+ * does not use is 0. */
 enum tower_end {
     TOWER_WALK_FRAME = 0,    /* at a frame */
     TOWER_WALK_FAULT = 1,    /* as a page fault with that error code */
@@ -427,8 +445,8 @@ TOWER_NODISCARD bool tower_ends(const struct tower *tower, const struct tower_ev
 /* Whether an event may write a frame, if it were the next one, whatever its reply is. It may write frames that are free,
  * the directory, the tables and the pages of its process, and, if it is a TOWER_ACCEPT of a lazy page, the giver's
  * directory and that page's table. The frames that it frees are among them. Every other frame stays as it is, except that
- * accessed may be set in a directory's words. Whoever keeps something by frames, as an emulator keeps translated code,
- * drops what it keeps of those frames. It changes nothing of the core. For a frame of a page it looks up the pages that
+ * accessed may be set or cleared in a directory's words. What a program keeps of those frames, as an emulator keeps
+ * translated code, it drops. It changes nothing of the core. For a frame of a page it looks up the pages that
  * the process has mapped, up to that one, and for another frame one page at most. False if the handle has no core, the
  * numbers are no event or there is no such frame; then nothing is written. */
 TOWER_NODISCARD bool tower_may_write(const struct tower *tower, const struct tower_event *event, uint32_t frame,
@@ -606,13 +624,17 @@ static inline const char *tower_outcome_name(uint32_t outcome) {
     }
 }
 
-/* How the event ended that has this reply. */
+/* How the event ended that has this reply. A kind that is none is TOWER_OUTCOME_NO_EVENT: no call wrote the reply. */
 TOWER_NODISCARD static inline enum tower_outcome tower_outcome_of(const struct tower_reply *reply) {
     switch (reply->kind) {
+    case TOWER_DONE:
+    case TOWER_VALUE:
+    case TOWER_CHILD:
+    case TOWER_FLAGS:
+    case TOWER_USAGE: return TOWER_OUTCOME_DONE;
     case TOWER_REFUSED: return TOWER_OUTCOME_REFUSED;
     case TOWER_FAULT: return TOWER_OUTCOME_FAULT;
-    case TOWER_NO_EVENT: return TOWER_OUTCOME_NO_EVENT;
-    default: return TOWER_OUTCOME_DONE;
+    default: return TOWER_OUTCOME_NO_EVENT;
     }
 }
 
@@ -633,8 +655,10 @@ TOWER_NODISCARD static inline enum tower_outcome tower_do_ending(struct tower *t
     return tower_step_ending(tower, &event, to, ended) ? tower_outcome_of(to) : TOWER_OUTCOME_NO_CORE;
 }
 
-/* The functions of the archive require pointers that are not null, whatever the count is. A program calls each function
- * below by its own name, without `_inline`. In place of NULL with a count of 0 it passes the address of an object. */
+/* The functions of the archive require pointers that are not null, whatever the count is, and take addresses and pages of
+ * 32 bits. A program calls each function below by its own name, without `_inline`. In place of NULL with a count of 0 it
+ * passes the address of an object. If an address or a page has more than 32 bits, it passes 255 as the process, which is
+ * none: nothing is copied, and the reply, if there is one, is TOWER_NO_EVENT. */
 TOWER_NODISCARD static inline bool tower_run_inline(struct tower *tower, const struct tower_event *events,
                                                     size_t event_count, struct tower_reply *replies,
                                                     size_t reply_count) {
@@ -653,25 +677,28 @@ TOWER_NODISCARD static inline bool tower_run_until_inline(struct tower *tower, c
                            reply_count || replies ? replies : &reply, reply_count, carried);
 }
 
-TOWER_NODISCARD static inline bool tower_read_inline(struct tower *tower, uint32_t pid, uint32_t address,
+TOWER_NODISCARD static inline bool tower_read_inline(struct tower *tower, uint32_t pid, uint64_t address,
                                                      uint8_t *bytes, size_t byte_count, size_t *moved,
                                                      struct tower_reply *stop) {
     uint8_t byte = 0;
-    return tower_read(tower, pid, address, byte_count || bytes ? bytes : &byte, byte_count, moved, stop);
+    return tower_read(tower, tower_pid_at(pid, address), (uint32_t)address,
+                      byte_count || bytes ? bytes : &byte, byte_count, moved, stop);
 }
 
-TOWER_NODISCARD static inline bool tower_write_inline(struct tower *tower, uint32_t pid, uint32_t address,
+TOWER_NODISCARD static inline bool tower_write_inline(struct tower *tower, uint32_t pid, uint64_t address,
                                                       const uint8_t *bytes, size_t byte_count, size_t *moved,
                                                       struct tower_reply *stop) {
     const uint8_t byte = 0;
-    return tower_write(tower, pid, address, byte_count || bytes ? bytes : &byte, byte_count, moved, stop);
+    return tower_write(tower, tower_pid_at(pid, address), (uint32_t)address,
+                       byte_count || bytes ? bytes : &byte, byte_count, moved, stop);
 }
 
-TOWER_NODISCARD static inline bool tower_load_bytes_inline(struct tower *tower, uint32_t pid, uint32_t address,
+TOWER_NODISCARD static inline bool tower_load_bytes_inline(struct tower *tower, uint32_t pid, uint64_t address,
                                                            const uint8_t *bytes, size_t byte_count, bool write,
                                                            struct tower_reply *told) {
     const uint8_t byte = 0;
-    return tower_load_bytes(tower, pid, address, byte_count || bytes ? bytes : &byte, byte_count, write, told);
+    return tower_load_bytes(tower, tower_pid_at(pid, address), (uint32_t)address,
+                            byte_count || bytes ? bytes : &byte, byte_count, write, told);
 }
 
 TOWER_NODISCARD static inline bool tower_copy_frame_inline(const struct tower *tower, uint32_t frame, uint8_t *bytes,
@@ -680,19 +707,28 @@ TOWER_NODISCARD static inline bool tower_copy_frame_inline(const struct tower *t
     return tower_copy_frame(tower, frame, byte_count || bytes ? bytes : &byte, byte_count);
 }
 
-TOWER_NODISCARD static inline bool tower_peek_inline(const struct tower *tower, uint32_t pid, uint32_t address,
+TOWER_NODISCARD static inline bool tower_peek_inline(const struct tower *tower, uint32_t pid, uint64_t address,
                                                      uint8_t *bytes, size_t byte_count, size_t *moved) {
     uint8_t byte = 0;
-    return tower_peek(tower, pid, address, byte_count || bytes ? bytes : &byte, byte_count, moved);
+    return tower_peek(tower, tower_pid_at(pid, address), (uint32_t)address,
+                      byte_count || bytes ? bytes : &byte, byte_count, moved);
 }
 
-TOWER_NODISCARD static inline bool tower_take_back_inline(struct tower *tower, uint32_t pid, uint32_t page,
+TOWER_NODISCARD static inline bool tower_take_back_inline(struct tower *tower, uint32_t pid, uint64_t page,
                                                           struct tower_holder *lost, size_t lost_count, size_t *count,
                                                           struct tower_reply *told) {
     struct tower_holder holder = {0, 0};
-    return tower_take_back(tower, pid, page, lost_count || lost ? lost : &holder, lost_count, count, told);
+    return tower_take_back(tower, tower_pid_at(pid, page), (uint32_t)page,
+                           lost_count || lost ? lost : &holder, lost_count, count, told);
 }
 
+/* The walk at an address of more than 32 bits is that at address 0: both are outside the user range. */
+TOWER_NODISCARD static inline bool tower_walk_inline(const struct tower *tower, uint32_t pid, uint64_t address,
+                                                     bool write, struct tower_walk *found) {
+    return tower_walk(tower, pid, address >> 32 ? 0 : (uint32_t)address, write, found);
+}
+
+#define tower_walk(tower, pid, address, write, found) tower_walk_inline(tower, pid, address, write, found)
 #define tower_load_bytes tower_load_bytes_inline
 #define tower_peek tower_peek_inline
 #define tower_take_back tower_take_back_inline

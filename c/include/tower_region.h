@@ -17,6 +17,11 @@
 #include "tower.h"
 #include "tower_heap.h"
 
+/* A block of the most frames has more than 4 GiB, and the archives are for 64-bit programs. */
+#if SIZE_MAX != UINT64_MAX
+#error "a block of frames needs a size_t of 64 bits"
+#endif
+
 #ifdef __cplusplus
 extern "C" {
 #endif
@@ -28,8 +33,10 @@ extern "C" {
  * what region.c notes there. */
 #define TOWER_BOOK_BYTES(frames) (((size_t)(frames) * 16 + TOWER_CORE_BYTES + 256 + 4095) / 4096 * 4096)
 
-/* How many bytes a block needs for that many frames. */
-#define TOWER_BLOCK_BYTES(frames) ((size_t)(frames) * TOWER_FRAME_BYTES + TOWER_BOOK_BYTES(frames))
+/* How many bytes a block needs for that many frames: those of the frames and TOWER_BOOK_BYTES. It evaluates its argument
+ * once. */
+#define TOWER_BLOCK_BYTES(frames) \
+    (((size_t)(frames) * (TOWER_FRAME_BYTES + 16) + TOWER_CORE_BYTES + 256 + 4095) / 4096 * 4096)
 
 /* The highest number of frames that fits in a block of that many bytes, at most TOWER_WIDE_FRAMES; 0 if
  * TOWER_MIN_FRAMES do not fit. */
@@ -39,7 +46,8 @@ uint32_t tower_frames_within(size_t size);
  *
  * With any status but TOWER_BOOTED the block stays the caller's. Its bytes may have changed if that is TOWER_NO_MEMORY,
  * and are unchanged at any other. TOWER_BAD_BLOCK: the block is NULL, or isn't whole pages at a multiple of 4,096. Or it
- * ends at or past 2 to the 64, is too small for that many frames, or shares a byte with a booted core's block. */
+ * ends at or past 2 to the 64, is too small for that many frames, or shares a byte with a booted core's block or with the
+ * handle. */
 TOWER_NODISCARD uint32_t tower_boot_over(uint32_t frames, struct tower *tower, void *block, size_t size);
 
 /* Whether a byte lies in a core's block. */

@@ -12,11 +12,11 @@ extern "C" {
 #endif
 
 /* How many bytes a block needs for a core of an image of that many frames: in addition to a booted core's the check's,
- * which the core does not use afterwards. */
+ * which the core does not use afterwards. It evaluates its argument twice. */
 #define TOWER_RESTORE_BLOCK_BYTES(frames) (TOWER_BLOCK_BYTES(frames) + ((size_t)(frames) * 16 + 4095) / 4096 * 4096)
 
 /* A status in addition to those of tower_restore. The block is as TOWER_BAD_BLOCK says, or has too few bytes for an
- * image of that length, or shares a byte with the image. */
+ * image of that length, or shares a byte with the image, the handle or the verdict. */
 #define TOWER_RESTORE_BAD_BLOCK 7
 
 /* Restores a core over a block, from the image that bytes encode. With any status but TOWER_RESTORED the block stays the

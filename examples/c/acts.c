@@ -9,11 +9,11 @@
 #include <stdlib.h>
 #include <string.h>
 
+#include "expect.h"
 #include "tower.h"
 
 enum { FRAMES = 2048, TENANTS = 4, QUOTA = 64, ROUNDS = 4000, PAGES = 12 };
 
-#define EXPECT(fact) do { if (!(fact)) { printf("acts.c:%d: not so: %s\n", __LINE__, #fact); exit(1); } } while (0)
 #define PAGE(number) (TOWER_FIRST_PAGE + (uint32_t)(number))
 #define ADDRESS(number) (PAGE(number) << 12)
 

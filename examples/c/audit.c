@@ -1,22 +1,15 @@
 /* A kernel that audits itself. It writes the image of its core to a buffer, and checks that image, the core's own, and
  * damaged images. It ends with status 1 at the first answer that is not the expected one. */
 #include <stdio.h>
-#include <stdlib.h>
 #include <string.h>
 
+#include "expect.h"
 #include "tower_images.h"
 
 enum { FRAMES = 16, PAGE = TOWER_FIRST_PAGE, ADDRESS = PAGE << 12, ROLES = 1548, MEMORY = ROLES + 16 * FRAMES };
 
 static struct tower tower = TOWER_NONE;
 static uint8_t image[TOWER_IMAGE_LENGTH(FRAMES) + 1];
-
-static void expect(bool holds, const char *what) {
-    printf("%s: %s\n", what, holds ? "yes" : "NO");
-    if (!holds) {
-        exit(1);
-    }
-}
 
 static void asks_without_a_core(void) {
     struct tower_verdict verdict = {7, 7};

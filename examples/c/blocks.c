@@ -1,47 +1,19 @@
 /* Each function frees what it allocates, apart from the blocks of a core: a heap of its own counts the blocks that are
  * allocated after each call. Each is called on a handle with a core and on one without, and returns which of the two it
  * is. It ends with status 1 at the first count or result that is not the expected one. */
-#include <stdio.h>
-#include <stdlib.h>
+#define HEAP_OF_LIBRARY
 #include <string.h>
 
-#include "tower_heap.h"
+#include "expect.h"
+#include "heap.h"
 #include "tower_images.h"
 
 enum { FRAMES = 32, LENGTH = TOWER_IMAGE_LENGTH(FRAMES), COUNT = 3 };
 
-static char nothing;
-static size_t blocks;
 static uint8_t image[LENGTH], bytes[LENGTH], data[5000];
 
-struct rattle_tried rattle_alloc(size_t size, size_t align) {
-    void *block = malloc(size ? size : align);
-    struct rattle_tried tried = {block != NULL, block ? block : &nothing};
-    blocks += tried.ok;
-    return tried;
-}
-
-struct rattle_tried rattle_realloc(void *block, size_t kept, size_t size, size_t align) {
-    (void)kept;
-    void *moved = realloc(block, size ? size : align);
-    struct rattle_tried tried = {moved != NULL, moved ? moved : &nothing};
-    return tried;
-}
-
-void rattle_dealloc(void *block) {
-    blocks -= block != NULL;
-    free(block);
-}
-
-static void need(bool holds, const char *what) {
-    if (!holds) {
-        printf("not so: %s\n", what);
-        exit(1);
-    }
-}
-
 /* The function returns whether the handle has a core. */
-#define SAYS(call) need((call) == tower->live, #call)
+#define SAYS(call) EXPECT((call) == tower->live)
 
 static void steps(struct tower *tower) {
     const struct tower_event events[COUNT] = {tower_store(0, 0x40000000, 4, 7), tower_fork(0, 8), tower_exit(1)};
@@ -52,7 +24,7 @@ static void steps(struct tower *tower) {
     SAYS(tower_step_ending(tower, &events[1], &replies[1], &ended));
     SAYS(tower_ends(tower, &events[2], &ended));
     SAYS(tower_run(tower, events, COUNT, replies, COUNT));
-    need(!tower_run(tower, events, COUNT, replies, COUNT - 1), "a run has as many replies as events");
+    EXPECT(!tower_run(tower, events, COUNT, replies, COUNT - 1));
     SAYS(tower_run_until(tower, events, COUNT, replies, COUNT, &carried));
 }
 
@@ -71,7 +43,7 @@ static void queries(struct tower *tower) {
     struct tower_walk walk = {0};
     struct tower_page page = {0};
     struct tower_memory memory = {0};
-    need(tower_frames(tower) == (tower->live ? FRAMES : 0), "the number of frames");
+    EXPECT(tower_frames(tower) == (tower->live ? FRAMES : 0));
     SAYS(tower_directory(tower, 0, &number));
     SAYS(tower_container(tower, 0, &container));
     SAYS(tower_role(tower, 1, &role));
@@ -100,17 +72,17 @@ static void acts(struct tower *tower) {
     SAYS(tower_next_offer(tower, 0, 0, 0, &offer));
     SAYS(tower_take_back(tower, 0, TOWER_FIRST_PAGE, &holder, 1, &count, &told));
     SAYS(tower_end(tower, 1, &processes, &told));
-    need(!tower_next_holder(tower, 0, TOWER_FIRST_PAGE, 1, 0, &number), "a page of process 0 alone");
+    EXPECT(!tower_next_holder(tower, 0, TOWER_FIRST_PAGE, 1, 0, &number));
 }
 
 static void images(struct tower *tower) {
     struct tower_verdict verdict = {0};
     size_t size = 0;
-    need(tower_image(tower, bytes, LENGTH, &size) == (tower->live ? TOWER_IMAGE_WRITTEN : TOWER_IMAGE_NO_CORE), "an image");
-    need(tower_image(tower, NULL, 0, &size) == (tower->live ? TOWER_IMAGE_TOO_SHORT : TOWER_IMAGE_NO_CORE), "its size");
-    need(tower_check(tower, &verdict) == (tower->live ? TOWER_SOUND : TOWER_CHECK_NO_CORE), "a check");
-    need(tower_check_bytes(bytes, LENGTH, &verdict) == (tower->live ? TOWER_SOUND : TOWER_NOT_IMAGE), "a check of bytes");
-    need(tower_check_bytes(bytes, LENGTH - 1, &verdict) == TOWER_NOT_IMAGE, "a check of bytes that are no image");
+    EXPECT(tower_image(tower, bytes, LENGTH, &size) == (tower->live ? TOWER_IMAGE_WRITTEN : TOWER_IMAGE_NO_CORE));
+    EXPECT(tower_image(tower, NULL, 0, &size) == (tower->live ? TOWER_IMAGE_TOO_SHORT : TOWER_IMAGE_NO_CORE));
+    EXPECT(tower_check(tower, &verdict) == (tower->live ? TOWER_SOUND : TOWER_CHECK_NO_CORE));
+    EXPECT(tower_check_bytes(bytes, LENGTH, &verdict) == (tower->live ? TOWER_SOUND : TOWER_NOT_IMAGE));
+    EXPECT(tower_check_bytes(bytes, LENGTH - 1, &verdict) == TOWER_NOT_IMAGE);
     memset(bytes, 0, LENGTH);
 }
 
@@ -121,54 +93,51 @@ static const struct trial {
 } trials[] = {{"steps and runs", steps}, {"reads and writes", transfers}, {"queries", queries},
               {"acts for processes", acts}, {"images and checks", images}};
 
-static void expect(size_t expected, const char *what) {
-    printf("%zu blocks: %s\n", blocks, what);
-    if (blocks != expected) {
-        printf("and not %zu\n", expected);
-        exit(1);
-    }
+static void expect_blocks(size_t expected, const char *what) {
+    printf("%zu blocks: %s\n", heap_blocks, what);
+    EXPECT(heap_blocks == expected);
 }
 
 static void try_all(struct tower *tower, size_t expected) {
     for (size_t at = 0; at < sizeof trials / sizeof *trials; at++) {
         trials[at].on(tower);
-        expect(expected, trials[at].name);
+        expect_blocks(expected, trials[at].name);
     }
 }
 
 static void restores(struct tower *tower, size_t core) {
     struct tower_verdict verdict = {0};
-    expect(tower_restore(image, LENGTH - 1, tower, &verdict) == TOWER_NOT_IMAGE ? 0 : SIZE_MAX, "bytes that are no image");
+    expect_blocks(tower_restore(image, LENGTH - 1, tower, &verdict) == TOWER_NOT_IMAGE ? 0 : SIZE_MAX, "bytes that are no image");
     image[20] ^= 1;
-    expect(tower_restore(image, LENGTH, tower, &verdict) == TOWER_PROCESS_FAILS ? 0 : SIZE_MAX, "an image that is not sound");
+    expect_blocks(tower_restore(image, LENGTH, tower, &verdict) == TOWER_PROCESS_FAILS ? 0 : SIZE_MAX, "an image that is not sound");
     image[20] ^= 1;
-    expect(tower_restore(image, LENGTH, tower, &verdict) == TOWER_RESTORED ? core : SIZE_MAX, "a restored core");
-    expect(tower_restore(image, LENGTH, tower, &verdict) == TOWER_RESTORE_HAS_CORE ? core : SIZE_MAX, "a handle that has one");
+    expect_blocks(tower_restore(image, LENGTH, tower, &verdict) == TOWER_RESTORED ? core : SIZE_MAX, "a restored core");
+    expect_blocks(tower_restore(image, LENGTH, tower, &verdict) == TOWER_RESTORE_HAS_CORE ? core : SIZE_MAX, "a handle that has one");
     try_all(tower, core);
     tower_free(tower);
-    expect(0, "freed");
+    expect_blocks(0, "freed");
 }
 
 int main(void) {
     struct tower tower = TOWER_NONE, none = TOWER_NONE;
     size_t size = 0;
-    expect(tower_boot(15, &tower) == TOWER_BAD_SIZE ? 0 : SIZE_MAX, "no core of 15 frames");
-    expect(tower_boot(FRAMES, &tower) == TOWER_BOOTED ? blocks : SIZE_MAX, "a booted core");
-    const size_t core = blocks;
-    expect(tower_boot(FRAMES, &tower) == TOWER_HAS_CORE ? core : SIZE_MAX, "no second core");
-    expect(tower_boot_wide(FRAMES, &tower) == TOWER_HAS_CORE ? core : SIZE_MAX, "and no wide one");
+    expect_blocks(tower_boot(15, &tower) == TOWER_BAD_SIZE ? 0 : SIZE_MAX, "no core of 15 frames");
+    expect_blocks(tower_boot(FRAMES, &tower) == TOWER_BOOTED ? heap_blocks : SIZE_MAX, "a booted core");
+    const size_t core = heap_blocks;
+    expect_blocks(tower_boot(FRAMES, &tower) == TOWER_HAS_CORE ? core : SIZE_MAX, "no second core");
+    expect_blocks(tower_boot_wide(FRAMES, &tower) == TOWER_HAS_CORE ? core : SIZE_MAX, "and no wide one");
     try_all(&tower, core);
-    expect(tower_image(&tower, image, LENGTH, &size) == TOWER_IMAGE_WRITTEN ? core : SIZE_MAX, "its image");
+    expect_blocks(tower_image(&tower, image, LENGTH, &size) == TOWER_IMAGE_WRITTEN ? core : SIZE_MAX, "its image");
     tower_free(&tower);
-    expect(0, "freed");
+    expect_blocks(0, "freed");
     tower_free(&tower);
-    expect(0, "freed again");
-    expect(tower_boot_wide(FRAMES, &tower) == TOWER_BOOTED ? core : SIZE_MAX, "a wide core");
+    expect_blocks(0, "freed again");
+    expect_blocks(tower_boot_wide(FRAMES, &tower) == TOWER_BOOTED ? core : SIZE_MAX, "a wide core");
     tower_free(&tower);
-    expect(0, "freed");
-    expect(tower_boot(TOWER_MAX_FRAMES, &tower) == TOWER_BOOTED ? core : SIZE_MAX, "a core of 4,096 frames");
+    expect_blocks(0, "freed");
+    expect_blocks(tower_boot(TOWER_MAX_FRAMES, &tower) == TOWER_BOOTED ? core : SIZE_MAX, "a core of 4,096 frames");
     tower_free(&tower);
-    expect(0, "freed");
+    expect_blocks(0, "freed");
     try_all(&none, 0);
     restores(&tower, core);
     return 0;

@@ -2,21 +2,15 @@
  * and the word is from a frame that was copied out. It ends with status 1 at the first answer that is not the expected
  * one. */
 #include <stdio.h>
-#include <stdlib.h>
 #include <string.h>
 
+#include "expect.h"
 #include "tower.h"
 
 enum { PAGE = TOWER_FIRST_PAGE, ADDRESS = PAGE << 12, OTHER_PAGE = 0x50000, WORD = 0x11223344 };
+#define FAR ((uint64_t)1 << 32 | ADDRESS) /* an address of 33 bits, whose low ones are those of ADDRESS */
 
 static struct tower tower = TOWER_NONE;
-
-static void expect(bool holds, const char *what) {
-    printf("%s: %s\n", what, holds ? "yes" : "NO");
-    if (!holds) {
-        exit(1);
-    }
-}
 
 static void need(bool holds, const char *what) {
     if (!holds) {
@@ -128,6 +122,16 @@ static void makes_events(void) {
                tower_do(&tower, tower_map(0, PAGE, 256), NULL) == TOWER_OUTCOME_NO_EVENT &&
                tower_do(&tower, tower_offer(0, PAGE, 257, TOWER_READ_ONLY), NULL) == TOWER_OUTCOME_NO_EVENT,
            "and numbers that are too large are no event");
+    expect(is_event(tower_load(1, UINT32_MAX, 4), (struct tower_event){0, 1, TOWER_LOAD, 4, UINT32_MAX, 0, 0}) &&
+               is_event(tower_load(1, FAR, 4), (struct tower_event){0, 255, TOWER_LOAD, 4, ADDRESS, 0, 0}),
+           "an address of 33 bits is no event's");
+    const struct tower_event far_events[] = {
+        tower_load(0, FAR, 1), tower_store(0, FAR, 1, 0), tower_map(0, FAR, 1), tower_unmap(0, FAR),
+        tower_protect(0, FAR, 1), tower_info(0, FAR), tower_offer(0, FAR, 1, 1), tower_withdraw(0, FAR, 1),
+        tower_accept(0, 1, FAR, PAGE), tower_accept(0, 1, PAGE, FAR)};
+    for (size_t i = 0; i < sizeof far_events / sizeof *far_events; i++) {
+        expect(tower_do(&tower, far_events[i], NULL) == TOWER_OUTCOME_NO_EVENT, "in no call");
+    }
 }
 
 /* A page that was loaded and never stored to has no frame yet. Its accept gives it one. That ends the giver's
@@ -221,6 +225,13 @@ static void copies(void) {
                stop.first == 0xf0000000, "a write stops at the first byte that faults");
     expect(tower_read(&tower, 64, ADDRESS, read, 1, &moved, &stop) && moved == 0 && stop.kind == TOWER_NO_EVENT,
            "process 64 is none");
+    expect(tower_read(&tower, 0, FAR, read, 1, &moved, &stop) && moved == 0 && stop.kind == TOWER_NO_EVENT &&
+               tower_write(&tower, 0, FAR, wrote, 1, &moved, &stop) && moved == 0 && stop.kind == TOWER_NO_EVENT &&
+               tower_load_bytes(&tower, 0, FAR, wrote, 1, true, &stop) && stop.kind == TOWER_NO_EVENT &&
+               tower_peek(&tower, 0, FAR, read, 1, &moved) && moved == 0, "and no byte is at an address of 33 bits");
+    struct tower_walk walk;
+    expect(tower_walk(&tower, 0, FAR, true, &walk) && walk.kind == TOWER_WALK_FAULT && walk.code == 6,
+           "where a walk faults, as outside the user range");
 }
 
 static void goes_over_pages(void) {

@@ -4,11 +4,10 @@
 #include <stdio.h>
 #include <string.h>
 
+#include "expect.h"
 #include "tower_text.h"
 
 enum { FRAMES = 256, EVENTS = 4000, PAGE = TOWER_FIRST_PAGE };
-
-#define EXPECT(fact) do { if (!(fact)) { printf("log.c:%d: not so: %s\n", __LINE__, #fact); return 1; } } while (0)
 
 static uint32_t state = 1;
 
@@ -68,7 +67,7 @@ static FILE *script, *replies;
 static bool calls[TOWER_FORK + 1], kinds[TOWER_NO_EVENT + 1], causes[TOWER_TOO_SMALL + 1];
 
 /* Makes an event, and logs it and its reply. Numbers that are no event have no text. */
-static int logs(struct tower_event event) {
+static void logs(struct tower_event event) {
     char line[TOWER_TEXT_BYTES], told[TOWER_TEXT_BYTES];
     struct tower_reply reply = {0};
     enum tower_outcome outcome = tower_do(&tower, event, &reply);
@@ -85,34 +84,31 @@ static int logs(struct tower_event event) {
     }
     kinds[reply.kind] = true;
     causes[reply.kind == TOWER_REFUSED ? reply.first : 0] = true;
-    return 0;
 }
 
 /* Process 0 makes as many children as there are numbers, and offers a page to more of them than it may. */
-static int fills(void) {
-    EXPECT(logs(tower_map(0, PAGE, TOWER_READ_ONLY)) == 0);
+static void fills(void) {
+    logs(tower_map(0, PAGE, TOWER_READ_ONLY));
     for (uint32_t pid = 1; pid <= TOWER_PROCESSES; pid++) {
-        EXPECT(logs(tower_spawn(0, pid < 5 ? 30 : 1)) == 0);
+        logs(tower_spawn(0, pid < 5 ? 30 : 1));
     }
     for (uint32_t pid = 1; pid <= TOWER_OFFERS + 1; pid++) {
-        EXPECT(logs(tower_offer(0, PAGE, pid, TOWER_READ_ONLY)) == 0);
+        logs(tower_offer(0, PAGE, pid, TOWER_READ_ONLY));
     }
     for (uint32_t pid = 5; pid < TOWER_PROCESSES; pid++) {
-        EXPECT(logs(tower_on_cpu((uint8_t)(pid % 8), tower_exit(pid))) == 0);
+        logs(tower_on_cpu((uint8_t)(pid % 8), tower_exit(pid)));
     }
-    return 0;
 }
 
-static int logs_random_calls(void) {
+static void logs_random_calls(void) {
     for (uint32_t nth = 0; nth < EVENTS; nth++) {
         struct tower_event event = random_call(random_pid());
-        EXPECT(logs(tower_on_cpu((uint8_t)random_below(8), event)) == 0);
+        logs(tower_on_cpu((uint8_t)random_below(8), event));
     }
-    return 0;
 }
 
 /* Each call was made, and each kind of reply and each cause came. No cause has the number 3. */
-static int has_all(void) {
+static void has_all(void) {
     for (uint32_t call = 0; call <= TOWER_FORK; call++) {
         EXPECT(calls[call]);
     }
@@ -122,11 +118,10 @@ static int has_all(void) {
     for (uint32_t cause = 1; cause <= TOWER_TOO_SMALL; cause++) {
         EXPECT(causes[cause] == (cause != 3));
     }
-    return 0;
 }
 
 /* The longest texts, and texts that don't fit. */
-static int cuts(void) {
+static void cuts(void) {
     struct tower_event event = tower_on_cpu(255, tower_accept(63, 63, UINT32_MAX, UINT32_MAX));
     struct tower_reply usage = {.kind = TOWER_USAGE, .first = UINT32_MAX, .second = UINT32_MAX, .third = UINT32_MAX};
     char text[TOWER_TEXT_BYTES] = "unchanged";
@@ -135,7 +130,18 @@ static int cuts(void) {
     EXPECT(tower_event_text(&event, text, 34) == 34 && strcmp(text, "255 63 accept 63 ffffffff fffffff") == 0);
     EXPECT(tower_event_text(&event, text, 35) == 34 && strcmp(text, "255 63 accept 63 ffffffff ffffffff") == 0);
     EXPECT(tower_reply_text(&usage, text, 9) == 38 && strcmp(text, "quota 42") == 0);
-    return 0;
+}
+
+/* Of a kind that is none, and of a reply that no call wrote, nothing is said to be done. */
+static void has_no_other_outcome(void) {
+    for (uint32_t kind = 0; kind <= 300; kind++) {
+        const struct tower_reply reply = {.kind = kind < 300 ? kind : UINT32_MAX};
+        enum tower_outcome outcome = tower_outcome_of(&reply);
+        EXPECT((outcome == TOWER_OUTCOME_DONE) == (kind <= TOWER_USAGE));
+        EXPECT((outcome == TOWER_OUTCOME_FAULT) == (kind == TOWER_FAULT));
+        EXPECT((outcome == TOWER_OUTCOME_REFUSED) == (kind == TOWER_REFUSED));
+        EXPECT((outcome == TOWER_OUTCOME_NO_EVENT) == (kind >= TOWER_NO_EVENT));
+    }
 }
 
 int main(int count, char **words) {
@@ -143,8 +149,12 @@ int main(int count, char **words) {
     script = fopen(words[1], "w");
     replies = fopen(words[2], "w");
     EXPECT(script && replies && tower_boot(FRAMES, &tower) == TOWER_BOOTED);
-    bool is_wrong = cuts() || fills() || logs_random_calls() || has_all();
+    has_no_other_outcome();
+    cuts();
+    fills();
+    logs_random_calls();
+    has_all();
     tower_free(&tower);
     EXPECT(fclose(script) == 0 && fclose(replies) == 0);
-    return is_wrong;
+    return 0;
 }

@@ -3,11 +3,10 @@
  * expected, and otherwise prints the line of what does not. */
 #include <stdio.h>
 
+#include "expect.h"
 #include "tower_images.h"
 
 enum { FRAMES = 16 };
-
-#define EXPECT(fact) do { if (!(fact)) { printf("nulls.c:%d: not so: %s\n", __LINE__, #fact); return 1; } } while (0)
 
 static unsigned calls, nulls;
 

@@ -9,39 +9,14 @@
 #include <sys/wait.h>
 #include <unistd.h>
 
-#include "tower_region.h"
+#include "expect.h"
+#include "heap.h"
 
 enum { PAGE = TOWER_FIRST_PAGE, ADDRESS = PAGE << 12, FRAMES = 64, WIDE = 5000 };
-
-#define EXPECT(fact) do { if (!(fact)) { printf("region.c:%d: not so: %s\n", __LINE__, #fact); return 1; } } while (0)
 
 static _Alignas(4096) uint8_t first[TOWER_BLOCK_BYTES(FRAMES)];
 static _Alignas(4096) uint8_t second[TOWER_BLOCK_BYTES(WIDE)];
 static _Alignas(4096) uint8_t around[TOWER_BLOCK_BYTES(FRAMES) + 2 * 4096];
-
-static size_t others, requested;
-
-static struct rattle_tried other_alloc(size_t size, size_t align) {
-    void *block = malloc(size ? size : align);
-    others += block != NULL;
-    requested += size;
-    return (struct rattle_tried){block != NULL, block ? block : &others};
-}
-
-static struct rattle_tried other_realloc(void *block, size_t kept, size_t size, size_t align) {
-    (void)block, (void)kept, (void)size, (void)align;
-    return (struct rattle_tried){false, &others};
-}
-
-static void other_dealloc(void *block) {
-    others--;
-    free(block);
-}
-
-static bool answers(struct tower *tower, struct tower_event event, uint32_t kind, uint32_t first_number) {
-    struct tower_reply reply = {0};
-    return tower_do(tower, event, &reply) == TOWER_OUTCOME_DONE && reply.kind == kind && reply.first == first_number;
-}
 
 static bool works(struct tower *tower, uint32_t value) {
     return answers(tower, tower_map(0, PAGE, TOWER_READ_WRITE), TOWER_DONE, 0)
@@ -73,6 +48,11 @@ int main(void) {
         EXPECT(tower_frames_within(TOWER_BLOCK_BYTES(frames) - 1) < frames);
         EXPECT(TOWER_BLOCK_BYTES(tower_frames_within((size_t)frames * 4096)) <= (size_t)frames * 4096);
     }
+    for (uint32_t frames = 16; frames < 3000;) {
+        uint32_t before = frames;
+        size_t bytes = TOWER_BLOCK_BYTES(frames++);
+        EXPECT(frames == before + 1 && bytes == (size_t)before * TOWER_FRAME_BYTES + TOWER_BOOK_BYTES(before));
+    }
     EXPECT(tower_frames_within(SIZE_MAX / 4096 * 4096) == TOWER_WIDE_FRAMES);
     EXPECT(tower_frames_within(TOWER_BLOCK_BYTES(TOWER_WIDE_FRAMES)) == TOWER_WIDE_FRAMES);
     EXPECT(tower_frames_within(TOWER_BLOCK_BYTES(TOWER_WIDE_FRAMES) - 1) == TOWER_WIDE_FRAMES - 1);
@@ -90,6 +70,13 @@ int main(void) {
     EXPECT(tower_boot_over(15, &one, around, sizeof first) == TOWER_BAD_SIZE);
     EXPECT(tower_boot_over(TOWER_WIDE_FRAMES + 1, &one, around, sizeof first) == TOWER_BAD_SIZE);
     EXPECT(tower_boot_over(UINT32_MAX, &one, around, sizeof first) == TOWER_BAD_SIZE);
+    struct tower *within = (struct tower *)(around + 3 * 4096), *at_end = (struct tower *)(around + sizeof first) - 1;
+    memset(within, 0, sizeof *within);
+    memset(at_end, 0, sizeof *at_end);
+    EXPECT(tower_boot_over(FRAMES, within, around, sizeof first) == TOWER_BAD_BLOCK && !within->live);
+    EXPECT(tower_boot_over(FRAMES, at_end, around, sizeof first) == TOWER_BAD_BLOCK && !at_end->live);
+    memset(within, 0x5a, sizeof *within);
+    memset(at_end, 0x5a, sizeof *at_end);
     EXPECT(!one.live && !tower_holds(around));
     EXPECT(strcmp(tower_status_name(TOWER_BAD_BLOCK), "BadBlock") == 0);
     for (size_t at = 0; at < sizeof around; at++) {
@@ -122,20 +109,12 @@ int main(void) {
 
     /* other requests are refused until they have functions of their own */
     EXPECT(tower_boot(FRAMES, &three) == TOWER_NO_MEMORY && !three.live);
-    struct tower_other_heap heap = {other_alloc, other_realloc, other_dealloc};
-    tower_set_other_heap(&heap);
-    EXPECT(tower_boot(FRAMES, &three) == TOWER_BOOTED && others == 5);
+    tower_set_other_heap(&counting_heap);
+    EXPECT(tower_boot(FRAMES, &three) == TOWER_BOOTED && heap_blocks == 5);
     EXPECT(works(&three, 79));
     tower_free(&three);
-    EXPECT(others == 0);
+    EXPECT(heap_blocks == 0);
 
-    /* a core requests what TOWER_BLOCK_BYTES counts on */
-    for (uint32_t frames = TOWER_MIN_FRAMES; frames <= 65536; frames *= 4) {
-        requested = 0;
-        EXPECT(tower_boot_wide(frames, &three) == TOWER_BOOTED);
-        EXPECT(requested == (size_t)frames * (TOWER_FRAME_BYTES + 16) + TOWER_CORE_BYTES);
-        tower_free(&three);
-    }
     tower_set_other_heap(NULL);
 
     /* a block that no function returned */

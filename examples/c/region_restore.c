@@ -4,54 +4,40 @@
 #include <stdlib.h>
 #include <string.h>
 
+#include "expect.h"
+#include "heap.h"
 #include "tower_region_images.h"
 
 enum { PAGE = TOWER_FIRST_PAGE, ADDRESS = PAGE << 12, FRAMES = 64, LENGTH = TOWER_IMAGE_LENGTH(FRAMES) };
 enum { VERSION = 4, QUOTA = 20 };
-
-#define EXPECT(fact) do { if (!(fact)) { printf("region_restore.c:%d: not so: %s\n", __LINE__, #fact); return 1; } } while (0)
 
 static _Alignas(4096) uint8_t first[TOWER_BLOCK_BYTES(FRAMES)];
 static _Alignas(4096) uint8_t second[TOWER_RESTORE_BLOCK_BYTES(FRAMES)];
 static uint8_t image[LENGTH], other_image[LENGTH];
 static struct tower one = TOWER_NONE, two = TOWER_NONE;
 static struct tower_verdict verdict;
-static size_t others;
-
-static struct rattle_tried other_alloc(size_t size, size_t align) {
-    void *block = malloc(size ? size : align);
-    others += block != NULL;
-    return (struct rattle_tried){block != NULL, block ? block : &others};
-}
-
-static struct rattle_tried other_realloc(void *block, size_t kept, size_t size, size_t align) {
-    (void)block, (void)kept, (void)size, (void)align;
-    return (struct rattle_tried){false, &others};
-}
-
-static void other_dealloc(void *block) {
-    others--;
-    free(block);
-}
-
-static bool answers(struct tower *tower, struct tower_event event, uint32_t kind, uint32_t number) {
-    struct tower_reply reply = {0};
-    return tower_do(tower, event, &reply) != TOWER_OUTCOME_NO_CORE && reply.kind == kind && reply.first == number;
-}
 
 /* Writes a core's image. An image is no core: its memory comes from another heap. */
 static bool writes(const struct tower *tower, uint8_t *bytes, size_t count) {
-    static const struct tower_other_heap heap = {other_alloc, other_realloc, other_dealloc};
     size_t length = 0;
-    tower_set_other_heap(&heap);
+    tower_set_other_heap(&counting_heap);
     bool is_written = tower_image(tower, bytes, count, &length) == TOWER_IMAGE_WRITTEN && length == count;
     tower_set_other_heap(NULL);
-    return is_written && others == 0;
+    return is_written && heap_blocks == 0;
 }
 
 /* A restore over a block that it refuses, or of bytes that it refuses. */
 static uint32_t restored(size_t count, void *block, size_t size) {
     return tower_restore_over(image, count, &two, &verdict, block, size);
+}
+
+/* A restore whose handle lies in its own block, with what the block had there before. */
+static uint32_t restored_within(void *place) {
+    struct tower *handle = place;
+    memset(handle, 0, sizeof *handle);
+    uint32_t status = tower_restore_over(image, LENGTH, handle, &verdict, second, sizeof second);
+    memset(handle, 0x5a, sizeof *handle);
+    return status;
 }
 
 static bool is_filled(const uint8_t *bytes, size_t size) {
@@ -74,6 +60,8 @@ int main(void) {
     EXPECT(restored(LENGTH, second, sizeof second + 1) == TOWER_RESTORE_BAD_BLOCK);
     EXPECT(restored(LENGTH, first, sizeof second) == TOWER_RESTORE_BAD_BLOCK);
     EXPECT(tower_restore_over(second + 4096, LENGTH, &two, &verdict, second, sizeof second) == TOWER_RESTORE_BAD_BLOCK);
+    EXPECT(restored_within(second + 4096) == TOWER_RESTORE_BAD_BLOCK);
+    EXPECT(restored_within((struct tower *)(second + sizeof second) - 1) == TOWER_RESTORE_BAD_BLOCK);
     EXPECT(tower_restore_over(second + sizeof second - 1, LENGTH, &two, &verdict, second, sizeof second)
            == TOWER_RESTORE_BAD_BLOCK);
     EXPECT(!two.live && !tower_holds(second) && is_filled(second, sizeof second));
@@ -97,7 +85,7 @@ int main(void) {
 
     /* the core: its frames lie in the block, it has the same image, and both go on alike */
     verdict = (struct tower_verdict){7, 7};
-    EXPECT(restored(LENGTH, second, sizeof second) == TOWER_RESTORED && two.live && others == 0);
+    EXPECT(restored(LENGTH, second, sizeof second) == TOWER_RESTORED && two.live && heap_blocks == 0);
     EXPECT(verdict.number == 7 && verdict.clause == 7);
     struct tower_memory memory;
     EXPECT(tower_memory(&two, &memory) && memory.begins == second && memory.length == FRAMES * 4096);
@@ -123,7 +111,7 @@ int main(void) {
         EXPECT(tower_frames(&two) == frames && writes(&two, other_image, length));
         EXPECT(memcmp(image, other_image, length) == 0);
         tower_free(&two);
-        EXPECT(!tower_holds(second) && others == 0);
+        EXPECT(!tower_holds(second) && heap_blocks == 0);
     }
     puts("restored over regions: as expected");
     return 0;

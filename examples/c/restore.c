@@ -2,9 +2,9 @@
  * damaged image gives no core, nor does one of version 1, nor a handle that has a core. It ends with status 1 at the
  * first answer that is not the expected one. */
 #include <stdio.h>
-#include <stdlib.h>
 #include <string.h>
 
+#include "expect.h"
 #include "tower_images.h"
 
 enum { FRAMES = 16, LENGTH = TOWER_IMAGE_LENGTH(FRAMES), PAGE = TOWER_FIRST_PAGE, OTHER_PAGE = 0x50000 };
@@ -12,18 +12,6 @@ enum { VERSION = 4, QUOTA = 20, ROLES = 1548, COUNT = 12 };
 
 static struct tower first = TOWER_NONE, second = TOWER_NONE;
 static uint8_t image[LENGTH], first_image[LENGTH], second_image[LENGTH];
-
-static void expect(bool holds, const char *what) {
-    printf("%s: %s\n", what, holds ? "yes" : "NO");
-    if (!holds) {
-        exit(1);
-    }
-}
-
-static bool answers(struct tower *tower, struct tower_event event, uint32_t kind, uint32_t value) {
-    struct tower_reply reply = {0};
-    return tower_do(tower, event, &reply) != TOWER_OUTCOME_NO_CORE && reply.kind == kind && reply.first == value;
-}
 
 /* Process 0 stores a word, and process 1 gets its page. */
 static void boots(void) {

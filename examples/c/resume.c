@@ -5,9 +5,9 @@
  * The sandbox is process 0. Its own page has all that it keeps: the next step, its random state, and a digest of all
  * replies. So the image is the whole of it. No offer may be pending at the cut, since an image has none. */
 #include <stdio.h>
-#include <stdlib.h>
 #include <string.h>
 
+#include "expect.h"
 #include "tower_images.h"
 
 enum { FRAMES = 128, STEPS = 20000, CUT = 9001, SANDBOX = 0, TENANTS = 2, QUOTA = 50, PAGES = 40 };
@@ -22,16 +22,9 @@ static struct tower tower = TOWER_NONE;
 static struct book book;
 static uint8_t image[LENGTH + 1];
 
-static void need(bool holds, const char *what) {
-    if (!holds) {
-        fprintf(stderr, "resume: not so: %s\n", what);
-        exit(1);
-    }
-}
-
 static struct tower_reply does(struct tower_event event) {
     struct tower_reply reply = {0};
-    need(tower_step(&tower, &event, &reply), "there is a core");
+    EXPECT(tower_step(&tower, &event, &reply));
     return reply;
 }
 
@@ -96,14 +89,14 @@ static void moves(bool out) {
     size_t moved = 0;
     bool is_live = out ? tower_write(&tower, SANDBOX, BOOK, (uint8_t *)&book, sizeof book, &moved, &stop)
                        : tower_read(&tower, SANDBOX, BOOK, (uint8_t *)&book, sizeof book, &moved, &stop);
-    need(is_live && moved == sizeof book, "the sandbox has its page");
+    EXPECT(is_live && moved == sizeof book);
 }
 
 static void begins(void) {
-    need(tower_boot(FRAMES, &tower) == TOWER_BOOTED, "a core boots");
+    EXPECT(tower_boot(FRAMES, &tower) == TOWER_BOOTED);
     for (uint32_t pid = 1; pid <= TENANTS; pid++) {
         struct tower_reply reply = does(tower_spawn(SANDBOX, QUOTA));
-        need(reply.kind == TOWER_CHILD && reply.first == pid, "a tenant is spawned");
+        EXPECT(reply.kind == TOWER_CHILD && reply.first == pid);
     }
     book = (struct book){0, 1, 2166136261u};
     moves(true);
@@ -117,9 +110,9 @@ static void goes_on(uint32_t end) {
 
 static void stops(const char *name) {
     size_t length = 0;
-    need(tower_image(&tower, image, LENGTH, &length) == TOWER_IMAGE_WRITTEN && length == LENGTH, "the image is written");
+    EXPECT(tower_image(&tower, image, LENGTH, &length) == TOWER_IMAGE_WRITTEN && length == LENGTH);
     FILE *file = fopen(name, "wb");
-    need(file && fwrite(image, 1, LENGTH, file) == LENGTH && fclose(file) == 0, "and is in the file");
+    EXPECT(file && fwrite(image, 1, LENGTH, file) == LENGTH && fclose(file) == 0);
 }
 
 static void comes_back(const char *name) {
@@ -130,7 +123,7 @@ static void comes_back(const char *name) {
     uint32_t status = tower_restore(image, length, &tower, &verdict);
     tower_verdict_text(status, &verdict, told, sizeof told);
     fprintf(stderr, "resume: %s %s\n", tower_restore_status_name(status), told);
-    need(file && fclose(file) == 0 && status == TOWER_RESTORED, "a core comes of the file");
+    EXPECT(file && fclose(file) == 0 && status == TOWER_RESTORED);
 }
 
 /* Prints the digest of all replies, and of each tenant its charge and a digest of its pages. */
@@ -145,7 +138,7 @@ static void tells(void) {
         size_t moved = 0;
         book.digest = 2166136261u;
         for (uint32_t from = 0; tower_next_page(&tower, pid, from, &number, &page); from = number + 1, pages++) {
-            need(tower_read(&tower, pid, number << 12, bytes, sizeof bytes, &moved, &stop), "the page is read");
+            EXPECT(tower_read(&tower, pid, number << 12, bytes, sizeof bytes, &moved, &stop));
             const uint32_t flags[] = {number, page.write, page.may, page.dirty, page.holders};
             for (size_t n = 0; n < sizeof flags / sizeof *flags; n++) {
                 digest(flags[n]);
@@ -154,7 +147,7 @@ static void tells(void) {
                 digest(bytes[n]);
             }
         }
-        need(tower_container(&tower, pid, &container), "the tenant is live");
+        EXPECT(tower_container(&tower, pid, &container));
         printf("tenant %u: used %u of %u, %u pages %08x\n", pid, container.used, container.quota, pages, book.digest);
     }
 }
@@ -163,7 +156,10 @@ int main(int count, char **words) {
     const char *how = count > 1 ? words[1] : "";
     bool is_whole = strcmp(how, "whole") == 0 && count == 2;
     bool stops_here = strcmp(how, "stop") == 0 && count == 3, goes = strcmp(how, "go") == 0 && count == 3;
-    need(is_whole || stops_here || goes, "resume whole | stop FILE | go FILE");
+    if (!is_whole && !stops_here && !goes) {
+        fputs("usage: resume whole | stop FILE | go FILE\n", stderr);
+        return 1;
+    }
     if (goes) {
         comes_back(words[2]);
     } else {

@@ -1,7 +1,6 @@
 /* Cores booted and freed by two threads, over a block and over another heap. One lock is held over each boot and each
  * tower_free, as tower_region.h requires. It is linked with --wrap=tower_boot_wide, so that a boot over a block can be
- * stopped before the library requests anything. It ends with status 0 if all goes as expected, and otherwise prints the
- * line of what does not. */
+ * stopped before the library requests anything. It ends with status 0 if all goes as expected (expect.h). */
 #define _DEFAULT_SOURCE
 
 #include <pthread.h>
@@ -10,32 +9,14 @@
 #include <stdlib.h>
 #include <string.h>
 
-#include "tower_region.h"
+#include "expect.h"
+#include "heap.h"
 
 enum { FRAMES = 64, BLOCKS = 5, ROUNDS = 2000 };
-
-#define EXPECT(fact) do { if (!(fact)) { printf("threads.c:%d: not so: %s\n", __LINE__, #fact); exit(1); } } while (0)
 
 static _Alignas(TOWER_FRAME_BYTES) uint8_t block[TOWER_BLOCK_BYTES(FRAMES)];
 static pthread_mutex_t lock = PTHREAD_MUTEX_INITIALIZER;
 static sem_t stopped, released;
-static size_t others;
-
-static struct rattle_tried other_alloc(size_t size, size_t align) {
-    void *found = malloc(size ? size : align);
-    others += found != NULL;
-    return (struct rattle_tried){found != NULL, found ? found : block};
-}
-
-static struct rattle_tried other_realloc(void *old, size_t kept, size_t size, size_t align) {
-    (void)old, (void)kept, (void)size, (void)align;
-    return (struct rattle_tried){false, block};
-}
-
-static void other_dealloc(void *old) {
-    others--;
-    free(old);
-}
 
 uint32_t __real_tower_boot_wide(uint32_t frames, struct tower *tower);
 uint32_t __wrap_tower_boot_wide(uint32_t frames, struct tower *tower);
@@ -87,13 +68,13 @@ static void two_boots(void) {
     sem_post(&released);
     EXPECT(boot_other(&two) == TOWER_BOOTED);
     pthread_join(thread, NULL);
-    EXPECT(others == BLOCKS);
+    EXPECT(heap_blocks == BLOCKS);
     EXPECT(tower_memory(&two, &memory) && !tower_holds(memory.begins));
     EXPECT(tower_memory(&one, &memory) && memory.begins == block);
     free_core(&one);
     EXPECT(!tower_holds(block));
     free_core(&two);
-    EXPECT(others == 0);
+    EXPECT(heap_blocks == 0);
 }
 
 static void *frees_others(void *none) {
@@ -116,12 +97,11 @@ static void frees_meet(void) {
         memset(block, 0x5a, sizeof block);
     }
     pthread_join(thread, NULL);
-    EXPECT(others == 0 && !tower_holds(block));
+    EXPECT(heap_blocks == 0 && !tower_holds(block));
 }
 
 int main(void) {
-    struct tower_other_heap heap = {other_alloc, other_realloc, other_dealloc};
-    tower_set_other_heap(&heap);
+    tower_set_other_heap(&counting_heap);
     sem_init(&stopped, 0, 0);
     sem_init(&released, 0, 0);
     two_boots();

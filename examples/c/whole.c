@@ -8,11 +8,10 @@
 #include <string.h>
 #include <sys/mman.h>
 
+#include "expect.h"
 #include "tower_region.h"
 
 enum { FRAMES = TOWER_WIDE_FRAMES, PAGES = 5000, CHILD = 1 };
-
-#define EXPECT(fact) do { if (!(fact)) { printf("whole.c:%d: not so: %s\n", __LINE__, #fact); exit(1); } } while (0)
 
 static uint8_t *zeros;
 
@@ -28,11 +27,6 @@ void *__wrap_memset(void *to, int byte, size_t count) {
     return __real_memset(to, byte, count);
 }
 
-static bool ends(struct tower *tower, struct tower_event event, uint32_t kind, uint32_t first) {
-    struct tower_reply reply = {0};
-    return tower_do(tower, event, &reply) == TOWER_OUTCOME_DONE && reply.kind == kind && reply.first == first;
-}
-
 static uint32_t address_of(uint32_t page) {
     return (TOWER_FIRST_PAGE + page) << 12;
 }
@@ -46,18 +40,18 @@ int main(void) {
     struct tower_memory memory;
     struct tower_role role = {0};
     EXPECT(tower_boot_over(FRAMES, &tower, block, size) == TOWER_BOOTED && !zeros);
-    EXPECT(tower_frames(&tower) == FRAMES && ends(&tower, tower_quota(0), TOWER_USAGE, FRAMES - 1));
+    EXPECT(tower_frames(&tower) == FRAMES && answers(&tower, tower_quota(0), TOWER_USAGE, FRAMES - 1));
     EXPECT(tower_memory(&tower, &memory) && memory.begins == block && memory.length == (size_t)1 << 32);
     EXPECT(tower_role(&tower, FRAMES - 1, &role) && role.kind == TOWER_FRAME_FREE && !tower_role(&tower, FRAMES, &role));
-    EXPECT(ends(&tower, tower_spawn(0, FRAMES - 1000), TOWER_CHILD, CHILD));
+    EXPECT(answers(&tower, tower_spawn(0, FRAMES - 1000), TOWER_CHILD, CHILD));
     for (uint32_t page = 0; page < PAGES; page++) {
-        EXPECT(ends(&tower, tower_store(CHILD, address_of(page), 4, page), TOWER_DONE, 0));
+        EXPECT(answers(&tower, tower_store(CHILD, address_of(page), 4, page), TOWER_DONE, 0));
     }
     for (uint32_t page = 0; page < PAGES; page++) {
-        EXPECT(ends(&tower, tower_load(CHILD, address_of(page), 4), TOWER_VALUE, page));
+        EXPECT(answers(&tower, tower_load(CHILD, address_of(page), 4), TOWER_VALUE, page));
     }
-    EXPECT(ends(&tower, tower_exit(CHILD), TOWER_DONE, 0));
-    EXPECT(ends(&tower, tower_quota(0), TOWER_USAGE, FRAMES - 1));
+    EXPECT(answers(&tower, tower_exit(CHILD), TOWER_DONE, 0));
+    EXPECT(answers(&tower, tower_quota(0), TOWER_USAGE, FRAMES - 1));
     tower_free(&tower);
     EXPECT(!tower_holds(block) && munmap(block, size) == 0);
     printf("whole: %d frames, as expected\n", FRAMES);

@@ -1,7 +1,6 @@
 /* A core of 262,144 frames, 1 GiB, in a block of the program's own. Tenants fill a good part of it, past the 16 MiB that
  * tower_boot gives; one lends a page, one forks and one exits. At the end all bytes are read back, the core is checked
- * where it lies, and the block is given back. It ends with status 0 if all goes as expected, and otherwise prints the
- * line of what does not. */
+ * where it lies, and the block is given back. It ends with status 0 if all goes as expected (expect.h). */
 #define _DEFAULT_SOURCE
 
 #include <stdio.h>
@@ -9,37 +8,11 @@
 #include <string.h>
 #include <sys/mman.h>
 
+#include "expect.h"
+#include "heap.h"
 #include "tower_images.h"
-#include "tower_region.h"
 
 enum { FRAMES = 262144, TENANTS = 4, PAGES = 10000, QUOTA = 25000, FIRST = TOWER_FIRST_PAGE };
-
-#define EXPECT(fact) do { if (!(fact)) { printf("wide.c:%d: not so: %s\n", __LINE__, #fact); exit(1); } } while (0)
-
-/* What a check requests, which comes from no region. */
-static size_t blocks, requested;
-
-static struct rattle_tried other_alloc(size_t size, size_t align) {
-    void *block = malloc(size ? size : align);
-    blocks += block != NULL;
-    requested += size;
-    return (struct rattle_tried){block != NULL, block ? block : &blocks};
-}
-
-static struct rattle_tried other_realloc(void *block, size_t kept, size_t size, size_t align) {
-    (void)block, (void)kept, (void)size, (void)align;
-    return (struct rattle_tried){false, &blocks};
-}
-
-static void other_dealloc(void *block) {
-    blocks--;
-    free(block);
-}
-
-static bool ends(struct tower *tower, struct tower_event event, uint32_t kind, uint32_t first) {
-    struct tower_reply reply = {0};
-    return tower_do(tower, event, &reply) == TOWER_OUTCOME_DONE && reply.kind == kind && reply.first == first;
-}
 
 static uint32_t address_of(uint32_t page) {
     return (FIRST + page) << 12 | (page % 1000) * 4;
@@ -58,7 +31,7 @@ static uint32_t frame_of(struct tower *tower, uint32_t pid, uint32_t page) {
 
 static void fill(struct tower *tower, uint32_t pid, uint32_t first, uint32_t end) {
     for (uint32_t page = first; page < end; page++) {
-        EXPECT(ends(tower, tower_store(pid, address_of(page), 4, word_of(pid, page)), TOWER_DONE, 0));
+        EXPECT(answers(tower, tower_store(pid, address_of(page), 4, word_of(pid, page)), TOWER_DONE, 0));
     }
 }
 
@@ -67,7 +40,7 @@ static uint32_t same(struct tower *tower, const uint8_t *block, uint32_t pid, ui
     uint32_t highest = 0;
     for (uint32_t page = 0; page < end; page++) {
         uint32_t frame = frame_of(tower, pid, page), wanted = word_of(parent, page), word;
-        EXPECT(ends(tower, tower_load(pid, address_of(page), 4), TOWER_VALUE, wanted));
+        EXPECT(answers(tower, tower_load(pid, address_of(page), 4), TOWER_VALUE, wanted));
         memcpy(&word, block + (size_t)frame * TOWER_FRAME_BYTES + address_of(page) % TOWER_FRAME_BYTES, sizeof word);
         EXPECT(word == wanted);
         highest = frame > highest ? frame : highest;
@@ -79,9 +52,9 @@ static uint32_t same(struct tower *tower, const uint8_t *block, uint32_t pid, ui
 static void audit(struct tower *tower) {
     struct tower_verdict verdict = {7, 7};
     size_t size = 7;
-    requested = 0;
+    heap_bytes = 0; /* of what a check requests, which comes from no region */
     EXPECT(tower_check(tower, &verdict) == TOWER_SOUND && verdict.number == 7 && verdict.clause == 7);
-    EXPECT(blocks == 0 && requested == (size_t)10 * FRAMES);
+    EXPECT(heap_blocks == 0 && heap_bytes == (size_t)10 * FRAMES);
     EXPECT(tower_image(tower, NULL, 0, &size) == TOWER_IMAGE_TOO_MANY_FRAMES && size == 7);
 }
 
@@ -100,12 +73,11 @@ int main(void) {
     const size_t size = TOWER_BLOCK_BYTES(FRAMES);
     uint8_t *block = mmap(NULL, size, PROT_READ | PROT_WRITE, MAP_PRIVATE | MAP_ANONYMOUS, -1, 0);
     EXPECT(block != MAP_FAILED && tower_frames_within(size) == FRAMES);
-    struct tower_other_heap heap = {other_alloc, other_realloc, other_dealloc};
-    tower_set_other_heap(&heap);
+    tower_set_other_heap(&counting_heap);
     struct tower tower = TOWER_NONE;
     EXPECT(tower_boot_over(FRAMES, &tower, block, size) == TOWER_BOOTED && tower_frames(&tower) == FRAMES);
     for (uint32_t pid = 1; pid <= TENANTS; pid++) {
-        EXPECT(ends(&tower, tower_spawn(0, QUOTA + pid), TOWER_CHILD, pid));
+        EXPECT(answers(&tower, tower_spawn(0, QUOTA + pid), TOWER_CHILD, pid));
     }
     /* in turns, so that their frames are mixed */
     for (uint32_t page = 0; page < PAGES; page += 1000) {
@@ -119,12 +91,12 @@ int main(void) {
     audit(&tower);
 
     /* a page lent, a tenant forked, and one gone */
-    EXPECT(ends(&tower, tower_fork(3, 12000), TOWER_CHILD, TENANTS + 1));
-    EXPECT(ends(&tower, tower_offer(1, FIRST, TENANTS + 1, TOWER_READ_ONLY), TOWER_DONE, 0));
-    EXPECT(ends(&tower, tower_accept(TENANTS + 1, 1, FIRST, FIRST + PAGES + 5000), TOWER_DONE, 0));
-    EXPECT(frame_of(&tower, 1, 0) > 0 && ends(&tower, tower_load(TENANTS + 1, (FIRST + PAGES + 5000) << 12, 4),
-                                              TOWER_VALUE, word_of(1, 0)));
-    EXPECT(ends(&tower, tower_exit(4), TOWER_DONE, 0));
+    EXPECT(answers(&tower, tower_fork(3, 12000), TOWER_CHILD, TENANTS + 1));
+    EXPECT(answers(&tower, tower_offer(1, FIRST, TENANTS + 1, TOWER_READ_ONLY), TOWER_DONE, 0));
+    EXPECT(answers(&tower, tower_accept(TENANTS + 1, 1, FIRST, FIRST + PAGES + 5000), TOWER_DONE, 0));
+    EXPECT(frame_of(&tower, 1, 0) > 0);
+    EXPECT(answers(&tower, tower_load(TENANTS + 1, (FIRST + PAGES + 5000) << 12, 4), TOWER_VALUE, word_of(1, 0)));
+    EXPECT(answers(&tower, tower_exit(4), TOWER_DONE, 0));
     EXPECT(same(&tower, block, TENANTS + 1, 3, PAGES) > TOWER_MAX_FRAMES);
     fill(&tower, 2, PAGES, 2 * PAGES);
     same(&tower, block, 1, 1, PAGES);

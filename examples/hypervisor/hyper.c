@@ -11,7 +11,7 @@
 #include "trial.h"
 #include "wrong.h"
 
-enum { RUNNING_MAX = 16, NOBODY = 255, NONE_LEFT = 254 };
+enum { RUNNING_MAX = 16, NOBODY = 255, NONE_LEFT = 254, LINES_MAX = 20, IMAGES_MAX = 4 };
 enum { SLICES = 5, EXITS = 1000, WALKS = 10000, EVENTS = 20000, TURNS = 4000, ROUNDS = 4 };
 
 static struct tower tower = TOWER_NONE;
@@ -40,13 +40,15 @@ static struct guest {
     uint32_t slices; /* since its last call */
     uint32_t exits;
     uint32_t sleeps_until; /* this number is announced; 0: it has turns */
+    uint32_t told; /* the highest number that was announced to it */
     struct stop last; /* its last page fault, if it made no call after it */
     struct guest_cpu cpu;
 } guests[RUNNING_MAX];
 
 static _Atomic uint32_t running; /* how many guests run, or wait for a turn */
 static uint32_t page_faults, stopped, slices_allowed = SLICES;
-static uint32_t told; /* the highest number that a guest announced */
+static uint32_t images; /* that guests had written */
+static uint32_t lines[RUNNING_MAX]; /* that the first process's child and all that descend from it have written */
 
 extern const struct {
     const uint8_t *begin, *end;
@@ -170,35 +172,93 @@ static void page_fault(uint32_t pid, struct guest *guest) {
 
 /* ---- Calls */
 
-/* Prints a line of a guest's text, read from its process's memory: all that the process may load of it. */
+/* The first process, or its child from which the process descends. */
+static uint32_t family_of(uint32_t pid) {
+    struct tower_container container;
+    while (tower_container(&tower, pid, &container) && container.parent != 0) {
+        pid = container.parent;
+    }
+    return pid;
+}
+
+/* Prints a line of a guest's text, read from its process's memory: all that the process may load of it. It prints no more
+ * than so many lines of a family, as each stops the other processors. */
 static struct tower_reply write(uint32_t pid, uint32_t address, uint32_t bytes) {
     uint8_t text[100];
-    struct tower_reply stop = {0};
+    struct tower_reply stop = {.kind = TOWER_NO_EVENT};
     size_t moved = 0, count = bytes < sizeof text ? bytes : sizeof text;
+    uint32_t *written = &lines[family_of(pid) % RUNNING_MAX];
+    if (*written == LINES_MAX) {
+        return stop;
+    }
+    ++*written;
     stop_others(); /* its bytes are of one moment */
     need(tower_read(&tower, pid, address, text, count, &moved, &stop), "a core answers");
     others_go_on();
     say("[%u] ", pid);
     for (size_t at = 0; at < moved; at++) {
-        say("%c", text[at]);
+        say("%c", text[at] >= ' ' && text[at] <= '~' ? text[at] : '?');
     }
     say("\n");
     return stop;
 }
 
-/* Makes a guest sleep: it has no turn until a guest announces that number or a higher one. */
+/* Writes an image for the host, a few times for all guests. */
+static struct tower_reply write_image_for_guest(void) {
+    if (images == IMAGES_MAX) {
+        return (struct tower_reply){.kind = TOWER_NO_EVENT};
+    }
+    images++;
+    stop_others(); /* its bytes are of one moment */
+    write_image(&tower);
+    others_go_on();
+    return (struct tower_reply){.kind = TOWER_DONE};
+}
+
+/* Makes a guest sleep: it has no turn until that number or a higher one is announced to it. */
 static bool sleep_until(struct guest *guest, uint32_t number) {
-    guest->sleeps_until = number > told ? number : 0;
+    guest->sleeps_until = number > guest->told ? number : 0;
     return guest->sleeps_until != 0;
 }
 
-static void tell_sleepers(uint32_t number) {
-    told = number > told ? number : told;
-    for (uint32_t pid = 0; pid < RUNNING_MAX; pid++) {
-        struct guest *guest = &guests[pid];
-        if (guest->runs && guest->sleeps_until && guest->sleeps_until <= told) {
+static bool share_a_page(uint32_t pid, uint32_t other) {
+    struct tower_page found;
+    uint32_t there;
+    for (uint32_t page = 0; tower_next_page(&tower, pid, page, &page, &found); page++) {
+        if (found.holders > 1 && tower_next_holder(&tower, pid, page, other, 0, &there)) {
+            return true;
+        }
+    }
+    return false;
+}
+
+/* Announces a number to all that share a page with the guest: only they can know what it means. */
+static void announce(uint32_t pid, uint32_t number) {
+    for (uint32_t other = 0; other < RUNNING_MAX; other++) {
+        struct guest *guest = &guests[other];
+        if (!guest->runs || other == pid || number <= guest->told || !share_a_page(pid, other)) {
+            continue;
+        }
+        guest->told = number;
+        if (guest->sleeps_until && guest->sleeps_until <= number) {
             guest->sleeps_until = 0;
-            put_last(&queue, pid);
+            put_last(&queue, other);
+        }
+    }
+}
+
+/* If all guests that are left sleep, none will ever be told what it waits for. */
+static void stop_if_all_sleep(void) {
+    for (uint32_t pid = 0; pid < RUNNING_MAX; pid++) {
+        if (guests[pid].runs && !guests[pid].sleeps_until) {
+            return;
+        }
+    }
+    for (uint32_t pid = RUNNING_MAX; pid-- > 0;) {
+        if (guests[pid].runs) {
+            say("[%u] stopped: all guests that are left sleep\n", pid);
+            bring_here(&kernel, pid); /* its exit is invalidated on this processor */
+            stop(pid);
         }
     }
 }
@@ -221,15 +281,12 @@ static struct tower_reply answer(uint32_t pid, struct guest *guest, const struct
         *over = sleep_until(guest, event->first);
         return done;
     case CALL_TELL:
-        tell_sleepers(event->first);
+        announce(pid, event->first);
         return done;
     case CALL_EXITS:
         return (struct tower_reply){.kind = TOWER_VALUE, .first = guest->exits};
     case CALL_IMAGE:
-        stop_others(); /* its bytes are of one moment */
-        write_image(&tower);
-        others_go_on();
-        return done;
+        return write_image_for_guest();
     case CALL_END:
         end(guest);
         *over = true;
@@ -301,7 +358,6 @@ static uint64_t run(struct guest *guest, uint32_t identifier, uint32_t directory
     uint64_t exit;
     do {
         start_slice();
-        answer_stop();
         need(cache_is_given(this_processor(), identifier, directory), "all that may be kept is what the walks give");
         exit = svm_run(&guest->cpu, identifier);
         cache_keep_accessed(this_processor(), identifier, directory);
@@ -320,6 +376,7 @@ static void turn(uint32_t pid, uint32_t identifier) {
         guest->exits++;
         take_lock();
         over = left_for(exit, pid, guest) || !guest->runs || ++exits == EXITS;
+        stop_if_all_sleep();
         bool goes_on = over && guest->runs && !guest->sleeps_until;
         bool is_alone = goes_on && queue.count == 0 && processors() > 1;
         if (goes_on) {
@@ -368,7 +425,8 @@ static void serve(void) {
         } else if (is_guest_waiting(0)) {
             rest(); /* it waits for a processor that has nothing else to do */
         } else {
-            wait_until(is_guest_waiting, 0, "a processor gets a guest");
+            while (!comes_in_time(is_guest_waiting, 0)) {
+            } /* a guest's turns and calls have no bound of time together, so this wait has none */
         }
     }
 }
@@ -408,11 +466,22 @@ static void try_alone(void) {
     write_image(&tower);
 }
 
+/* Guests that sleep for ever, write in the name of others, and wake others. */
+static void try_rude(void) {
+    say("guests that are rude to others\n");
+    run_guests(PROGRAM_RUDE);
+    say("all guests ended, and %u were stopped\n", stopped);
+    tower_free(&tower);
+    stopped = 0;
+}
+
 /* Lines that depend on the schedule begin with a word of their own. */
 static void try_several(void) {
     slices_allowed = 20 * SLICES; /* the host's clock runs even while a processor's thread doesn't */
     start_processors(svm_start);
-    say("schedule: %u processors\nguests that run at once, over the core's page tables\n", processors());
+    say("schedule: %u processors\n", processors());
+    try_rude();
+    say("guests that run at once, over the core's page tables\n");
     run_guests(PROGRAM_CROWD);
     say("all guests ended, and %u were stopped\n", stopped);
     say("schedule: %u page faults\n", page_faults);

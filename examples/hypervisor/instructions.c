@@ -37,6 +37,9 @@ static const struct {
     {2, {0x0f, 0x32}},             /* rdmsr */
     {2, {0x0f, 0x31}},             /* rdtsc */
     {2, {0x0f, 0x33}},             /* rdpmc */
+    {3, {0x0f, 0x01, 0xf9}},       /* rdtscp */
+    {3, {0x0f, 0x01, 0xfd}},       /* rdpru */
+    {3, {0x0f, 0x01, 0xd0}},       /* xgetbv */
     {2, {0x0f, 0xa2}},             /* cpuid */
     {2, {0x0f, 0x05}},             /* syscall */
     {2, {0x0f, 0x34}},             /* sysenter */

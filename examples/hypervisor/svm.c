@@ -134,7 +134,7 @@ void svm_open(struct guest_cpu *cpu, uint32_t directory, uint32_t eip, uint32_t 
     set32(cpu, INTERCEPT_EXCEPTIONS, 0xffffffff);
     /* All except: a virtual interrupt 4, a selective write of CR0 5, PUSHF 16, POPF 17, PAUSE 23. */
     set32(cpu, INTERCEPT_FIRST, ~(1u << 4 | 1u << 5 | 1u << 16 | 1u << 17 | 1u << 23));
-    set32(cpu, INTERCEPT_SECOND, 0x3fff);
+    set32(cpu, INTERCEPT_SECOND, 0x7fff); /* all, up to RDPRU, which has bit 14 */
     set64(cpu, IO_MAP, (uint64_t)all_ones);
     set64(cpu, MSR_MAP, (uint64_t)all_ones);
     set32(cpu, VIRTUAL_INTERRUPTS + 0, 1u << 24); /* the guest's IF masks no interrupt of ours */

@@ -31,6 +31,10 @@ enum how {
 
 enum { PROGRAM_AT = 0x40000000, STACK_TOP = 0x40100000 };
 
+/* The number of the first program: all programs run, or those of a trial. With any other only hostile programs run,
+ * which differ with it. */
+enum trial { TRIAL_OF_ALL = 0, TRIAL_OF_TURNS = 1001 };
+
 enum program {
     PROGRAM_INIT,
     PROGRAM_HELLO,
@@ -45,6 +49,8 @@ enum program {
     PROGRAM_TEAM,
     PROGRAM_FAMILY,
     PROGRAM_HOSTILE,
+    PROGRAM_NEIGHBOR,
+    PROGRAM_WIDE,
     PROGRAMS
 };
 

@@ -2,10 +2,6 @@
 
 #include "place.h"
 #include "tower_images.h"
-#include "tower_region_shadow.h"
-
-/* The pool has fewer frames than all processes of the trial would fill: it becomes full at times. */
-enum { POOL_FRAMES = 96 };
 
 struct tower core = TOWER_NONE;
 struct tower_shadow shadow = TOWER_SHADOW_NONE;
@@ -16,15 +12,6 @@ void open_core(void) {
 
 uint64_t core_physical(void) {
     return physical_of(memory_of(&core));
-}
-
-/* ---- The shadow tables */
-
-void open_shadow(const uint64_t *half) {
-    static _Alignas(FRAME) uint8_t block[TOWER_SHADOW_BLOCK_BYTES(POOL_FRAMES)];
-    uint32_t status = tower_shadow_open_over(POOL_FRAMES, physical_of(block), core_physical(), half, &shadow, block,
-                                             sizeof block);
-    need(status == TOWER_SHADOW_OPENED, "shadow tables are opened");
 }
 
 uint64_t shadow_root(uint32_t pid) {

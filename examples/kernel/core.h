@@ -14,8 +14,6 @@ void open_core(void);
 /* The physical address of its frame 0. */
 uint64_t core_physical(void);
 
-/* Opens the shadow tables, over another block. Each root has this half, of 256 words, as its upper one. */
-void open_shadow(const uint64_t *half);
 /* Returns the root of a process, for CR3; 0 if it has none. It has one from its first fill until it is forgotten. */
 uint64_t shadow_root(uint32_t pid);
 

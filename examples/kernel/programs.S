@@ -22,6 +22,8 @@
     program team
     program family
     program hostile
+    program neighbor
+    program wide
     .balign 8
     .globl programs
 programs:                               /* in the order of calls.h */
@@ -38,4 +40,6 @@ programs:                               /* in the order of calls.h */
     entry team
     entry family
     entry hostile
+    entry neighbor
+    entry wide
     .section .note.GNU-stack, "", @progbits

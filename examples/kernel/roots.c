@@ -118,7 +118,10 @@ set runners(void) {
 void stop_these(set which) {
     for (uint32_t number = 0; number < MOST_PROCESSORS; number++) {
         if (which >> number & 1) {
+            uint64_t since = moment();
             stop_processor(number);
+            uint32_t took = (uint32_t)((moment() - since) / 1000);
+            counts.longest = took > counts.longest ? took : counts.longest;
             counts.stopped++;
         }
     }
@@ -134,12 +137,17 @@ void release_these(set which, struct order order) {
 
 /* The others continue at once: they come back to a root only with the lock. */
 void leave_everywhere(uint32_t pid) {
-    set which = WRONG_FULL && pid == NOBODY ? 0 : keepers_of(pid);
+    set which = keepers_of(pid);
+    counts.left++;
     stop_these(which);
     release_these(which, (struct order){drop_root_here, NOBODY, 0});
-    if (!WRONG_ROOT) {
+    if (!WRONG_ROOT && keeps(this_processor(), pid)) {
         drop_root_here(NOBODY, 0);
     }
+    need_left(pid);
+}
+
+void need_left(uint32_t pid) {
     for (uint32_t number = 0; number < MOST_PROCESSORS; number++) {
         need(!keeps(number, pid), "no processor is in tables that are freed");
     }

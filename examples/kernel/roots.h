@@ -30,6 +30,9 @@ void invalidate_here(uint32_t pid, uint32_t page);
  * it. A thread of it that runs on another processor faults, and waits for the lock. */
 void leave_everywhere(uint32_t pid);
 
+/* Ends the run if a processor keeps anything of this process, or of any for NOBODY. */
+void need_left(uint32_t pid);
+
 /* A set of processors has a bit for each. These two are of others than this one: those that may cache something of a
  * process, and those that run any. */
 typedef uint32_t set;
@@ -40,7 +43,9 @@ void stop_these(set which);
 void release_these(set which, struct order order);
 
 struct root_counts {
+    uint32_t left;        /* times that all processors left a process's tables */
     uint32_t stopped;     /* interrupts for another processor */
+    uint32_t longest;     /* until that stood still, in thousands of ticks */
     uint32_t invalidated; /* a page, or all, on any processor */
 };
 struct root_counts root_counts(void);

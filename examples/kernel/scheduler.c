@@ -11,11 +11,17 @@ struct turns turns_given(void) {
     return turns;
 }
 
+/* Notes a time in thousands of ticks if it is the longest. */
+static void note_time(uint64_t since, uint32_t *longest) {
+    uint32_t took = (uint32_t)((moment() - since) / 1000);
+    *longest = took > *longest ? took : *longest;
+}
+
 static bool is_interrupt(uint64_t vector) {
     return vector >= EXCEPTIONS && vector != VECTOR_CALL;
 }
 
-/* An exception that is no page fault ends the process. */
+/* An exception ends the process, unless it is a page fault that is explained. */
 static void exception_of(const struct thread *it) {
     say("[%s] ended: exception %u\n", process_of(it->pid)->name, (uint32_t)it->cpu.vector);
     end_process(it->pid, ENDED_EXCEPTION, (uint32_t)it->cpu.vector);
@@ -27,8 +33,7 @@ static bool handle_trap(struct thread *it) {
     if (it->state == DYING) {
         return true;
     }
-    if (it->cpu.vector == VECTOR_PAGE_FAULT) {
-        page_fault(it);
+    if (it->cpu.vector == VECTOR_PAGE_FAULT && page_fault(it)) {
         return it->state != RUNNING;
     }
     it->last = (struct fault){0};
@@ -93,13 +98,16 @@ void serve(void) {
     arrive();
     while (!is_shut_down()) {
         struct thread *it = take_first();
+        uint64_t since = moment();
         if (it) {
+            note_time(it->queued, &turns.longest_wait);
             bring_here(it->pid);
         }
         let_go();
         share_queue();
         if (it) {
             run(it);
+            note_time(since, &turns.longest);
             end_turn(it);
         } else {
             (void)comes_in_time(is_work, 0);

@@ -1,6 +1,7 @@
 #include "spaces.h"
 
 #include "audit.h"
+#include "pool.h"
 #include "roots.h"
 #include "wrong.h"
 
@@ -11,11 +12,7 @@ struct spaces_counts spaces_counts(void) {
 }
 
 uint32_t forgets(void) {
-    return counts.pages + counts.processes + counts.all;
-}
-
-void open_spaces(void) {
-    open_shadow(open_roots());
+    return counts.pages + counts.processes + root_counts().left;
 }
 
 /* ---- What an event ended */
@@ -190,20 +187,13 @@ static uint32_t try_fault(uint32_t pid, uint64_t address, bool write, struct tow
     return handled;
 }
 
-/* Fewer than four frames of the pool are free: all is forgotten. */
-static void make_room(void) {
-    leave_everywhere(NOBODY);
-    need(tower_shadow_forget_all(&shadow), "the shadow tables forget");
-    counts.all++;
-}
-
 bool handle_fault(uint32_t pid, uint64_t address, bool write, struct tower_reply *reply) {
     uint32_t handled = try_fault(pid, address, write, reply);
-    if (handled == TOWER_SHADOW_FULL) {
-        make_room();
+    while (handled == TOWER_SHADOW_FULL) {
+        make_space(pid);
         handled = try_fault(pid, address, write, reply);
     }
-    need(handled == TOWER_SHADOW_FILLED || handled == TOWER_SHADOW_STOPPED, "the empty tables have space for a page");
+    need(handled == TOWER_SHADOW_FILLED || handled == TOWER_SHADOW_STOPPED, "a fault is handled");
     if (handled == TOWER_SHADOW_FILLED) {
         counts.fills++;
         need_root(pid);

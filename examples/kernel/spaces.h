@@ -6,9 +6,6 @@
 
 #include "core.h"
 
-/* Opens the shadow tables, once the core is booted. */
-void open_spaces(void);
-
 /* Makes an event of a process. Other threads of it may run meanwhile, except as docs/THEOREMS.md says. */
 struct tower_reply make_event(struct tower_event event);
 
@@ -24,11 +21,11 @@ struct tower_reply load_bytes(uint32_t pid, uint32_t address, const uint8_t *byt
 bool handle_fault(uint32_t pid, uint64_t address, bool write, struct tower_reply *reply);
 
 struct spaces_counts {
-    uint32_t fills;                 /* entries filled */
-    uint32_t pages, processes, all; /* entries forgotten: of pages, of processes, and of all */
+    uint32_t fills;            /* entries filled */
+    uint32_t pages, processes; /* entries that events forgot: of pages, and of processes */
 };
 struct spaces_counts spaces_counts(void);
-/* How often anything was forgotten. */
+/* How often anything was forgotten, or processors left tables: a page that was filled may fault again then. */
 uint32_t forgets(void);
 
 #endif

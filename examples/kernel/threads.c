@@ -32,6 +32,14 @@ uint32_t threads_of(uint32_t pid) {
     return count;
 }
 
+uint32_t running_threads(uint32_t pid) {
+    uint32_t count = 0;
+    for (const struct thread *it = threads; it < threads + THREADS; it++) {
+        count += it->state == RUNNING && it->pid == pid;
+    }
+    return count;
+}
+
 struct thread *first_thread(uint32_t pid, const struct registers *cpu) {
     for (struct thread *it = threads; it < threads + THREADS; it++) {
         if (it->state == FREE) {
@@ -79,6 +87,7 @@ void end_threads(uint32_t pid) {
 
 void put_last(struct thread *it) {
     it->state = QUEUED;
+    it->queued = moment();
     queue.at[queue.count++] = it;
 }
 

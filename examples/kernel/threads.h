@@ -27,6 +27,7 @@ struct thread {
     enum thread_state state;
     uint32_t pid;
     struct fault last; /* its last page fault, if nothing came in between */
+    uint64_t queued;   /* the moment since which it waits for a processor */
     struct registers cpu;
 };
 
@@ -38,6 +39,8 @@ struct thread *another_thread(uint32_t pid, const struct registers *cpu);
 
 /* How many threads of a process there are. */
 uint32_t threads_of(uint32_t pid);
+/* How many of them run, or are in the kernel for a trap. */
+uint32_t running_threads(uint32_t pid);
 /* A thread of a process that waits for a child, or null. */
 struct thread *waiting_thread(uint32_t pid);
 /* Ends all threads of a process. Those that run become DYING. */

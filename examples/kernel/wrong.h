@@ -24,6 +24,9 @@
 #ifndef WRONG_ADDRESS
 #define WRONG_ADDRESS 0 /* the core gets the lower half of an address of 64 bits */
 #endif
+#ifndef WRONG_USER
+#define WRONG_USER 0 /* a fault whose code lacks the user bit is taken for an access of the process */
+#endif
 #ifndef WRONG_DIRTY
 #define WRONG_DIRTY 0 /* a load of a page that the process may write to is handled as a store */
 #endif
@@ -40,7 +43,13 @@
 #define WRONG_FORK 0 /* the other processors run on while a fork copies */
 #endif
 #ifndef WRONG_FULL
-#define WRONG_FULL 0 /* all tables are freed, as the pool is full, while other processors are in them */
+#define WRONG_FULL 0 /* tables are freed, as the pool is full, while other processors are in them */
+#endif
+#ifndef WRONG_MOST
+#define WRONG_MOST 0 /* all processes lose their tables when the pool is full, and not the one that has taken most */
+#endif
+#ifndef WRONG_LEAST
+#define WRONG_LEAST 0 /* the pool has less than one instruction on each of four processors can need */
 #endif
 #ifndef WRONG_ROOT
 #define WRONG_ROOT 0 /* the tables of a process that exits are freed while its root is in CR3 */

@@ -4,6 +4,7 @@
 #include <stdatomic.h>
 
 #include "place.h"
+#include "wrong_machine.h"
 
 enum { APIC_ID = 0x20, APIC_EOI = 0xb0, APIC_SPURIOUS = 0xf0, APIC_COMMAND = 0x300, APIC_TARGET = 0x310 };
 enum { APIC_TIMER = 0x320, APIC_LINT0 = 0x350, APIC_FIRST = 0x380, APIC_NOW = 0x390, APIC_DIVIDE = 0x3e0 };
@@ -60,7 +61,7 @@ static volatile uint32_t *apic(uint32_t at) {
     return at_physical(0xfee00000u + at);
 }
 
-static uint64_t moment(void) {
+uint64_t moment(void) {
     uint32_t low, high;
     __asm__ volatile("rdtsc" : "=a"(low), "=d"(high) : : "memory");
     return low | (uint64_t)high << 32;
@@ -78,8 +79,11 @@ static void interrupt(const struct processor *it) {
 
 /* ---- Waits */
 
+/* Rests until an interrupt, or that count. A slice that is not over ends when it would without the rest: its count goes
+ * on. If its interrupt is pending already, that is taken here and noted. */
 static void rest_for(uint32_t count) {
-    *apic(APIC_FIRST) = count;
+    uint32_t left = WRONG_REST ? 0 : *apic(APIC_NOW);
+    *apic(APIC_FIRST) = left && left < count ? left : count;
     __asm__ volatile("sti; hlt; cli" : : : "memory");
 }
 
@@ -142,11 +146,27 @@ void interrupted(uint32_t vector) {
     }
 }
 
-/* An interrupt of an earlier countdown is taken once the new one counts, so that none is left. */
+/* As if the host paused this processor where it takes interrupts. */
+static void pass_with_interrupts(uint64_t ticks) {
+    __asm__ volatile("sti" : : : "memory");
+    pass(ticks);
+    __asm__ volatile("cli" : : : "memory");
+}
+
+/* An interrupt of an earlier countdown is taken once the new one counts, so that none is left. The host may pause
+ * this processor meanwhile, and then the new one's only interrupt is taken, too: a count of 0 shows that. A stop that
+ * is taken here comes with no other interrupt, and is answered here. */
 void start_slice(void) {
-    *apic(APIC_FIRST) = SLICE_COUNT;
-    take_interrupts();
-    me()->slice_over = 0;
+    do {
+        *apic(APIC_FIRST) = SLICE_COUNT;
+        take_interrupts();
+        if (WRONG_SWALLOW) {
+            pass_with_interrupts(3000000);
+        } else {
+            answer_stop();
+        }
+        me()->slice_over = 0;
+    } while (*apic(APIC_NOW) == 0 && !WRONG_SLICE);
 }
 
 bool is_slice_over(void) {
@@ -197,8 +217,7 @@ _Noreturn void begin_other(uint32_t number) {
     }
 }
 
-/* Returns how many processors the machine has, as QEMU reports it. */
-static uint32_t processors_there(void) {
+uint32_t processors_there(void) {
     enum { SELECTOR = 0x510, DATA = 0x511, PROCESSORS = 5 };
     out16(SELECTOR, PROCESSORS);
     uint32_t low = in8(DATA);

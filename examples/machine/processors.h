@@ -14,6 +14,8 @@ void begin_first_processor(void);
 /* Starts all others, by INIT and SIPI. Each does `first`, and then waits for work. */
 void start_processors(void (*first)(void));
 uint32_t processors(void);
+/* How many the machine has, as QEMU reports it: before they start, too. */
+uint32_t processors_there(void);
 uint32_t this_processor(void);
 /* Runs `work` on each processor, this one among them. Returns when all have finished. */
 void on_all(void (*work)(void));
@@ -25,7 +27,10 @@ void begin_gates(uint32_t number);
 /* Does both for an interrupt that came while a process or a guest ran. */
 void interrupted(uint32_t vector);
 
-/* The timer interrupts 10 ms from now, and not before. The interrupt ends a guest's run. */
+/* The processor's ticks since it began. */
+uint64_t moment(void);
+/* The timer interrupts 10 ms from now, and not before. The interrupt ends a guest's run, also if this processor waits
+ * or rests meanwhile. A stop that came is answered. */
 void start_slice(void);
 /* Returns whether the slice is over. */
 bool is_slice_over(void);

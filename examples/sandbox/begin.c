@@ -51,7 +51,8 @@ void tenant_begin(const struct asked *asked) {
         placing.refused = (struct tower_reply){.kind = TOWER_NO_EVENT};
     }
     if (child.kind == TOWER_CHILD && loads(asked->path, &placing, &start.eip)) {
-        tenant_enter(placing.pid, asked->name, &start, asked->nanoseconds);
+        tenant_enter(placing.pid, asked->name, &start);
+        tenants[placing.pid].most = asked->nanoseconds;
         return;
     }
     printf("[%s] not begun: %s\n", asked->name, why_of(&placing.refused));

@@ -4,6 +4,7 @@
 #include <string.h>
 
 #include "kernel.h"
+#include "output.h"
 #include "tenants.h"
 
 enum { MOST_PIECE = 4096 };
@@ -13,15 +14,14 @@ static struct tower_reply refused(uint32_t cause) {
     return (struct tower_reply){.kind = TOWER_REFUSED, .first = cause};
 }
 
-/* 64 KiB of a tenant's text are taken, and no more. */
 static struct tower_reply write_text(uint32_t pid, uint32_t address, uint32_t count) {
     static char piece[MOST_PIECE];
     struct tower_reply stop = no_event;
-    if (count > MOST_PIECE || tenants[pid].text + count > MOST_TEXT) {
+    if (count > MOST_PIECE) {
         return no_event;
     }
-    tenant_text(pid, piece, kernel_read(pid, address, piece, count, &stop));
-    return stop;
+    size_t read = kernel_read(pid, address, piece, count, &stop);
+    return output_text(pid, piece, read) ? stop : no_event;
 }
 
 /* The first offer to the process, of givers and pages from these on. */
@@ -41,12 +41,8 @@ static struct tower_reply offered(uint32_t pid, uint32_t giver, uint32_t page) {
 
 static struct tower_reply fork_tenant(uint32_t pid, const struct tower_event *event) {
     struct tower_reply reply = kernel_event(*event);
-    if (reply.kind == TOWER_CHILD) {
-        struct registers registers;
-        engine_registers(&kernel.engines[pid], &registers);
-        registers.general[EAX] = TOWER_DONE;
-        registers.general[EBX] = registers.general[ECX] = registers.general[EDX] = registers.general[ESI] = 0;
-        tenant_enter(reply.first, child_name(pid), &registers, tenants[pid].most);
+    if (reply.kind == TOWER_CHILD && !tenant_fork(pid, reply.first)) {
+        tenant_end(reply.first, "");
     }
     return reply;
 }
@@ -54,9 +50,8 @@ static struct tower_reply fork_tenant(uint32_t pid, const struct tower_event *ev
 /* Children that run nothing end with their parent: a spawn made them, and no program is in them. */
 static struct tower_reply exit_tenant(uint32_t pid, const struct tower_event *event) {
     for (uint32_t child = 1; child < TOWER_PROCESSES; child++) {
-        struct tower_processes exited;
         if (kernel_is_child(child, pid) && !tenants[child].runs) {
-            kernel_end(child, &exited);
+            tenant_end(child, "");
         }
     }
     struct tower_reply reply = kernel_event(*event);

@@ -1,274 +1,309 @@
+#define _GNU_SOURCE
 #include "engine.h"
 
-#include <setjmp.h>
+#include <errno.h>
+#include <fcntl.h>
 #include <signal.h>
+#include <spawn.h>
+#include <stddef.h>
+#include <stdio.h>
 #include <stdlib.h>
 #include <string.h>
+#include <sys/mman.h>
+#include <sys/resource.h>
+#include <sys/socket.h>
+#include <sys/wait.h>
 
+#include "frames.h"
 #include "need.h"
-#include "regions.h"
 
-static struct listener listener;
-static struct engine *running; /* for what Unicorn's hooks say */
-static volatile sig_atomic_t may_give_up;
-static sigjmp_buf giving_up;
+/* An engine that doesn't report is late: after so much processor time of its own, or so long by the clock. */
+static const uint64_t LATE_TIME = 1000000000, LATE_CLOCK = 10000000000;
 
-/* ---- Registers */
+static char program[4096];
+static uint32_t open_count;
 
-static const int general[8] = {UC_X86_REG_EAX, UC_X86_REG_ECX, UC_X86_REG_EDX, UC_X86_REG_EBX,
-                               UC_X86_REG_ESP, UC_X86_REG_EBP, UC_X86_REG_ESI, UC_X86_REG_EDI};
-static const int segments[4] = {UC_X86_REG_DS, UC_X86_REG_ES, UC_X86_REG_FS, UC_X86_REG_GS};
+/* ---- Time */
 
-static void get(const struct engine *it, int name, void *to) {
-    need_uc(uc_reg_read(it->uc, name, to), "a register is read");
+static uint64_t now(clockid_t clock) {
+    struct timespec it = {0};
+    clock_gettime(clock, &it);
+    return (uint64_t)it.tv_sec * 1000000000 + (uint64_t)it.tv_nsec;
 }
 
-static void set(struct engine *it, int name, const void *from) {
-    need_uc(uc_reg_write(it->uc, name, from), "a register is written");
+static uint64_t time_of(const struct engine *it) {
+    clockid_t clock;
+    return clock_getcpuclockid(it->process, &clock) == 0 ? now(clock) : it->time;
 }
 
-static void set_word(struct engine *it, int name, uint32_t value) {
-    set(it, name, &value);
+static void owe(struct engine *it, uint64_t time) {
+    it->owed += time > it->time ? time - it->time : 0;
+    it->time = time > it->time ? time : it->time;
 }
 
-void engine_registers(const struct engine *it, struct registers *to) {
-    memset(to, 0, sizeof *to);
-    for (int i = 0; i < 8; i++) {
-        get(it, general[i], &to->general[i]);
-        get(it, UC_X86_REG_FP0 + i, to->x87[i]);
-        get(it, UC_X86_REG_XMM0 + i, to->xmm[i]);
+uint64_t engine_time(struct engine *it) {
+    if (engine_is_open(it)) {
+        owe(it, time_of(it));
     }
-    for (int i = 0; i < 4; i++) {
-        get(it, segments[i], &to->segments[i]);
+    uint64_t owed = it->owed;
+    it->owed = 0;
+    return owed;
+}
+
+uint64_t engine_memory(const struct engine *it) {
+    char path[64];
+    unsigned long all = 0, resident = 0, shared = 0;
+    snprintf(path, sizeof path, "/proc/%d/statm", it->process);
+    FILE *file = fopen(path, "re");
+    if (file && fscanf(file, "%lu %lu %lu", &all, &resident, &shared) != 3) {
+        resident = shared = 0;
     }
-    get(it, UC_X86_REG_EIP, &to->eip);
-    get(it, UC_X86_REG_EFLAGS, &to->eflags);
-    get(it, UC_X86_REG_MXCSR, &to->mxcsr);
-    get(it, UC_X86_REG_FPCW, &to->control);
-    get(it, UC_X86_REG_FPSW, &to->status);
-    get(it, UC_X86_REG_FPTAG, &to->tags);
-}
-
-/* Of the flags only those that a program in user mode can change. */
-void engine_set_registers(struct engine *it, const struct registers *from) {
-    enum { USER_FLAGS = 0x240cd5, FIXED_FLAGS = 0x202 };
-    for (int i = 0; i < 8; i++) {
-        set(it, general[i], &from->general[i]);
-        set(it, UC_X86_REG_FP0 + i, from->x87[i]);
-        set(it, UC_X86_REG_XMM0 + i, from->xmm[i]);
+    if (file) {
+        fclose(file);
     }
-    for (int i = 0; i < 4; i++) {
-        if (!from->segments[i]) {
-            set(it, segments[i], &from->segments[i]);
-        }
-    }
-    set_word(it, UC_X86_REG_EIP, from->eip);
-    set_word(it, UC_X86_REG_EFLAGS, (from->eflags & USER_FLAGS) | FIXED_FLAGS);
-    set(it, UC_X86_REG_MXCSR, &from->mxcsr);
-    set(it, UC_X86_REG_FPCW, &from->control);
-    set(it, UC_X86_REG_FPSW, &from->status);
-    set(it, UC_X86_REG_FPTAG, &from->tags);
+    return (uint64_t)(resident - shared) * PAGE_BYTES;
 }
 
-uint32_t engine_eip(const struct engine *it) {
-    uint32_t eip = 0;
-    get(it, UC_X86_REG_EIP, &eip);
-    return eip;
-}
+/* ---- Its process */
 
-static int words_of_call[] = {UC_X86_REG_EAX, UC_X86_REG_EBX, UC_X86_REG_ECX, UC_X86_REG_EDX, UC_X86_REG_ESI};
-
-struct words engine_words(const struct engine *it) {
-    struct words words;
-    void *places[] = {&words.eax, &words.ebx, &words.ecx, &words.edx, &words.esi};
-    need_uc(uc_reg_read_batch(it->uc, words_of_call, places, 5), "registers are read");
-    return words;
-}
-
-void engine_set_words(struct engine *it, struct words words) {
-    void *const places[] = {&words.eax, &words.ebx, &words.ecx, &words.edx, &words.esi};
-    need_uc(uc_reg_write_batch(it->uc, words_of_call, places, 5), "registers are written");
-}
-
-/* ---- Hooks */
-
-static void on_interrupt(uc_engine *uc, uint32_t number, void *data) {
-    static char what[] = "exception 00";
-    (void)uc, (void)data;
-    if (number == 0x80) {
-        may_give_up = false;
-        listener.call();
-        may_give_up = true;
-        return;
-    }
-    what[10] = (char)('0' + number / 10 % 10);
-    what[11] = (char)('0' + number % 10);
-    listener.stray(number < 32 ? what : "an interrupt that is no call", engine_eip(running));
-}
-
-static bool on_access(uc_engine *uc, uc_mem_type type, uint64_t address, int size, int64_t value, void *data) {
-    enum access kind = type == UC_MEM_WRITE_UNMAPPED || type == UC_MEM_WRITE_PROT ? ACCESS_STORE
-                       : type == UC_MEM_FETCH_UNMAPPED || type == UC_MEM_FETCH_PROT ? ACCESS_FETCH : ACCESS_LOAD;
-    (void)uc, (void)data;
-    may_give_up = false;
-    bool is_there = listener.access(kind, (uint32_t)address, (uint32_t)size, (uint64_t)value);
-    may_give_up = true;
-    return is_there;
-}
-
-static void on_step(uc_engine *uc, uint64_t address, uint32_t size, void *data) {
-    (void)address, (void)size, (void)data;
-    if (running->is_unsettled) {
-        uc_emu_stop(uc);
-    } else {
-        listener.step();
-    }
-}
-
-static uint32_t on_in(uc_engine *uc, uint32_t port, int size, void *data) {
-    (void)uc, (void)port, (void)size, (void)data;
-    listener.outlaw("a port");
-    return 0;
-}
-
-static void on_out(uc_engine *uc, uint32_t port, int size, uint32_t value, void *data) {
-    (void)uc, (void)port, (void)size, (void)value, (void)data;
-    listener.outlaw("a port");
-}
-
-static void on_system_call(uc_engine *uc, void *data) {
-    (void)uc, (void)data;
-    listener.outlaw("another system call");
-}
-
-static void hook(struct engine *it, int kind, void *function) {
-    uc_hook made;
-    need_uc(uc_hook_add(it->uc, &made, kind, function, NULL, 1, 0), "a hook");
-}
-
-static void hook_instruction(struct engine *it, void *function, int instruction) {
-    uc_hook made;
-    need_uc(uc_hook_add(it->uc, &made, UC_HOOK_INSN, function, NULL, 1, 0, instruction), "a hook");
-}
-
-static void add_hooks(struct engine *it) {
-    hook(it, UC_HOOK_INTR, (void *)on_interrupt);
-    hook(it, UC_HOOK_MEM_INVALID, (void *)on_access);
-    hook_instruction(it, (void *)on_in, UC_X86_INS_IN);
-    hook_instruction(it, (void *)on_out, UC_X86_INS_OUT);
-    hook_instruction(it, (void *)on_system_call, UC_X86_INS_SYSCALL);
-    hook_instruction(it, (void *)on_system_call, UC_X86_INS_SYSENTER);
-    hook(it, listener.of_each_instruction ? UC_HOOK_CODE : UC_HOOK_BLOCK, (void *)on_step);
-}
-
-/* ---- Into user mode */
-
-enum { ENTRY_CODE = 0x100, ENTRY_STACK = 0x800 };
-static const uint32_t ENTRY = 0xfffff000u;
-
-static void describe(uint8_t *page, uint32_t index, uint32_t low, uint32_t high) {
-    memcpy(page + 8 * index, &low, 4);
-    memcpy(page + 8 * index + 4, &high, 4);
-}
-
-/* A page of segments of 4 GiB, of a few instructions of ring 0 that end in an IRET to ring 3, and of their stack. */
-static uint8_t *entry_page(void) {
-    static uint8_t page[PAGE_BYTES] __attribute__((aligned(PAGE_BYTES)));
-    static const uint8_t code[] = {
-        0xb8, 0x04, 0x06, 0x00, 0x00,                   /* mov eax, TSD | OSFXSR | OSXMMEXCPT: no clock for tenants */
-        0x0f, 0x22, 0xe0,                               /* mov cr4, eax */
-        0xb8, 0x23, 0x00, 0x00, 0x00,                   /* mov eax, 0x23 */
-        0x8e, 0xd8, 0x8e, 0xc0, 0x8e, 0xe0, 0x8e, 0xe8, /* mov ds, es, fs, gs */
-        0xcf,                                           /* iret */
-    };
-    static const uint32_t stack[] = {0xfffff000u, 0x1b, 0x202, 0, 0x23}; /* EIP, CS, EFLAGS, ESP, SS */
-    describe(page, 1, 0x0000ffff, 0x00cf9b00); /* ring 0: code, data; ring 3: code, data */
-    describe(page, 2, 0x0000ffff, 0x00cf9300);
-    describe(page, 3, 0x0000ffff, 0x00cffb00);
-    describe(page, 4, 0x0000ffff, 0x00cff300);
-    memcpy(page + ENTRY_CODE, code, sizeof code);
-    memcpy(page + ENTRY_STACK, stack, sizeof stack);
-    return page;
-}
-
-/* The page is there only until ring 3 is entered. As the table of segments then has a limit of 0, only the null segment
- * can be loaded later. */
-static void enter_user_mode(struct engine *it) {
-    uc_x86_mmr table = {.base = ENTRY, .limit = 5 * 8 - 1}, none = {0};
-    uint16_t data = 0x10, code = 0x08, is = 0;
-    need_uc(uc_mem_map_ptr(it->uc, ENTRY, PAGE_BYTES, UC_PROT_ALL, entry_page()), "the entry's page");
-    set(it, UC_X86_REG_GDTR, &table);
-    set(it, UC_X86_REG_SS, &data);
-    set(it, UC_X86_REG_CS, &code);
-    set_word(it, UC_X86_REG_ESP, ENTRY + ENTRY_STACK);
-    need_uc(uc_emu_start(it->uc, ENTRY + ENTRY_CODE, ENTRY, 0, 0), "the entry into user mode");
-    need_uc(uc_ctl_remove_cache(it->uc, ENTRY, (uint64_t)ENTRY + PAGE_BYTES), "the entry's code");
-    need_uc(uc_mem_unmap(it->uc, ENTRY, PAGE_BYTES), "the entry's page is taken out");
-    need_uc(uc_ctl_exits_enable(it->uc), "no address ends a run");
-    set(it, UC_X86_REG_GDTR, &none);
-    set(it, UC_X86_REG_IDTR, &none);
-    get(it, UC_X86_REG_CS, &is);
-    need((is & 3) == 3, "the engine is in user mode");
-}
-
-/* ---- Engines */
-
-/* The emulator calls abort at some programs. Only the engine that ran it is lost. */
-static void on_abort(int number) {
+/* A child that ends wakes the one that waits for its report. */
+static void on_child(int number) {
     (void)number;
-    if (may_give_up) {
-        siglongjmp(giving_up, 1);
+}
+
+void engines_begin(void) {
+    struct sigaction action = {.sa_handler = on_child};
+    ssize_t length = readlink("/proc/self/exe", program, sizeof program - sizeof ".engine");
+    need(sigaction(SIGCHLD, &action, NULL) == 0, "a handler of children");
+    if (length <= 0) {
+        fail("can't find the sandbox's own program in", "/proc/self/exe");
     }
-    signal(SIGABRT, SIG_DFL);
-}
-
-void engines_begin(int memory_file, struct listener to) {
-    struct sigaction action = {.sa_handler = on_abort, .sa_flags = SA_NODEFER};
-    need(sigaction(SIGABRT, &action, NULL) == 0, "a handler of aborts");
-    listener = to;
-    windows_begin(memory_file);
-}
-
-void engine_open(struct engine *it, const struct registers *registers) {
-    memset(it, 0, sizeof *it);
-    need_uc(uc_open(UC_ARCH_X86, UC_MODE_32, &it->uc), "an engine");
-    enter_user_mode(it);
-    window_open(it);
-    add_hooks(it);
-    engine_set_registers(it, registers);
-}
-
-void engine_close(struct engine *it) {
-    need_uc(uc_close(it->uc), "an engine ends");
-    window_close(it);
-    it->uc = NULL;
+    strcpy(program + length, ".engine");
+    if (access(program, X_OK) != 0) {
+        fail("can't run the engine's program", program);
+    }
 }
 
 bool engine_is_open(const struct engine *it) {
-    return it->uc != NULL;
+    return it->process != 0;
 }
 
-const char *engine_run(struct engine *it) {
-    volatile uc_err error = UC_ERR_OK;
-    running = it;
-    it->is_stopping = false;
-    if (sigsetjmp(giving_up, 1)) {
-        may_give_up = false;
-        running = NULL;
-        it->is_broken = true;
-        return "the emulator gave up";
+uint32_t engines_open(void) {
+    return open_count;
+}
+
+/* Above those that the child has it at. */
+static int move_up(int descriptor) {
+    int moved = descriptor < 0 ? -1 : fcntl(descriptor, F_DUPFD_CLOEXEC, 16);
+    if (descriptor >= 0) {
+        close(descriptor);
     }
-    do {
-        engine_settle(it);
-        may_give_up = true;
-        error = uc_emu_start(it->uc, engine_eip(it), 0, 0, 0);
-        may_give_up = false;
-    } while (error == UC_ERR_OK && !it->is_stopping && it->is_unsettled);
-    running = NULL;
-    return error == UC_ERR_OK ? NULL : uc_strerror(error);
+    return moved;
 }
 
-void engine_stop(struct engine *it) {
-    it->is_stopping = true;
-    uc_emu_stop(it->uc);
+/* A session of its own, so that the terminal's signals don't reach it; no environment; no descriptor but the socket's, the
+ * channel's and three of /dev/null. */
+static pid_t spawn(int socket, int channel) {
+    char *words[] = {program, NULL}, *none[] = {NULL};
+    posix_spawn_file_actions_t actions;
+    posix_spawnattr_t attributes;
+    sigset_t all, blocked;
+    pid_t process = 0;
+    sigfillset(&all);
+    sigemptyset(&blocked);
+    posix_spawn_file_actions_init(&actions);
+    posix_spawnattr_init(&attributes);
+    for (int i = 0; i < SOCKET; i++) {
+#ifdef __SANITIZE_ADDRESS__
+        if (i == 2) {
+            continue; /* for what the sanitizer says */
+        }
+#endif
+        posix_spawn_file_actions_addopen(&actions, i, "/dev/null", O_RDWR, 0);
+    }
+    posix_spawn_file_actions_adddup2(&actions, socket, SOCKET);
+    posix_spawn_file_actions_adddup2(&actions, channel, CHANNEL);
+    posix_spawnattr_setflags(&attributes, POSIX_SPAWN_SETSID | POSIX_SPAWN_SETSIGDEF | POSIX_SPAWN_SETSIGMASK);
+    posix_spawnattr_setsigdefault(&attributes, &all);
+    posix_spawnattr_setsigmask(&attributes, &blocked);
+    int error = posix_spawn(&process, program, &actions, &attributes, words, none);
+    posix_spawn_file_actions_destroy(&actions);
+    posix_spawnattr_destroy(&attributes);
+    return error ? 0 : process;
+}
+
+static void shut(int descriptor) {
+    if (descriptor >= 0) {
+        close(descriptor);
+    }
+}
+
+static void shut_channel(struct engine *it) {
+    if (it->channel) {
+        munmap(it->channel, PAGE_BYTES);
+    }
+    shut(it->socket);
+    it->channel = NULL;
+}
+
+static bool open_channel(struct engine *it, int *file, int *theirs) {
+    int sockets[2] = {-1, -1};
+    *file = move_up(memfd_create("channel", MFD_CLOEXEC));
+    *theirs = it->socket = -1;
+    if (socketpair(AF_UNIX, SOCK_SEQPACKET | SOCK_CLOEXEC, 0, sockets) == 0) {
+        it->socket = move_up(sockets[0]);
+        *theirs = move_up(sockets[1]);
+    }
+    if (*file < 0 || it->socket < 0 || *theirs < 0 || ftruncate(*file, PAGE_BYTES) != 0) {
+        return false;
+    }
+    void *page = mmap(NULL, PAGE_BYTES, PROT_READ | PROT_WRITE, MAP_SHARED, *file, 0);
+    it->channel = page != MAP_FAILED ? page : NULL;
+    return it->channel != NULL;
+}
+
+bool engine_open(struct engine *it, const struct registers *registers, uint64_t nanoseconds) {
+    struct rlimit most = {nanoseconds / 1000000000 + 2, nanoseconds / 1000000000 + 3};
+    int file, theirs;
+    uint64_t owed = it->owed;
+    memset(it, 0, offsetof(struct engine, given));
+    it->given_count = 0;
+    it->time = it->unlooked = 0;
+    it->owed = owed;
+    it->next.kind = ORDER_BEGIN;
+    it->next.registers = *registers;
+    it->process = open_channel(it, &file, &theirs) ? spawn(theirs, file) : 0;
+    shut(file);
+    shut(theirs);
+    if (!it->process) {
+        shut_channel(it);
+        return false;
+    }
+    prlimit(it->process, RLIMIT_CPU, &most, NULL);
+    open_count++;
+    return true;
+}
+
+/* Returns how the process ended. */
+static int reap(struct engine *it) {
+    struct rusage used;
+    int status = 0;
+    kill(it->process, SIGKILL);
+    while (wait4(it->process, &status, 0, &used) < 0 && errno == EINTR) {
+    }
+    owe(it, (uint64_t)(used.ru_utime.tv_sec + used.ru_stime.tv_sec) * 1000000000 +
+                (uint64_t)(used.ru_utime.tv_usec + used.ru_stime.tv_usec) * 1000);
+    shut_channel(it);
+    it->process = 0;
+    it->given_count = 0;
+    open_count--;
+    return status;
+}
+
+void engine_close(struct engine *it) {
+    if (engine_is_open(it)) {
+        reap(it);
+    }
+}
+
+/* ---- Orders and reports */
+
+static const char *gave_up(struct engine *it) {
+    static char why[64];
+    int status = reap(it);
+    if (WIFSIGNALED(status)) {
+        snprintf(why, sizeof why, "the emulator gave up, by signal %d", WTERMSIG(status));
+    } else {
+        snprintf(why, sizeof why, "the emulator gave up, with status %d", WEXITSTATUS(status));
+    }
+    return why;
+}
+
+/* The descriptors of the pages that are put in. An engine that doesn't take them is full at some time. */
+static bool send_files(struct engine *it) {
+    union {
+        struct cmsghdr header;
+        char bytes[CMSG_SPACE(MOST_PUTS * sizeof(int))];
+    } control = {0};
+    char nothing = 0;
+    struct iovec one = {&nothing, 1};
+    size_t length = it->next.put_count * sizeof(int);
+    struct msghdr message = {.msg_iov = &one, .msg_iovlen = 1, .msg_control = &control, .msg_controllen = CMSG_SPACE(length)};
+    control.header = (struct cmsghdr){.cmsg_len = CMSG_LEN(length), .cmsg_level = SOL_SOCKET, .cmsg_type = SCM_RIGHTS};
+    for (uint32_t i = 0; i < it->next.put_count; i++) {
+        int file = frames_file(it->put_frames[i]);
+        memcpy(CMSG_DATA(&control.header) + i * sizeof file, &file, sizeof file);
+    }
+    return length == 0 || sendmsg(it->socket, &message, MSG_DONTWAIT | MSG_NOSIGNAL) == 1;
+}
+
+static bool has_ended(const struct engine *it) {
+    siginfo_t ended = {0};
+    return waitid(P_PID, (id_t)it->process, &ended, WEXITED | WNOHANG | WNOWAIT) == 0 && ended.si_pid == it->process;
+}
+
+static const char *exchange(struct engine *it, struct report *report) {
+    static const struct timespec SLEEP = {0, 50000000};
+    uint64_t from = 0, used = 0;
+    if (!send_files(it)) {
+        return gave_up(it);
+    }
+    it->channel->order = it->next;
+    it->next.kind = ORDER_RUN;
+    it->next.begins_turn = it->next.all_out = false;
+    it->next.out_count = it->next.put_count = 0;
+    channel_pass(it->channel, HELD_BY_ENGINE);
+    while (!channel_await(it->channel, HELD_BY_KERNEL, &it->looks, &SLEEP)) {
+        if (has_ended(it)) {
+            return gave_up(it);
+        }
+        used = used ? used : time_of(it);
+        from = from ? from : now(CLOCK_MONOTONIC);
+        if (time_of(it) > used + LATE_TIME || now(CLOCK_MONOTONIC) > from + LATE_CLOCK) {
+            engine_close(it);
+            return "the emulator doesn't answer";
+        }
+    }
+    *report = it->channel->report;
+    atomic_thread_fence(memory_order_seq_cst); /* it is read once: it may change at any time */
+    return NULL;
+}
+
+static bool makes_sense(const struct report *it) {
+    bool is_access = it->access <= ACCESS_FETCH && it->size >= 1 && it->size <= sizeof it->value;
+    return it->kind == REPORT_ACCESS ? is_access : it->kind < REPORT_REGISTERS;
+}
+
+const char *engine_run(struct engine *it, struct report *report) {
+    const char *why = exchange(it, report);
+    if (!why && !makes_sense(report)) {
+        engine_close(it);
+        why = "the emulator's report makes no sense";
+    }
+    return why;
+}
+
+bool engine_registers(struct engine *it, struct registers *to) {
+    struct order after = it->next;
+    struct report report;
+    if (after.kind == ORDER_BEGIN) {
+        *to = after.registers;
+        return true;
+    }
+    it->next.kind = ORDER_REGISTERS;
+    if (exchange(it, &report)) {
+        return false;
+    }
+    *to = report.registers;
+    if (after.kind == ORDER_ANSWER) {
+        to->general[EAX] = after.words.eax;
+        to->general[EBX] = after.words.ebx;
+        to->general[ECX] = after.words.ecx;
+        to->general[EDX] = after.words.edx;
+        to->general[ESI] = after.words.esi;
+    }
+    it->next.kind = after.kind;
+    it->next.words = after.words;
+    it->next.begins_turn = after.begins_turn;
+    return true;
 }

@@ -6,77 +6,67 @@
 #include <sys/mman.h>
 #include <unistd.h>
 
+#include "frames.h"
 #include "need.h"
-#include "regions.h"
 #include "tower_region.h"
 #include "tower_region_images.h"
 #include "wrong.h"
 
-struct kernel kernel = {.core = TOWER_NONE, .file = -1, .accessing = NO_PROCESS};
+struct kernel kernel = {.core = TOWER_NONE, .accessing = NO_PROCESS};
 
 /* ---- The block */
 
-static void open_block(size_t bytes) {
+static void open_block(uint32_t frames, size_t bytes) {
+    frames_begin(frames);
     kernel.bytes = bytes;
-    kernel.file = memfd_create("sandbox", MFD_CLOEXEC);
-    need(kernel.file >= 0 && ftruncate(kernel.file, (off_t)bytes) == 0, "there is memory for the core");
-    kernel.memory = mmap(NULL, bytes, PROT_READ | PROT_WRITE, MAP_SHARED, kernel.file, 0);
-    need(kernel.memory != MAP_FAILED, "there is address space for the core");
+    kernel.memory = mmap(NULL, bytes, PROT_READ | PROT_WRITE, MAP_PRIVATE | MAP_ANONYMOUS, -1, 0);
+    need(kernel.memory != MAP_FAILED, "there is memory for the core");
 }
 
 void kernel_boot(uint32_t frames) {
-    open_block(TOWER_BLOCK_BYTES(frames));
+    open_block(frames, TOWER_BLOCK_BYTES(frames));
     need(tower_boot_over(frames, &kernel.core, kernel.memory, kernel.bytes) == TOWER_BOOTED, "a core boots");
 }
 
 uint32_t kernel_restore(const uint8_t *image, size_t count) {
     struct tower_verdict verdict;
-    open_block(TOWER_RESTORE_BLOCK_BYTES(TOWER_MAX_FRAMES));
+    open_block(TOWER_MAX_FRAMES, TOWER_RESTORE_BLOCK_BYTES(TOWER_MAX_FRAMES));
     return tower_restore_over(image, count, &kernel.core, &verdict, kernel.memory, kernel.bytes);
 }
 
 void kernel_close(void) {
     for (uint32_t pid = 0; pid < TOWER_PROCESSES; pid++) {
-        if (engine_is_open(&kernel.engines[pid])) {
-            engine_close(&kernel.engines[pid]);
-        }
+        engine_close(&kernel.engines[pid]);
     }
     tower_free(&kernel.core);
     munmap(kernel.memory, kernel.bytes);
-    close(kernel.file);
 }
 
-/* ---- What is taken out of engines */
+/* ---- What is taken from engines */
 
-static void take_out(uint32_t pid, uint32_t page) {
-    if (!engine_is_open(&kernel.engines[pid])) {
-        return;
-    }
-    if (pid == kernel.accessing) {
-        engine_out_later(&kernel.engines[pid], page);
-    } else {
-        engine_out(&kernel.engines[pid], page);
-    }
+static bool finds_frame(uint32_t pid, uint32_t address, bool is_store, struct tower_walk *found) {
+    return tower_walk(&kernel.core, pid, address, is_store, found) && found->kind == TOWER_WALK_FRAME;
 }
 
-static void take_all_out(uint32_t pid) {
-    if (engine_is_open(&kernel.engines[pid])) {
-        engine_empty(&kernel.engines[pid]);
-    }
+/* The frame of a page; 0, the frame of zeros, if it has none. */
+static uint32_t frame_of(uint32_t pid, uint32_t page) {
+    struct tower_walk walk;
+    return page <= TOWER_LAST_PAGE && finds_frame(pid, page << 12, false, &walk) ? walk.frame : 0;
 }
 
-/* The pages that an access has ended are those of its own bytes: kernel_access puts them on their new frames. */
-static void invalidate(const struct tower_ended *ended) {
+/* The pages that an access has ended are those of its own bytes: kernel_access puts them on their new frames. Of all others
+ * only an Unmap and a Protect end one that isn't lazy: it was on that frame. */
+static void invalidate(const struct tower_ended *ended, uint32_t frame) {
     bool is_kept = wrong == WRONG_KEPT && ended->kind != TOWER_ENDS_SPACE;
     if (is_kept || ended->pid == kernel.accessing) {
         return;
     }
     if (ended->kind == TOWER_ENDS_SPACE) {
-        take_all_out(ended->pid);
+        engine_close(&kernel.engines[ended->pid]);
     } else if (ended->kind != TOWER_ENDS_NOTHING) {
-        take_out(ended->pid, ended->first);
+        frames_revoke(ended->pid, ended->first, frame);
         if (ended->kind == TOWER_ENDS_PAGES) {
-            take_out(ended->pid, ended->second);
+            frames_revoke(ended->pid, ended->second, frame);
         }
     }
 }
@@ -90,9 +80,9 @@ static void take_from_others(uint32_t pid, uint32_t page, bool write) {
             continue;
         }
         for (uint32_t from = 0; tower_next_holder(&kernel.core, pid, page, other, from, &at); from = at + 1) {
-            const struct region *region = engine_region(&kernel.engines[other], at);
-            if (region && (write || region->write)) {
-                take_out(other, at);
+            const struct given *given = frames_page(other, at);
+            if (given && (write || given->write)) {
+                frames_out(other, at);
             }
         }
     }
@@ -109,7 +99,7 @@ static bool is_shared(uint32_t pid, uint32_t page) {
 /* Bytes of the page were written by the core. */
 static void page_written(uint32_t pid, uint32_t page) {
     if (pid != kernel.accessing) {
-        take_out(pid, page);
+        frames_out(pid, page);
     }
     if (is_shared(pid, page)) {
         take_from_others(pid, page, true);
@@ -119,9 +109,14 @@ static void page_written(uint32_t pid, uint32_t page) {
 struct tower_reply kernel_event(struct tower_event event) {
     struct tower_reply reply = {0};
     struct tower_ended ended = {0};
+    bool is_of_a_page = event.call == TOWER_UNMAP || event.call == TOWER_PROTECT;
+    uint32_t frame = is_of_a_page ? frame_of(event.pid, event.first) : 0;
     need(tower_step_ending(&kernel.core, &event, &reply, &ended), "a core replies");
     kernel.events++;
-    invalidate(&ended);
+    invalidate(&ended, frame);
+    if ((event.call == TOWER_PROTECT || event.call == TOWER_ACCEPT) && reply.kind == TOWER_DONE) {
+        frames_unseal(frame_of(event.pid, event.call == TOWER_PROTECT ? event.first : event.third));
+    }
     if (event.call == TOWER_STORE && reply.kind == TOWER_DONE) {
         page_written(event.pid, event.first >> 12);
         page_written(event.pid, (event.first + event.flag - 1) >> 12);
@@ -130,32 +125,30 @@ struct tower_reply kernel_event(struct tower_event event) {
     return reply;
 }
 
-static bool finds_frame(uint32_t pid, uint32_t address, bool is_store, struct tower_walk *found) {
-    return tower_walk(&kernel.core, pid, address, is_store, found) && found->kind == TOWER_WALK_FRAME;
+/* Whether a process may write to the frame of a page, there or at another of its pages. */
+static bool may_write(uint32_t pid, uint32_t page, const struct tower_page *found) {
+    bool may = found->write && !found->lazy;
+    uint32_t other, at;
+    for (uint32_t from = 0; !may && found->holders > 1 && tower_next_holder(&kernel.core, pid, page, pid, from, &other);
+         from = other + 1) {
+        struct tower_page there;
+        may = tower_next_page(&kernel.core, pid, other, &at, &there) && at == other && there.write;
+    }
+    return may;
 }
 
-/* The page of an access that the core has carried out. It may be written in the engine only if it is dirty. */
-static void fill(uint32_t pid, uint32_t page, bool is_fetch) {
+/* A page of an access that the core has carried out. It may be written in the engine only if it is dirty. */
+static void fill(uint32_t pid, uint32_t page) {
     struct tower_walk walk;
     struct tower_page found;
     uint32_t at = 0;
     need(finds_frame(pid, page << 12, false, &walk), "a walk finds the page of an access");
     need(tower_next_page(&kernel.core, pid, page, &at, &found) && at == page, "the page of an access is mapped");
-    bool write = found.write && (found.dirty || (wrong == WRONG_EARLY && !found.lazy));
+    bool may = may_write(pid, page, &found), write = found.write && !found.lazy && (found.dirty || wrong == WRONG_EARLY);
     if (found.holders > 1) {
         take_from_others(pid, page, write);
     }
-    engine_put(&kernel.engines[pid], page, walk.frame, write, is_fetch);
-}
-
-/* A page that the core has stored to: if the engine has it, and can't write it, it may be on another frame by now. */
-static void renew(uint32_t pid, uint32_t page) {
-    const struct region *region = engine_region(&kernel.engines[pid], page);
-    struct tower_walk walk;
-    if (region && !region->write) {
-        need(finds_frame(pid, page << 12, true, &walk), "a walk finds the page of a store");
-        engine_allow(&kernel.engines[pid], page, walk.frame);
-    }
+    frames_show(pid, page, walk.frame, may, write);
 }
 
 /* A part of an access, of at most four bytes: what an event has. */
@@ -165,6 +158,9 @@ static uint32_t part_of(uint32_t size) {
 
 struct tower_reply kernel_access(uint32_t pid, enum access kind, uint32_t address, uint32_t size, uint64_t value) {
     bool is_store = kind == ACCESS_STORE;
+    uint32_t first = address >> 12, last = (address + size - 1) >> 12;
+    const struct given *second = last != first ? frames_page(pid, last) : NULL;
+    bool is_renewed = is_store && second && !second->write; /* the core may put it on another frame */
     struct tower_reply reply = {.kind = TOWER_DONE};
     struct tower_walk walk;
     bool is_told = wrong != WRONG_UNTOLD || is_store || !finds_frame(pid, address, false, &walk);
@@ -173,14 +169,11 @@ struct tower_reply kernel_access(uint32_t pid, enum access kind, uint32_t addres
         uint32_t at = address + done, bytes = (uint32_t)(value >> 8 * done);
         part = part_of(size - done);
         reply = kernel_event(is_store ? tower_store(pid, at, part, bytes) : tower_load(pid, at, part));
-        if (is_store && reply.kind == TOWER_DONE) {
-            renew(pid, at >> 12);
-            renew(pid, (at + part - 1) >> 12);
-        }
     }
     if (tower_outcome_of(&reply) == TOWER_OUTCOME_DONE) {
-        if (!engine_region(&kernel.engines[pid], address >> 12)) {
-            fill(pid, address >> 12, kind == ACCESS_FETCH);
+        fill(pid, first);
+        if (is_renewed) {
+            fill(pid, last);
         }
         reply = (struct tower_reply){.kind = TOWER_DONE};
     }
@@ -191,13 +184,24 @@ struct tower_reply kernel_access(uint32_t pid, enum access kind, uint32_t addres
 
 /* ---- A kernel's acts */
 
+static bool descends(uint32_t pid, uint32_t from) {
+    struct tower_container container;
+    while (pid && pid != from && tower_container(&kernel.core, pid, &container)) {
+        pid = container.parent;
+    }
+    return pid == from;
+}
+
+/* The engines end first: none of them may write to a frame that is free. */
 struct tower_reply kernel_end(uint32_t pid, struct tower_processes *exited) {
     struct tower_reply told = {0};
     exited->count = 0;
-    need(tower_end(&kernel.core, pid, exited, &told), "a core ends processes");
-    for (uint32_t i = 0; i < exited->count; i++) {
-        take_all_out(exited->pids[i]);
+    for (uint32_t other = 1; other < TOWER_PROCESSES; other++) {
+        if (engine_is_open(&kernel.engines[other]) && descends(other, pid)) {
+            engine_close(&kernel.engines[other]);
+        }
     }
+    need(tower_end(&kernel.core, pid, exited, &told), "a core ends processes");
     kernel_check();
     return told;
 }
@@ -206,11 +210,12 @@ struct tower_reply kernel_take_back(uint32_t pid, uint32_t page) {
     enum { MOST = 64 };
     struct tower_holder lost[MOST];
     struct tower_reply told = {0};
+    uint32_t frame = frame_of(pid, page);
     size_t count = MOST;
     while (count == MOST) {
         need(tower_take_back(&kernel.core, pid, page, lost, MOST, &count, &told), "a core takes a page back");
         for (size_t i = 0; i < count; i++) {
-            take_out(lost[i].pid, lost[i].page);
+            frames_revoke(lost[i].pid, lost[i].page, frame);
         }
     }
     kernel_check();
@@ -235,26 +240,21 @@ struct tower_reply kernel_load(uint32_t pid, uint32_t address, const void *bytes
 
 /* ---- What the engines have */
 
-static bool is_what_walks_read(uint32_t pid, const struct region *region) {
-    for (uint32_t page = region->first; page < region->first + region->count; page++) {
-        struct tower_walk walk;
-        struct tower_page found;
-        uint32_t at = 0;
-        if (!finds_frame(pid, page << 12, region->write, &walk) ||
-            !tower_next_page(&kernel.core, pid, page, &at, &found) || (region->write && !found.dirty) ||
-            memcmp(engine_bytes(&kernel.engines[pid], page), kernel.memory + (size_t)walk.frame * PAGE_BYTES, PAGE_BYTES)) {
-            return false;
-        }
-    }
-    return true;
+static bool is_what_a_walk_reads(uint32_t pid, const struct given *given) {
+    struct tower_walk walk;
+    struct tower_page found;
+    uint32_t at = 0;
+    return finds_frame(pid, given->page << 12, given->write, &walk) && walk.frame == given->frame &&
+           tower_next_page(&kernel.core, pid, given->page, &at, &found) && (!given->write || found.dirty);
 }
 
 void kernel_check(void) {
     for (uint32_t pid = 0; kernel.checks && kernel.accessing == NO_PROCESS && pid < TOWER_PROCESSES; pid++) {
         const struct engine *engine = &kernel.engines[pid];
-        for (uint32_t i = 0; engine_is_open(engine) && i < engine->region_count; i++) {
-            need(is_what_walks_read(pid, &engine->regions[i]), "an engine has what the walks read");
+        for (uint32_t i = 0; i < engine->given_count; i++) {
+            need(!engine->given[i].is_in || is_what_a_walk_reads(pid, &engine->given[i]), "an engine has what the walks read");
         }
+        need(!engine_is_open(engine) || frames_are_all(pid), "a process of the host has what its engine was given");
         kernel.checked += pid == 0;
     }
 }
@@ -266,17 +266,13 @@ bool kernel_is_live(uint32_t pid) {
     return tower_directory(&kernel.core, pid, &directory);
 }
 
-bool kernel_is_child(uint32_t pid, uint32_t parent) {
+uint32_t kernel_parent(uint32_t pid) {
     struct tower_container container;
-    return pid != parent && tower_container(&kernel.core, pid, &container) && container.parent == parent;
+    return tower_container(&kernel.core, pid, &container) ? container.parent : 0;
 }
 
-static bool descends(uint32_t pid, uint32_t from) {
-    struct tower_container container;
-    while (pid && pid != from && tower_container(&kernel.core, pid, &container)) {
-        pid = container.parent;
-    }
-    return pid == from;
+bool kernel_is_child(uint32_t pid, uint32_t parent) {
+    return pid != parent && kernel_is_live(pid) && kernel_parent(pid) == parent;
 }
 
 bool kernel_descend(uint32_t pid, uint32_t page) {

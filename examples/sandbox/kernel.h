@@ -9,9 +9,8 @@ enum { NO_PROCESS = 255 };
 
 struct kernel {
     struct tower core;
-    uint8_t *memory; /* the core's block, which is memory of a file */
+    uint8_t *memory; /* the core's block; frames that engines had are memory of files */
     size_t bytes;
-    int file;
     struct engine engines[TOWER_PROCESSES];
     uint32_t accessing; /* the process whose engine is in the middle of an access; NO_PROCESS */
     bool checks; /* after each event and access: kernel_check */
@@ -32,7 +31,7 @@ struct tower_reply kernel_event(struct tower_event event);
  * out, the page is put into the engine: Done. Otherwise the reply is the fault or the refusal. */
 struct tower_reply kernel_access(uint32_t pid, enum access kind, uint32_t address, uint32_t size, uint64_t value);
 
-/* Ends a process with all that descend from it. Their engines have no page then. */
+/* Ends a process with all that descend from it, and their engines. */
 struct tower_reply kernel_end(uint32_t pid, struct tower_processes *exited);
 /* Takes a page back from all others. */
 struct tower_reply kernel_take_back(uint32_t pid, uint32_t page);
@@ -44,10 +43,12 @@ size_t kernel_read(uint32_t pid, uint32_t address, void *bytes, size_t count, st
 /* Loads bytes of a program into a process that has no engine yet, with that right for their pages: Done or Refused. */
 struct tower_reply kernel_load(uint32_t pid, uint32_t address, const void *bytes, size_t count, bool write);
 
-/* All that the engines have is what the walks read: a page that may be written is dirty, and the bytes are the frame's. */
+/* All that the engines have is what the walks read, a page that may be written is dirty, and no process of the host has
+ * anything else of the core's memory. */
 void kernel_check(void);
 
 bool kernel_is_live(uint32_t pid);
+uint32_t kernel_parent(uint32_t pid); /* 0 if it isn't live */
 bool kernel_is_child(uint32_t pid, uint32_t parent);
 
 #endif

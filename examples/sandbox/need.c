@@ -12,14 +12,6 @@ void need(bool holds, const char *what) {
     }
 }
 
-void need_uc(uc_err error, const char *what) {
-    if (error != UC_ERR_OK) {
-        fflush(stdout);
-        fprintf(stderr, "sandbox: %s: %s\n", what, uc_strerror(error));
-        _exit(3);
-    }
-}
-
 void fail(const char *what, const char *of) {
     fflush(stdout);
     fprintf(stderr, "sandbox: %s%s%s\n", what, *of ? ": " : "", of);

@@ -3,10 +3,8 @@
 #define NEED_H
 
 #include <stdbool.h>
-#include <unicorn/unicorn.h>
 
 void need(bool holds, const char *what);
-void need_uc(uc_err error, const char *what);
 /* A mistake of the user: one line, and status 2. */
 void fail(const char *what, const char *of) __attribute__((noreturn));
 

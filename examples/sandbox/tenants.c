@@ -3,65 +3,73 @@
 #include <signal.h>
 #include <stdio.h>
 #include <string.h>
-#include <sys/time.h>
+#include <sys/resource.h>
 #include <time.h>
 
 #include "calls.h"
 #include "kernel.h"
 #include "need.h"
+#include "output.h"
 #include "wrong.h"
 
 enum { MOST_WHY = 128, NO_CALL = 255 };
+/* An engine whose process takes more memory is closed; it is looked at after so much of its time. */
+enum { MOST_MEMORY = 64 << 20, LOOK_AFTER = 50000000 };
 
 struct tenant tenants[TOWER_PROCESSES];
 struct queue queue;
-struct limits limits;
-uint32_t current = NO_PROCESS;
+struct limits limits = {.engines = 32};
 enum wrong wrong;
 
-static char why[MOST_WHY]; /* the running tenant has to end, or "" */
 static bool turn_over;
 static uint64_t executed, turn_ends;
-static volatile sig_atomic_t is_stopping, is_tick;
+static volatile sig_atomic_t is_stopping;
 static struct {
-    uint64_t turns, calls, faults;
+    uint64_t turns, calls, faults, engines;
 } counts;
 
-/* ---- Output */
-
-/* Lines begin with the tenant's name. A tenant writes no other bytes than letters and line feeds. */
-void tenant_text(uint32_t pid, const char *text, size_t count) {
-    struct tenant *it = &tenants[pid];
-    for (size_t i = 0; i < count; i++) {
-        if (!it->is_in_line) {
-            printf("[%s] ", it->name);
-        }
-        putchar(text[i] == '\n' || (text[i] >= ' ' && text[i] <= '~') ? text[i] : '?');
-        it->is_in_line = text[i] != '\n';
-    }
-    it->text += (uint32_t)count;
-}
-
-static void say(uint32_t pid, const char *line) {
-    if (tenants[pid].is_in_line) {
-        tenant_text(pid, "\n", 1);
-    }
-    tenant_text(pid, line, strlen(line));
-    tenant_text(pid, "\n", 1);
+static uint64_t nanoseconds(clockid_t clock) {
+    struct timespec now = {0};
+    clock_gettime(clock, &now);
+    return (uint64_t)now.tv_sec * 1000000000 + (uint64_t)now.tv_nsec;
 }
 
 /* ---- Tenants that begin and end */
 
-const char *child_name(uint32_t pid) {
-    static char name[MOST_NAME + 16];
-    snprintf(name, sizeof name, "%.30s.%u", tenants[pid].name, ++tenants[pid].children);
-    return name;
+bool is_name(const char *name) {
+    size_t length = strnlen(name, MOST_NAME);
+    for (size_t i = 0; i < length; i++) {
+        if (name[i] <= ' ' || name[i] > '~' || name[i] == '[' || name[i] == ']') {
+            return false;
+        }
+    }
+    return length > 0 && length < MOST_NAME;
 }
 
-void tenant_enter(uint32_t pid, const char *name, const struct registers *registers, uint64_t nanoseconds) {
-    tenants[pid] = (struct tenant){.runs = true, .start = *registers, .most = nanoseconds};
-    snprintf(tenants[pid].name, MOST_NAME, "%s", name);
+static void enter_queue(uint32_t pid) {
+    need(queue.count < TOWER_PROCESSES, "each tenant waits for one turn");
     queue.pids[queue.count++] = (uint8_t)pid;
+}
+
+void tenant_enter(uint32_t pid, const char *name, const struct registers *registers) {
+    uint32_t parent = kernel_parent(pid);
+    tenants[pid] = (struct tenant){.runs = true, .start = *registers, .family = parent ? tenants[parent].family : (uint8_t)pid};
+    snprintf(tenants[pid].name, MOST_NAME, "%s", name);
+    enter_queue(pid);
+}
+
+/* Of its own engine only the registers are needed: the child's pages are copies. */
+bool tenant_fork(uint32_t pid, uint32_t child) {
+    char name[MOST_NAME + 16];
+    struct registers registers;
+    if (!engine_registers(&kernel.engines[pid], &registers)) {
+        return false;
+    }
+    registers.general[EAX] = TOWER_DONE;
+    registers.general[EBX] = registers.general[ECX] = registers.general[EDX] = registers.general[ESI] = 0;
+    snprintf(name, sizeof name, "%.30s.%u", tenants[pid].name, ++tenants[pid].children);
+    tenant_enter(child, name, &registers);
+    return true;
 }
 
 static void leave_queue(uint32_t pid) {
@@ -73,15 +81,10 @@ static void leave_queue(uint32_t pid) {
     }
 }
 
-/* The engine of the tenant that runs is closed at the end of its turn. */
 void tenant_gone(uint32_t pid) {
+    tenants[tenants[pid].family].spent += engine_time(&kernel.engines[pid]);
     tenants[pid].runs = false;
     leave_queue(pid);
-    if (pid == current) {
-        tenant_end_turn();
-    } else if (engine_is_open(&kernel.engines[pid])) {
-        engine_close(&kernel.engines[pid]);
-    }
 }
 
 void tenant_end(uint32_t pid, const char *reason) {
@@ -91,177 +94,233 @@ void tenant_end(uint32_t pid, const char *reason) {
     for (uint32_t i = 0; i < exited.count; i++) {
         uint32_t one = exited.pids[i];
         if (tenants[one].runs) {
-            say(one, one == pid ? reason : "ended: its parent ended");
+            output_line(one, one == pid ? reason : "ended: its parent ended");
             tenant_gone(one);
         }
     }
 }
 
-/* ---- What happens during a turn */
+/* ---- Engines */
+
+/* The engine is closed, and the tenant's next turn is in another. */
+static void park(uint32_t pid) {
+    if (engine_registers(&kernel.engines[pid], &tenants[pid].start)) {
+        engine_close(&kernel.engines[pid]);
+    } else {
+        tenant_end(pid, "ended: the emulator gave up");
+    }
+}
+
+void tenants_park(void) {
+    for (uint32_t pid = 0; pid < TOWER_PROCESSES; pid++) {
+        if (engine_is_open(&kernel.engines[pid])) {
+            park(pid);
+        }
+    }
+}
+
+/* Of those that wait the one whose turn comes last. */
+static void park_another(void) {
+    for (uint32_t i = queue.count; i > 0; i--) {
+        if (engine_is_open(&kernel.engines[queue.pids[i - 1]])) {
+            park(queue.pids[i - 1]);
+            return;
+        }
+    }
+}
+
+static uint64_t time_left(uint32_t pid) {
+    const struct tenant *family = &tenants[tenants[pid].family];
+    return family->most > family->spent ? family->most - family->spent : 0;
+}
+
+/* False if the host has no process for it. Another tenant may end meanwhile, with all that descend from it. */
+static bool open_engine(uint32_t pid) {
+    struct engine *it = &kernel.engines[pid];
+    if (!engine_is_open(it) && engines_open() >= limits.engines) {
+        park_another();
+    }
+    if (!engine_is_open(it) && tenants[pid].runs) {
+        counts.engines++;
+        if (!engine_open(it, &tenants[pid].start, time_left(pid))) {
+            return false;
+        }
+        it->next.wrong = wrong < WRONG_SILENT || pid == 1 ? wrong : WRONG_NOTHING;
+    }
+    return true;
+}
+
+/* ---- What happens during a turn: each returns why the tenant has to end, or NULL */
 
 void tenant_end_turn(void) {
     turn_over = true;
-    engine_stop(&kernel.engines[current]);
 }
 
-/* No page of its own is there for it any more, so its turn can go on only until the emulator looks. */
-static void condemn(const char *what) {
-    if (!*why) {
-        snprintf(why, sizeof why, "%s", what);
-        tenant_end_turn();
-    }
-}
-
-static void on_stray(const char *what, uint32_t eip) {
-    char line[MOST_WHY];
-    snprintf(line, sizeof line, "ended: %s at %08x", what, eip);
-    condemn(line);
-}
-
-static void on_outlaw(const char *what) {
-    char line[MOST_WHY];
-    snprintf(line, sizeof line, "ended: %s", what);
-    condemn(line);
-}
-
-static bool on_access(enum access kind, uint32_t address, uint32_t size, uint64_t value) {
+static const char *on_access(uint32_t pid, const struct report *report) {
     static const char *const names[] = {"load", "store", "fetch"};
-    char line[MOST_WHY];
-    if (*why || !tenants[current].runs) {
-        return false;
-    }
+    static char line[MOST_WHY];
+    const char *name = names[report->access];
     counts.faults++;
-    struct tower_reply reply = kernel_access(current, kind, address, size, value);
+    struct tower_reply reply = kernel_access(pid, report->access, report->address, report->size, report->value);
     if (reply.kind == TOWER_DONE) {
-        return true;
+        return NULL;
     }
     if (reply.kind == TOWER_FAULT) {
-        snprintf(line, sizeof line, "ended: %s at %08x: fault %u", names[kind], reply.first, reply.second);
+        snprintf(line, sizeof line, "%s at %08x: fault %u", name, reply.first, reply.second);
     } else {
-        snprintf(line, sizeof line, "ended: %s at %08x: refused, %s", names[kind], address, tower_cause_name(reply.first));
+        snprintf(line, sizeof line, "%s at %08x: refused, %s", name, report->address, tower_cause_name(reply.first));
     }
-    condemn(line);
-    return false;
+    return line;
 }
 
 static uint32_t bools_of(const struct tower_reply *reply) {
     return (uint32_t)reply->write | (uint32_t)reply->may << 1 | (uint32_t)reply->accessed << 2 | (uint32_t)reply->dirty << 3;
 }
 
-static void on_call(void) {
-    struct engine *engine = &kernel.engines[current];
-    if (*why || !tenants[current].runs) {
-        return;
-    }
-    struct words in = engine_words(engine);
-    struct tower_event event = {
-        .pid = (uint8_t)current,
-        .call = in.eax < CALLS_END ? (uint8_t)in.eax : NO_CALL,
-        .flag = tower_byte(in.ebx),
-        .first = in.ecx,
-        .second = in.edx,
-        .third = in.esi,
+static const char *on_call(uint32_t pid, const struct words *in) {
+    struct engine *engine = &kernel.engines[pid];
+    const struct tower_event event = {
+        .pid = (uint8_t)pid,
+        .call = in->eax < CALLS_END ? (uint8_t)in->eax : NO_CALL,
+        .flag = tower_byte(in->ebx),
+        .first = in->ecx,
+        .second = in->edx,
+        .third = in->esi,
     };
     counts.calls++;
-    struct tower_reply reply = tenant_call(current, &event);
-    engine_set_words(engine, (struct words){reply.kind, bools_of(&reply), reply.first, reply.second, reply.third});
+    struct tower_reply reply = tenant_call(pid, &event);
+    if (tenants[pid].runs && !engine_is_open(engine)) {
+        return "the emulator gave up";
+    }
+    engine->next.kind = ORDER_ANSWER;
+    engine->next.words = (struct words){reply.kind, bools_of(&reply), reply.first, reply.second, reply.third};
+    return NULL;
 }
 
-static void on_block(void) {
-    if (is_tick || is_stopping) {
-        tenant_end_turn();
+static const char *on_report(uint32_t pid, struct report *report) {
+    switch (report->kind) {
+    case REPORT_CALL:
+        return on_call(pid, &report->words);
+    case REPORT_ACCESS:
+        return on_access(pid, report);
+    case REPORT_OVER:
+        turn_over = !limits.turn && !limits.after ? true : executed >= turn_ends || is_stopping;
+        return NULL;
+    default:
+        report->what[MOST_WHAT - 1] = 0;
+        return report->what;
     }
 }
 
-static void on_instruction(void) {
-    if (executed >= turn_ends || is_stopping) {
-        tenant_end_turn();
-    } else {
-        executed++;
-    }
-}
-
-/* ---- Signals */
-
-static void on_tick(int number) {
-    (void)number;
-    is_tick = 1;
-}
+/* ---- Turns */
 
 static void on_stop(int number) {
     (void)number;
     is_stopping = 1;
 }
 
-static void handle(int number, void (*handler)(int)) {
-    struct sigaction action = {.sa_handler = handler, .sa_flags = SA_RESTART};
-    need(sigaction(number, &action, NULL) == 0, "a signal's handler");
-}
-
 void tenants_begin(void) {
-    bool counts_instructions = limits.turn || limits.after;
-    struct listener listener = {.call = on_call, .access = on_access, .stray = on_stray, .outlaw = on_outlaw};
-    listener.step = counts_instructions ? on_instruction : on_block;
-    listener.of_each_instruction = counts_instructions;
-    engines_begin(kernel.file, listener);
-    handle(SIGINT, on_stop);
-    handle(SIGTERM, on_stop);
-    if (!counts_instructions) {
-        const struct itimerval each = {{0, 10000}, {0, 10000}};
-        handle(SIGPROF, on_tick);
-        need(setitimer(ITIMER_PROF, &each, NULL) == 0, "a timer");
-    }
+    struct sigaction action = {.sa_handler = on_stop, .sa_flags = SA_RESTART};
+    engines_begin();
+    need(sigaction(SIGINT, &action, NULL) == 0 && sigaction(SIGTERM, &action, NULL) == 0, "a signal's handler");
 }
 
-/* ---- Turns */
-
-static uint64_t nanoseconds(void) {
-    struct timespec now;
-    clock_gettime(CLOCK_PROCESS_CPUTIME_ID, &now);
-    return (uint64_t)now.tv_sec * 1000000000 + (uint64_t)now.tv_nsec;
-}
-
-static void begin_turn(uint32_t pid) {
-    enum { LONG_TURN = 100000 };
-    uint64_t length = limits.turn ? limits.turn : LONG_TURN;
+static void begin_turn(void) {
+    uint64_t length = limits.turn ? limits.turn : UNCOUNTED - executed;
     uint64_t left = limits.after ? limits.after - executed : length;
     counts.turns++;
-    current = pid;
     turn_over = false;
-    is_tick = 0;
-    why[0] = 0;
     turn_ends = executed + (left < length ? left : length);
-    if (!engine_is_open(&kernel.engines[pid])) {
-        engine_open(&kernel.engines[pid], &tenants[pid].start);
+}
+
+static const char *run_to_report(uint32_t pid, struct report *report) {
+    uint64_t left = limits.turn || limits.after ? turn_ends - executed : UNCOUNTED;
+    kernel.engines[pid].next.instructions = left;
+    const char *why = engine_run(&kernel.engines[pid], report);
+    if (why) {
+        return why;
+    }
+    executed += left == UNCOUNTED ? 0 : report->executed < left ? report->executed : left;
+    return on_report(pid, report);
+}
+
+struct moment {
+    uint64_t worked, clock; /* what the kernel has worked, and the time */
+};
+
+static struct moment moment(void) {
+    return (struct moment){nanoseconds(CLOCK_PROCESS_CPUTIME_ID), nanoseconds(CLOCK_MONOTONIC)};
+}
+
+/* An engine that obeys reports the end of its time long before the kernel has worked so long for it, or so long passed. */
+static bool is_late(const struct moment *from, uint32_t reports) {
+    enum { LOOK_EACH = 256 };
+    static const uint64_t MOST_WORK = 1000000000, MOST_CLOCK = 10000000000;
+    return nanoseconds(CLOCK_MONOTONIC) > from->clock + MOST_CLOCK ||
+           (reports % LOOK_EACH == 0 && nanoseconds(CLOCK_PROCESS_CPUTIME_ID) > from->worked + MOST_WORK);
+}
+
+/* Runs the tenant until its turn is over, or it has exited. Returns why it has to end, or NULL. */
+static const char *run(uint32_t pid) {
+    static struct report report;
+    struct moment from = moment();
+    const char *why = open_engine(pid) ? NULL : "the host has no process for its engine";
+    kernel.engines[pid].next.begins_turn = true;
+    for (uint32_t i = 1; !why && !turn_over && tenants[pid].runs; i++) {
+        why = run_to_report(pid, &report);
+        if (!why && report.kind == REPORT_OVER) {
+            from = moment();
+        } else if (!why && is_late(&from, i)) {
+            why = "the emulator doesn't end its turn";
+        }
+    }
+    return why;
+}
+
+/* The family pays for its engines, and for what the kernel does for it. */
+static void pay(uint32_t pid, uint64_t nanoseconds) {
+    struct tenant *family = &tenants[tenants[pid].family];
+    struct engine *engine = &kernel.engines[pid];
+    uint64_t used = engine_time(engine);
+    family->spent += nanoseconds + used;
+    engine->unlooked += used;
+}
+
+static void look_at_memory(uint32_t pid) {
+    struct engine *engine = &kernel.engines[pid];
+    if (engine->unlooked > LOOK_AFTER) {
+        engine->unlooked = 0;
+        if (engine_memory(engine) > MOST_MEMORY) {
+            park(pid);
+        }
     }
 }
 
-/* The tenant has left its engine. */
-static void end_turn(uint32_t pid, const char *error) {
-    bool is_alive = tenants[pid].runs;
-    current = NO_PROCESS;
-    if (!is_alive) {
-        engine_close(&kernel.engines[pid]);
-    } else if (*why) {
-        tenant_end(pid, why);
-    } else if (error || !turn_over) {
-        char line[MOST_WHY];
-        uint32_t eip = engine_eip(&kernel.engines[pid]);
-        snprintf(line, sizeof line, "ended: %s at %08x", error ? error : "the emulator stopped", eip);
-        tenant_end(pid, line);
-    } else if (tenants[pid].spent > tenants[pid].most) {
-        tenant_end(pid, "ended: its time is over");
-    } else {
-        queue.pids[queue.count++] = (uint8_t)pid;
-    }
+/* Of a turn by time, what it takes longer than so: a sleeping engine holds the others up, too. */
+static uint64_t delay_since(const struct moment *from) {
+    enum { FREE = 200000000 };
+    uint64_t passed = nanoseconds(CLOCK_MONOTONIC) - from->clock;
+    return passed > FREE && !limits.turn && !limits.after ? passed - FREE : 0;
 }
 
 static void turn(uint32_t pid) {
-    uint64_t from = nanoseconds();
-    begin_turn(pid);
-    const char *error = engine_run(&kernel.engines[pid]);
-    tenants[pid].spent += nanoseconds() - from;
-    end_turn(pid, error);
+    char line[MOST_WHY + 16];
+    struct moment from = moment();
+    begin_turn();
+    const char *why = run(pid);
+    pay(pid, nanoseconds(CLOCK_PROCESS_CPUTIME_ID) - from.worked + delay_since(&from));
+    if (!tenants[pid].runs) {
+        return;
+    }
+    if (time_left(pid) == 0) {
+        tenant_end(tenants[pid].family, "ended: its time is over");
+    } else if (why) {
+        snprintf(line, sizeof line, "ended: %s", why);
+        tenant_end(pid, line);
+    } else {
+        enter_queue(pid);
+        look_at_memory(pid);
+    }
 }
 
 static bool is_over(void) {
@@ -277,8 +336,15 @@ bool tenants_run(void) {
     return queue.count > 0;
 }
 
-void print_counts(double seconds) {
-    fprintf(stderr, "%.3f s; %llu turns, %llu calls, %llu page faults, %llu events, %llu instructions counted, %llu checks\n",
+/* All processor time: of the kernel's process, and of the engines, which have ended. */
+void print_counts(void) {
+    struct rusage engines;
+    need(getrusage(RUSAGE_CHILDREN, &engines) == 0, "the engines' time is known");
+    double seconds = 1e-9 * (double)nanoseconds(CLOCK_PROCESS_CPUTIME_ID) + (double)(engines.ru_utime.tv_sec + engines.ru_stime.tv_sec) +
+                     1e-6 * (double)(engines.ru_utime.tv_usec + engines.ru_stime.tv_usec);
+    fprintf(stderr,
+            "%.3f s; %llu turns, %llu calls, %llu page faults, %llu events, %llu engines, %llu instructions counted, %llu checks\n",
             seconds, (unsigned long long)counts.turns, (unsigned long long)counts.calls, (unsigned long long)counts.faults,
-            (unsigned long long)kernel.events, (unsigned long long)executed, (unsigned long long)kernel.checked);
+            (unsigned long long)kernel.events, (unsigned long long)counts.engines, (unsigned long long)executed,
+            (unsigned long long)kernel.checked);
 }

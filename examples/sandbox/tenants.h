@@ -5,20 +5,23 @@
 #include <stdbool.h>
 #include <stdint.h>
 
-#include "engine.h"
+#include "channel.h"
 #include "tower.h"
 
-enum { MOST_NAME = 48, MOST_TEXT = 1 << 16 };
+enum { MOST_NAME = 48, MOST_TEXT = 1 << 16, MOST_LINE = 256 };
 
-/* What is kept of a tenant, apart from its process, and from its engine once it has one. It is stored as it is. */
+/* What is kept of a tenant, apart from its process, and from its engine once it has one. A family is what descends from one
+ * program of the command line: its time and text are those of that first tenant. It is stored as it is. */
 struct tenant {
     char name[MOST_NAME];
-    struct registers start; /* of an engine that isn't open yet */
-    uint64_t spent, most;   /* processor time, and how much it may use, in nanoseconds */
+    struct registers start; /* of an engine that isn't open */
+    uint64_t spent, most;   /* the family's processor time, and how much it may use, in nanoseconds */
+    uint32_t text;          /* bytes of the family's output */
     uint32_t children;      /* that it began so far: they are named by it */
-    uint32_t text;          /* bytes of its output */
+    uint32_t length;        /* of its line that isn't complete yet */
     uint8_t runs;           /* 0: it has ended, or never began */
-    uint8_t is_in_line;     /* 0: its output ends with a line feed */
+    uint8_t family;         /* the process of the first tenant */
+    char line[MOST_LINE];
 };
 extern struct tenant tenants[TOWER_PROCESSES];
 
@@ -30,8 +33,9 @@ struct queue {
 extern struct queue queue;
 
 struct limits {
-    uint64_t turn;  /* instructions of a turn; 0: turns end by time, and instructions aren't counted */
-    uint64_t after; /* all tenants stop once so many instructions are executed; 0: they don't */
+    uint64_t turn;    /* instructions of a turn; 0: turns end by time, and instructions aren't counted */
+    uint64_t after;   /* all tenants stop once so many instructions are executed; 0: they don't */
+    uint32_t engines; /* that are open at a time */
 };
 extern struct limits limits;
 
@@ -45,21 +49,22 @@ struct asked {
 };
 /* A child of process 0, into which the program is loaded, in begin.c. Otherwise one line says why not. */
 void tenant_begin(const struct asked *asked);
-/* A tenant waits for its first turn, with that much processor time. */
-void tenant_enter(uint32_t pid, const char *name, const struct registers *registers, uint64_t nanoseconds);
+/* A tenant waits for its first turn. Its family is that of its process's parent; otherwise it is its first tenant. */
+void tenant_enter(uint32_t pid, const char *name, const struct registers *registers);
 /* Runs turns until no tenant waits, or until `after` or a signal. Returns whether tenants are left. */
 bool tenants_run(void);
+/* Closes all engines; what was in them is in `start`. */
+void tenants_park(void);
 
 /* Calls, in calls.c. */
 struct tower_reply tenant_call(uint32_t pid, const struct tower_event *event);
 
 /* What calls do to tenants. */
-extern uint32_t current;              /* the tenant whose turn it is, NO_PROCESS between turns */
-void tenant_text(uint32_t pid, const char *text, size_t count);
 void tenant_end_turn(void);
-void tenant_gone(uint32_t pid);       /* its process has exited */
-void tenant_end(uint32_t pid, const char *why); /* with its children; not during its own turn */
-const char *child_name(uint32_t pid); /* of its next child */
-void print_counts(double seconds);
+bool tenant_fork(uint32_t pid, uint32_t child); /* false: its engine had to be ended */
+void tenant_gone(uint32_t pid);                 /* its process has exited */
+void tenant_end(uint32_t pid, const char *why); /* with its children */
+bool is_name(const char *name);
+void print_counts(void); /* once all engines are closed */
 
 #endif

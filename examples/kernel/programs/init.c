@@ -1,7 +1,7 @@
 /* The first process: begins all others, and waits for their ends. */
-#include "program.h"
+#include "neighbor.h"
 
-enum { STRAYS = 17, SPINNERS = 3, STRESSES = 3, HOSTILES = 4 };
+enum { STRAYS = 19, SPINNERS = 3, STRESSES = 3, HOSTILES = 4, MOST_NEIGHBORS = 2 };
 
 /* How many children ended, by how and by the number of that. */
 static uint32_t ended[HOWS][32];
@@ -11,8 +11,9 @@ static const struct {
     enum how how;
     uint32_t number, count;
 } expected[] = {
-    {ENDED_EXIT, 0, 13},   {ENDED_FAULT, 4, 5},      {ENDED_FAULT, 6, 4},      {ENDED_FAULT, 7, 3},
+    {ENDED_EXIT, 0, 14},   {ENDED_FAULT, 4, 5},      {ENDED_FAULT, 6, 4},      {ENDED_FAULT, 7, 3},
     {ENDED_REFUSED, TOWER_OVER_QUOTA, 1}, {ENDED_EXCEPTION, 6, 1}, {ENDED_EXCEPTION, 13, 5},
+    {ENDED_EXCEPTION, 14, 2},
 };
 
 static void wait_for_all(uint32_t count) {
@@ -54,6 +55,7 @@ static uint32_t begin_all(void) {
     count += begin(PROGRAM_FAMILY, 80, 4) != 0;
     count += begin(PROGRAM_GREEDY, 9, 3) != 0;
     count += begin(PROGRAM_PARENT, 40, 5) != 0;
+    count += begin(PROGRAM_WIDE, 30, 6) != 0;
     for (uint32_t i = 0; i < SPINNERS; i++) {
         count += begin(PROGRAM_SPINNER, 10, 2 + i) != 0;
     }
@@ -75,10 +77,41 @@ static uint32_t run_hostiles(uint32_t number) {
     return HOSTILES - ended[ENDED_EXIT][0];
 }
 
-/* With a number, only hostile programs run, which differ with it. */
+/* Returns how many rounds a process counts while some neighbors do something. */
+static uint32_t rounds_next_to(enum neighbor what, uint32_t count) {
+    uint32_t neighbors[MOST_NEIGHBORS], rounds = 0;
+    for (uint32_t i = 0; i < count; i++) {
+        neighbors[i] = begin(PROGRAM_NEIGHBOR, 400, what);
+    }
+    uint32_t counting = begin(PROGRAM_NEIGHBOR, 40, COUNTS_ROUNDS);
+    for (uint32_t ends = 0; ends <= count; ends++) {
+        struct answer end = wait();
+        rounds = end.first == counting ? end.third : rounds;
+        for (uint32_t i = 0; end.first == counting && i < count; i++) {
+            ask(CALL_END_CHILD, 0, neighbors[i], 0, 0);
+        }
+    }
+    return rounds;
+}
+
+/* The kernel measures the turns, and counts whose tables are forgotten. */
+static uint32_t run_neighbors(void) {
+    tell("rounds next to one that computes: #", rounds_next_to(COMPUTES, 1));
+    tell("rounds next to one that walks more regions than there are tables: #", rounds_next_to(WALKS_REGIONS, 1));
+    tell("rounds next to two that compute: #", rounds_next_to(COMPUTES, 2));
+    tell("rounds next to two that make calls: #", rounds_next_to(MAKES_CALLS, 2));
+    tell("rounds next to one that changes pages: #", rounds_next_to(CHANGES_PAGES, 1));
+    return 0;
+}
+
+/* Returns how much was wrong in a trial of some programs only. */
+static uint32_t run_trial(uint32_t trial) {
+    return trial == TRIAL_OF_TURNS ? run_neighbors() : run_hostiles(trial);
+}
+
 uint32_t program(uint32_t number) {
-    if (number) {
-        ask(CALL_SHUT_DOWN, 0, run_hostiles(number), 0, 0);
+    if (number != TRIAL_OF_ALL) {
+        ask(CALL_SHUT_DOWN, 0, run_trial(number), 0, 0);
     }
     tell_reply("a spawn with more than there is: ", ask(TOWER_SPAWN, 0, 100000, 0, 0));
     tell_reply("no child is left to wait for: ", wait());

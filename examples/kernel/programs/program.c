@@ -101,7 +101,7 @@ void need(bool holds, const char *what) {
 /* About ten seconds: another process may have no processor for a while, also of the host's. */
 #define WAIT_BOUND 30000000000u
 
-static uint64_t moment(void) {
+uint64_t moment(void) {
     uint32_t low, high;
     __asm__ volatile("rdtsc" : "=a"(low), "=d"(high) : : "memory");
     return low | (uint64_t)high << 32;

@@ -61,6 +61,9 @@ static inline volatile uint32_t *words(uint32_t page) {
     return at((uint64_t)page << 12);
 }
 
+/* The processor's ticks since it began. */
+uint64_t moment(void);
+
 /* Makes a call that succeeds once others have done their part. */
 void insist(uint32_t call, uint32_t flag, uint32_t first, uint32_t second, uint32_t third);
 /* Polls a word until it has that number; lets others run after some polls. Fails if it waits in vain. */

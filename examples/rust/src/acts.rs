@@ -256,7 +256,8 @@ impl Core<'_> {
     }
 
     /// Ends a process with all that descend from it, children first, and returns them in that order: it is the run of
-    /// their Exits. A kernel whose processors cache translations invalidates all of each of them.
+    /// their Exits. A kernel whose processors cache translations invalidates all of each of them. The next spawn or fork
+    /// may give one of their numbers to another process.
     ///
     /// # Errors
     ///
@@ -277,7 +278,8 @@ impl Core<'_> {
 
     /// Takes a page of a process back from all others that share it: it is the run of the Unmaps of their pages. `lost`
     /// gets these pages, in that order, and the result is how many there are. If it is less than the number of places,
-    /// the process has the page alone. Otherwise others may still have it. A kernel whose processors cache translations
+    /// the process has the page alone. Otherwise others may still have it. Those that lost it may access the same
+    /// addresses again, which maps pages of zeros of their own. A kernel whose processors cache translations
     /// invalidates those of these pages.
     ///
     /// # Errors

@@ -47,14 +47,15 @@ impl Region {
         self.blocks > 0 && begins < own + self.length && own < begins + length
     }
 
-    /// The place of a new block. The frames come first; the rest lies behind them, each at its alignment.
+    /// The place of a new block. The frames come first; the rest lies behind them, each at its alignment. A block of no
+    /// bytes has a place of its own too, so that `frees` finds it.
     fn place_for(&mut self, size: usize, align: usize) -> Option<usize> {
         if size == self.frame_bytes && !self.is_frames_out {
             self.is_frames_out = true;
             return Some(0);
         }
         let place = self.free.next_multiple_of(align);
-        let end = place.checked_add(size)?;
+        let end = place.checked_add(size.max(1))?;
         self.free = if end <= self.length { end } else { return None };
         Some(place)
     }
@@ -62,7 +63,7 @@ impl Region {
     fn allocated(&mut self, size: usize, align: usize) -> Option<NonNull<u8>> {
         let place = self.place_for(size, align)?;
         self.blocks += 1;
-        // SAFETY: the place lies in the region, or at its end.
+        // SAFETY: the place lies in the region.
         Some(unsafe { self.begins.add(place) })
     }
 }
@@ -90,6 +91,15 @@ impl Table {
         self.regions[place] = region;
         self.booting = Some(place);
         Ok(())
+    }
+
+    /// Ends each region with one of these bytes.
+    fn end_all(&mut self, begins: usize, length: usize) {
+        for region in &mut self.regions {
+            if region.meets(begins, length) {
+                *region = Region::UNUSED;
+            }
+        }
     }
 }
 
@@ -131,6 +141,13 @@ pub fn frees(block: NonNull<u8>) -> bool {
         let region = table.regions.iter_mut().find(|it| it.meets(address, 1));
         region.map(|it| it.blocks -= 1).is_some()
     })
+}
+
+/// Notes that the global allocator has returned these bytes. If they lie in a region, its block was freed, and the core
+/// over it was forgotten before (`mem::forget`). What lies there from now on is the allocator's.
+#[cfg(feature = "heap")]
+pub fn end_at(block: NonNull<u8>, size: usize) {
+    with_table(|table| table.end_all(block.addr().get(), size.max(1)));
 }
 
 /// Boots a core over a block, and returns the status.
@@ -222,5 +239,55 @@ impl<'block> Core<'block> {
         Core::booted(BootFault::BadWideSize, borrowed, |handle| {
             boot_over(frames, handle, block)
         })
+    }
+}
+
+#[cfg(test)]
+mod tests {
+    use super::{Region, Table};
+    use ::core::ptr::NonNull;
+
+    const FRAMES: usize = 16 * 4096;
+
+    #[repr(align(4096))]
+    struct Block([u8; FRAMES + 4096]);
+
+    fn region_of(block: &mut Block) -> Region {
+        let length = block.0.len();
+        Region::over(NonNull::from(&mut block.0).cast(), length, FRAMES)
+    }
+
+    #[test]
+    fn each_block_lies_in_its_region() {
+        let mut block = Block([0; FRAMES + 4096]);
+        let mut region = region_of(&mut block);
+        let mut last = 0;
+        for size in [FRAMES, 4000, 0, 16, 0, 78, 0, 1] {
+            if let Some(found) = region.allocated(size, 1) {
+                let address = found.addr().get();
+                assert!(address != last && region.meets(address, 1), "{size}");
+                last = address;
+            }
+        }
+        assert_eq!(region.allocated(0, 1), None);
+    }
+
+    #[test]
+    fn a_region_ends_where_its_bytes_are_the_allocators() {
+        let mut block = Block([0; FRAMES + 4096]);
+        let region = region_of(&mut block);
+        let begins = region.begins.addr().get();
+        let mut table = Table {
+            regions: [Region::UNUSED; super::MOST_BLOCKS],
+            booting: None,
+        };
+        assert_eq!(table.begin(region), Ok(()));
+        assert!(table.regions[0].allocated(FRAMES, 16).is_some());
+        table.end_all(begins - 16, 16);
+        table.end_all(begins + FRAMES + 4096, 16);
+        assert_eq!(table.regions[0].blocks, 1);
+        table.end_all(begins + FRAMES + 4095, 1);
+        assert_eq!(table.regions[0].blocks, 0);
+        assert_eq!(table.begin(region), Ok(()));
     }
 }

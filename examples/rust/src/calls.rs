@@ -1,9 +1,10 @@
-//! Each call as a method, which returns the call's result or why it was not carried out.
+//! Each call as a method, which returns the call's result or why it was not carried out. A call that can end cached
+//! translations returns these.
 //!
 //! The event's CPU is 0: it has no effect.
 
 use crate::core::Core;
-use crate::words::{Call, Event, Failure, Page, Pid, Reply, Size, Vaddr};
+use crate::words::{Call, Ended, Event, Failure, Page, Pid, Reply, Size, Vaddr};
 
 /// The state of a page of a process.
 #[derive(Clone, Copy, Debug, PartialEq, Eq, Hash)]
@@ -49,6 +50,15 @@ impl Core<'_> {
         }
     }
 
+    /// Carries out a call that returns nothing to its process, and returns what it ended.
+    fn ending(&mut self, pid: Pid, call: Call) -> Result<Ended, Failure> {
+        let (reply, ended) = self.step_ending(&Event { cpu: 0, pid, call });
+        match reply.into_result()? {
+            Reply::Done => Ok(ended),
+            told => untold(told),
+        }
+    }
+
     fn child(&mut self, pid: Pid, call: Call) -> Result<Pid, Failure> {
         match self.call(pid, call)? {
             Reply::Child(child) => Ok(child),
@@ -68,13 +78,20 @@ impl Core<'_> {
         }
     }
 
-    /// Writes the low bytes of a value at an address.
+    /// Writes the low bytes of a value at an address. A page that gets its first store gets a frame, and the translation of
+    /// its zeros ends.
     ///
     /// # Errors
     ///
     /// The fault or the refusal, as docs/MACHINE.md has it; nothing changed then.
-    pub fn store(&mut self, pid: Pid, addr: Vaddr, size: Size, value: u32) -> Result<(), Failure> {
-        self.done(pid, Call::Store { addr, size, value })
+    pub fn store(
+        &mut self,
+        pid: Pid,
+        addr: Vaddr,
+        size: Size,
+        value: u32,
+    ) -> Result<Ended, Failure> {
+        self.ending(pid, Call::Store { addr, size, value })
     }
 
     /// Maps a page of zeros, with the right to write if `write`.
@@ -86,22 +103,22 @@ impl Core<'_> {
         self.done(pid, Call::Map { page, write })
     }
 
-    /// Removes a page from the process's space.
+    /// Removes a page from the process's space, and ends its translation.
     ///
     /// # Errors
     ///
     /// The fault or the refusal, as docs/MACHINE.md has it; nothing changed then.
-    pub fn unmap(&mut self, pid: Pid, page: Page) -> Result<(), Failure> {
-        self.done(pid, Call::Unmap { page })
+    pub fn unmap(&mut self, pid: Pid, page: Page) -> Result<Ended, Failure> {
+        self.ending(pid, Call::Unmap { page })
     }
 
-    /// Sets whether the process may write to a page.
+    /// Sets whether the process may write to a page. Without the right, the page's translation ends.
     ///
     /// # Errors
     ///
     /// The fault or the refusal, as docs/MACHINE.md has it; nothing changed then.
-    pub fn protect(&mut self, pid: Pid, page: Page, write: bool) -> Result<(), Failure> {
-        self.done(pid, Call::Protect { page, write })
+    pub fn protect(&mut self, pid: Pid, page: Page, write: bool) -> Result<Ended, Failure> {
+        self.ending(pid, Call::Protect { page, write })
     }
 
     /// Returns a page's flags, and how many slots share it.
@@ -153,7 +170,8 @@ impl Core<'_> {
         self.done(pid, Call::Withdraw { page, target })
     }
 
-    /// Maps a page that another process offers at `page`.
+    /// Maps a page that another process offers at `page`. If the page is lazy, it gets a frame, and the giver's translation
+    /// ends.
     ///
     /// # Errors
     ///
@@ -164,8 +182,8 @@ impl Core<'_> {
         giver: Pid,
         giver_page: Page,
         page: Page,
-    ) -> Result<(), Failure> {
-        self.done(
+    ) -> Result<Ended, Failure> {
+        self.ending(
             pid,
             Call::Accept {
                 giver,
@@ -193,13 +211,14 @@ impl Core<'_> {
         self.child(pid, Call::Fork { quota })
     }
 
-    /// Ends a process, whose quota returns to its parent.
+    /// Ends a process, whose quota returns to its parent, and all of its translations. The next spawn or fork may give its
+    /// number to another process.
     ///
     /// # Errors
     ///
     /// The fault or the refusal, as docs/MACHINE.md has it; nothing changed then.
-    pub fn exit(&mut self, pid: Pid) -> Result<(), Failure> {
-        self.done(pid, Call::Exit)
+    pub fn exit(&mut self, pid: Pid) -> Result<Ended, Failure> {
+        self.ending(pid, Call::Exit)
     }
 
     /// Returns a process's quota, and how much of it is used and given.

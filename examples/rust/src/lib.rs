@@ -12,7 +12,7 @@
 //! let mut core = Core::boot(16)?;
 //! let (page, addr) = (Page(0x40000), Vaddr(0x4000_0ffc));
 //! core.map(Pid::ROOT, page, true)?;
-//! core.store(Pid::ROOT, addr, Size::Four, 7)?;
+//! core.store(Pid::ROOT, addr, Size::Four, 7)?.ignore(); // (no processor caches translations here)
 //! assert_eq!(core.load(Pid::ROOT, addr, Size::Four)?, 7);
 //! let call = Call::Quota;
 //! let told = Reply::Quota { quota: 15, used: 3, given: 0 };
@@ -22,6 +22,43 @@
 //! assert_eq!((event.to_string(), told.to_string()), ("0 0 quota".into(), "quota 15 3 0".into()));
 //! # Ok::<(), Box<dyn std::error::Error>>(())
 //! ```
+//!
+//! # Translations
+//!
+//! A store, an unmap, a protect, an accept and an exit can end translations that a processor caches. Each returns them as
+//! [`Ended`], and the compiler warns if they are dropped. `Core::step_ending` does so for any event.
+//!
+//! ```
+//! use tower::{Core, Ended, Page, Pid};
+//!
+//! fn invalidate(ended: Ended) -> u32 {
+//!     match ended {
+//!         Ended::Nothing => 0,
+//!         Ended::Page { .. } => 1,  // INVLPG
+//!         Ended::Pages { .. } => 2, // twice
+//!         Ended::Space { .. } => 3, // all of an identifier
+//!     }
+//! }
+//! let mut core = Core::boot(16)?;
+//! core.map(Pid::ROOT, Page(0x40000), true)?;
+//! assert_eq!(invalidate(core.protect(Pid::ROOT, Page(0x40000), true)?), 0);
+//! assert_eq!(invalidate(core.unmap(Pid::ROOT, Page(0x40000))?), 1);
+//! # Ok::<(), Box<dyn std::error::Error>>(())
+//! ```
+//!
+//! # For a host of plugins
+//!
+//! `examples/tenants.rs` is one, with two tenants, a buffer that both see, and quotas. Four things differ from what a host
+//! may expect:
+//!
+//! - **A stray address is no error within the user range.** A load or a store of a page that isn't mapped maps a page of
+//!   zeros, if the quota allows it, and the tenant pays for it. Check the bounds of an offset before the access.
+//!   [`Core::peek`] reads without mapping.
+//! - **Each holder of a page may offer it to others.** If the plugins make their own offers, a buffer that one tenant
+//!   gave another may therefore be a third's.
+//! - **After [`Core::take_back`] a tenant may store at the same address.** Its store is done, in a page of its own that
+//!   the access maps. The tenant gets no notice of the loss, so the host gives it one.
+//! - **A [`Pid`] comes again** once its process has ended.
 #![no_std]
 #![warn(missing_docs)]
 

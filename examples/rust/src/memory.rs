@@ -74,7 +74,8 @@ impl FusedIterator for Pages<'_> {}
 
 impl Core<'_> {
     /// Reads a process's memory from an address on, as copyin does, with the effect of one-byte loads in order. A page
-    /// that is not mapped is mapped first, as a load does it; no page gets a frame.
+    /// that is not mapped is mapped first, as a load does it, and the quota pays for it; no page gets a frame.
+    /// [`Core::peek`] maps nothing.
     ///
     /// # Errors
     ///

@@ -30,9 +30,17 @@ extern "C" fn rattle_alloc(size: usize, align: usize) -> Tried {
         return blocks::allocated(size, align).into();
     }
     #[cfg(feature = "heap")]
-    return heap::allocated(size).into();
+    return from_heap(size).into();
     #[cfg(not(feature = "heap"))]
     None.into()
+}
+
+#[cfg(feature = "heap")]
+fn from_heap(size: usize) -> Option<NonNull<u8>> {
+    let block = heap::allocated(size)?;
+    #[cfg(feature = "blocks")]
+    blocks::end_at(block, size);
+    Some(block)
 }
 
 /// Returns a larger block with the first bytes of the old one, and frees the old one. `libtower_images.a` imports it.

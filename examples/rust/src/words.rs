@@ -7,19 +7,33 @@ use ::core::fmt;
 /// The bytes of a frame.
 pub const FRAME_BYTES: usize = 4096;
 
-/// A virtual address.
-#[derive(Clone, Copy, Debug, PartialEq, Eq, PartialOrd, Ord, Hash)]
+/// A virtual address. Its debug output is in hexadecimal, as in docs/MACHINE.md.
+#[derive(Clone, Copy, PartialEq, Eq, PartialOrd, Ord, Hash)]
 pub struct Vaddr(pub u32);
 
-/// A page: an address without its last 12 bits.
-#[derive(Clone, Copy, Debug, PartialEq, Eq, PartialOrd, Ord, Hash)]
+impl fmt::Debug for Vaddr {
+    fn fmt(&self, to: &mut fmt::Formatter<'_>) -> fmt::Result {
+        write!(to, "Vaddr({:#x})", self.0)
+    }
+}
+
+/// A page: an address without its last 12 bits. Its debug output is in hexadecimal, as in docs/MACHINE.md.
+#[derive(Clone, Copy, PartialEq, Eq, PartialOrd, Ord, Hash)]
 pub struct Page(pub u32);
+
+impl fmt::Debug for Page {
+    fn fmt(&self, to: &mut fmt::Formatter<'_>) -> fmt::Result {
+        write!(to, "Page({:#x})", self.0)
+    }
+}
 
 /// A frame of memory.
 #[derive(Clone, Copy, Debug, PartialEq, Eq, PartialOrd, Ord, Hash)]
 pub struct Frame(pub u32);
 
-/// The number of a process, 0 to 63.
+/// The number of a process, 0 to 63. It has no generation: once a process has ended, the next spawn or fork may give its
+/// number to another. A copy that a program keeps then names the other process. `examples/tenants.rs` has each number in
+/// one place, and ends the process when that is dropped.
 #[derive(Clone, Copy, Debug, PartialEq, Eq, PartialOrd, Ord, Hash)]
 pub struct Pid(u8);
 
@@ -376,7 +390,24 @@ impl fmt::Display for WalkEnd {
 
 impl Error for WalkEnd {}
 
-/// Which cached translations an event ends.
+/// Which cached translations an event ends: what each processor that caches them has to invalidate before the next access
+/// or event. A process doesn't get it. A program in which nothing caches translations drops it by [`Ended::ignore`].
+///
+/// ```compile_fail
+/// #![deny(unused_must_use)]
+/// # use tower::{Core, Page, Pid};
+/// # let mut core = Core::boot(16).unwrap();
+/// core.unmap(Pid::ROOT, Page(0x40000)).unwrap(); // an error: what it ended is dropped
+/// ```
+///
+/// ```
+/// #![deny(unused_must_use)]
+/// # use tower::{Core, Page, Pid};
+/// # let mut core = Core::boot(16).unwrap();
+/// core.map(Pid::ROOT, Page(0x40000), true).unwrap();
+/// core.unmap(Pid::ROOT, Page(0x40000)).unwrap().ignore();
+/// ```
+#[must_use = "processors that cache translations have to invalidate these; `ignore` drops them"]
 #[derive(Clone, Copy, Debug, PartialEq, Eq, Hash)]
 pub enum Ended {
     /// None.
@@ -402,6 +433,11 @@ pub enum Ended {
         /// Whose they were.
         pid: Pid,
     },
+}
+
+impl Ended {
+    /// Does nothing: for a program in which no processor, emulator or copy caches translations.
+    pub const fn ignore(self) {}
 }
 
 /// Returns the value of a number of the library's, whose contracts leave no other number.

@@ -48,7 +48,8 @@ fn offers_come_in_the_order_of_pages_and_targets() {
     let (mut core, giver, taker) = core_with_two();
     for number in [3, 1] {
         core.store(giver, address(number), Size::Four, number)
-            .unwrap();
+            .unwrap()
+            .ignore();
     }
     core.offer(giver, page(3), taker, false).unwrap();
     core.offer(giver, page(1), taker, true).unwrap();
@@ -72,10 +73,14 @@ fn offers_come_in_the_order_of_pages_and_targets() {
 #[test]
 fn a_page_is_taken_back_from_all_that_share_it() {
     let (mut core, giver, taker) = core_with_two();
-    core.store(giver, address(0), Size::Four, 77).unwrap();
+    core.store(giver, address(0), Size::Four, 77)
+        .unwrap()
+        .ignore();
     for number in 5..8 {
         core.offer(giver, page(0), taker, true).unwrap();
-        core.accept(taker, giver, page(0), page(number)).unwrap();
+        core.accept(taker, giver, page(0), page(number))
+            .unwrap()
+            .ignore();
     }
     let holder = |number| Holder {
         pid: taker,
@@ -102,7 +107,8 @@ fn dirty_pages_are_seen_copied_and_cleaned() {
     let (mut core, pid, _) = core_with_two();
     for number in [2, 9] {
         core.store(pid, address(number), Size::Four, number)
-            .unwrap();
+            .unwrap()
+            .ignore();
     }
     core.load(pid, address(4), Size::One).unwrap();
     let dirty: Vec<Page> = core.dirty_pages(pid).collect();
@@ -142,7 +148,9 @@ fn bytes_are_loaded_into_all_pages_or_none() {
 #[test]
 fn an_event_may_write_the_frames_of_its_process_and_free_ones() {
     let (mut core, giver, taker) = core_with_two();
-    core.store(giver, address(0), Size::Four, 77).unwrap();
+    core.store(giver, address(0), Size::Four, 77)
+        .unwrap()
+        .ignore();
     core.map(giver, page(1), true).unwrap();
     core.offer(giver, page(1), taker, true).unwrap();
     let directory = core.directory(giver).unwrap();

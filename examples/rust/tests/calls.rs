@@ -312,9 +312,10 @@ fn tells_both_pages_that_a_store_fills() {
 fn calls_as_methods() -> Result<(), Box<dyn std::error::Error>> {
     let (mut core, child) = shared();
     core.map(Pid::ROOT, Page(0x40001), true)?;
-    core.store(Pid::ROOT, Vaddr(0x4000_1000), Size::Two, 0x1234)?;
+    core.store(Pid::ROOT, Vaddr(0x4000_1000), Size::Two, 0x1234)?
+        .ignore();
     assert_eq!(core.load(Pid::ROOT, Vaddr(0x4000_1001), Size::One)?, 0x12);
-    core.protect(Pid::ROOT, Page(0x40001), false)?;
+    core.protect(Pid::ROOT, Page(0x40001), false)?.ignore();
     let fault = Failure::Fault {
         addr: Vaddr(0x4000_1000),
         code: 7,
@@ -341,11 +342,56 @@ fn calls_as_methods() -> Result<(), Box<dyn std::error::Error>> {
     };
     assert_eq!(core.quota(child)?, usage);
     let grandchild = core.spawn(child, 1)?;
-    core.exit(grandchild)?;
+    core.exit(grandchild)?.ignore();
     let copy = core.fork(Pid::ROOT, 10)?;
-    core.unmap(copy, Page(0x40001))?;
-    core.exit(copy)?;
+    core.unmap(copy, Page(0x40001))?.ignore();
+    core.exit(copy)?.ignore();
     assert_eq!(format!("{core:?}"), "Core { frames: 64, .. }");
+    Ok(())
+}
+
+#[test]
+fn calls_return_what_they_end() -> Result<(), Failure> {
+    let mut core = Core::boot(64).unwrap();
+    let child = core.spawn(Pid::ROOT, 10)?;
+    let (first, second) = (Page(0x40000), Page(0x40001));
+    let page = |pid, page| Ended::Page { pid, page };
+    core.map(Pid::ROOT, first, true)?;
+    core.map(Pid::ROOT, second, true)?;
+    let across = Vaddr(0x4000_0ffe);
+    let both = Ended::Pages {
+        pid: Pid::ROOT,
+        first,
+        second,
+    };
+    assert_eq!(core.store(Pid::ROOT, across, Size::Four, 7)?, both);
+    assert_eq!(
+        core.store(Pid::ROOT, across, Size::Four, 8)?,
+        Ended::Nothing
+    );
+    assert_eq!(core.protect(Pid::ROOT, first, true)?, Ended::Nothing);
+    assert_eq!(
+        core.protect(Pid::ROOT, first, false)?,
+        page(Pid::ROOT, first)
+    );
+    let lazy = Page(0x50000);
+    core.map(Pid::ROOT, lazy, true)?;
+    core.offer(Pid::ROOT, lazy, child, true)?;
+    assert_eq!(
+        core.accept(child, Pid::ROOT, lazy, first)?,
+        page(Pid::ROOT, lazy)
+    );
+    core.offer(Pid::ROOT, second, child, true)?;
+    assert_eq!(
+        core.accept(child, Pid::ROOT, second, second)?,
+        Ended::Nothing
+    );
+    assert_eq!(core.unmap(child, first)?, page(child, first));
+    assert_eq!(
+        core.unmap(child, first),
+        Err(Failure::Refused(Cause::NotMapped))
+    );
+    assert_eq!(core.exit(child)?, Ended::Space { pid: child });
     Ok(())
 }
 
@@ -458,4 +504,16 @@ fn goes_over_pages() {
     assert!(lazy.lazy && lazy.may && !lazy.write && !lazy.accessed && lazy.holders == 1);
     assert_eq!(core.next_page(Pid::ROOT, Page(0xf0000)), None);
     assert_eq!(core.pages(Pid::new(9).unwrap()).count(), 0);
+}
+
+#[test]
+fn addresses_print_in_hexadecimal() {
+    let failure = Failure::Fault {
+        addr: Vaddr(0x5000_0000),
+        code: 7,
+    };
+    assert_eq!(
+        format!("{failure:?} {:?}", Page(0x40000)),
+        "Fault { addr: Vaddr(0x50000000), code: 7 } Page(0x40000)"
+    );
 }

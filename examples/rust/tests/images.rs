@@ -15,7 +15,8 @@ const SECOND_ROLE: usize = 1548 + 16 * 3 + 12;
 fn stored() -> (Core<'static>, Vec<u8>) {
     let mut core = Core::boot(16).unwrap();
     core.store(Pid::ROOT, Vaddr(0x4000_0000), Size::Four, 0xdead_beef)
-        .unwrap();
+        .unwrap()
+        .ignore();
     let image = core.image().unwrap();
     (core, image)
 }

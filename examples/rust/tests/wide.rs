@@ -6,7 +6,9 @@ use tower::{BootFault, Core, Pid, Size, Vaddr};
 fn fill(core: &mut Core<'_>, pages: u32) {
     let addr = |page: u32| Vaddr(0x4000_0000 + page * 4096 + page % 1000 * 4);
     for page in 0..pages {
-        core.store(Pid::ROOT, addr(page), Size::Four, page).unwrap();
+        core.store(Pid::ROOT, addr(page), Size::Four, page)
+            .unwrap()
+            .ignore();
     }
     for page in 0..pages {
         assert_eq!(core.load(Pid::ROOT, addr(page), Size::Four), Ok(page));

@@ -1,0 +1,116 @@
+/* Each allocation of each function of the C library that makes one is refused in turn. The function then returns that
+ * there is no memory, leaves the handle and the number of blocks as they were, and succeeds at the next call. Prints how
+ * many allocations each makes. The status is 1 at the first that does otherwise. checks/programs/fail_alloc runs it. */
+#include <stdio.h>
+#include <string.h>
+
+#define HEAP_OF_LIBRARY
+#include "heap.h"
+#include "tower_images.h"
+
+enum { FRAMES = 32, LENGTH = TOWER_IMAGE_LENGTH(FRAMES), NONE = -1 };
+
+static uint8_t image[LENGTH], bytes[LENGTH];
+static struct tower tower = TOWER_NONE;
+
+static void need(bool holds, const char *name, const char *what) {
+    if (!holds) {
+        printf("%s: not so, with allocation %ld refused: %s\n", name, heap_refused, what);
+        exit(1);
+    }
+}
+
+static uint32_t boot(void) {
+    return tower_boot(FRAMES, &tower);
+}
+
+static uint32_t boot_wide(void) {
+    return tower_boot_wide(FRAMES, &tower);
+}
+
+static uint32_t write_image(void) {
+    size_t size = 0;
+    return tower_image(&tower, bytes, LENGTH, &size);
+}
+
+static uint32_t check(void) {
+    struct tower_verdict verdict = {0};
+    return tower_check(&tower, &verdict);
+}
+
+static uint32_t check_bytes(void) {
+    struct tower_verdict verdict = {0};
+    return tower_check_bytes(image, LENGTH, &verdict);
+}
+
+static uint32_t restore(void) {
+    struct tower_verdict verdict = {0};
+    return tower_restore(image, LENGTH, &tower, &verdict);
+}
+
+/* A function, what it returns where there is no memory, and whether it makes a core. It returns 0 where it succeeds. */
+static const struct trial {
+    const char *name;
+    uint32_t (*call)(void);
+    uint32_t no_memory;
+    bool makes_core;
+} trials[] = {
+    {"tower_boot", boot, TOWER_NO_MEMORY, true},
+    {"tower_boot_wide", boot_wide, TOWER_NO_MEMORY, true},
+    {"tower_image", write_image, TOWER_IMAGE_NO_MEMORY, false},
+    {"tower_check", check, TOWER_CHECK_NO_MEMORY, false},
+    {"tower_check_bytes", check_bytes, TOWER_CHECK_NO_MEMORY, false},
+    {"tower_restore", restore, TOWER_RESTORE_NO_MEMORY, true},
+};
+
+/* Boots a core for the functions that want one, with a page that was stored to. */
+static void open_core(void) {
+    struct tower_event store = tower_store(0, 0x40000000, 4, 7);
+    struct tower_reply reply;
+    need(boot() == TOWER_BOOTED && tower_step(&tower, &store, &reply), "tower_boot", "a core");
+}
+
+/* Calls it with one allocation refused, and returns whether it got that far. */
+static bool refuses(const struct trial *it, long which) {
+    size_t before = heap_blocks;
+    bool was_live = tower.live;
+    heap_refused = which;
+    heap_requests = 0;
+    uint32_t status = it->call();
+    bool reached = heap_requests > which;
+    if (reached) {
+        need(status == it->no_memory, it->name, "it returns that there is no memory");
+        need(heap_blocks == before, it->name, "it frees what it got");
+        need(tower.live == was_live, it->name, "it leaves the handle");
+        heap_refused = NONE;
+        status = it->call();
+    }
+    heap_refused = NONE;
+    need(status == 0, it->name, "it succeeds with memory");
+    if (it->makes_core) {
+        tower_free(&tower);
+    }
+    need(heap_blocks == before, it->name, "it keeps no block");
+    return reached;
+}
+
+int main(void) {
+    open_core();
+    need(write_image() == TOWER_IMAGE_WRITTEN, "tower_image", "an image");
+    memcpy(image, bytes, LENGTH);
+    tower_free(&tower);
+    for (size_t at = 0; at < sizeof trials / sizeof *trials; at++) {
+        long which = 0;
+        if (!trials[at].makes_core) {
+            open_core();
+        }
+        while (refuses(&trials[at], which)) {
+            which++;
+        }
+        printf("%s: %ld\n", trials[at].name, which);
+        need(!memcmp(image, bytes, LENGTH), trials[at].name, "the core is as it was");
+        tower_free(&tower);
+    }
+    need(heap_blocks == 0, "all", "no block is left");
+    return 0;
+}
