@@ -29,8 +29,8 @@ static uint32_t taken(uint32_t pid) {
     return tower_shadow_taken_frames(&shadow, pid);
 }
 
-/* Whether a process has more frames than the instructions that it runs can need. One that waits for its turn needs none.
- */
+/* Whether a process has more frames than the instructions that it runs can need. One that waits for its turn needs
+ * none. */
 static bool has_more(uint32_t pid) {
     return taken(pid) > SHADOW_LEAST * running_threads(pid);
 }

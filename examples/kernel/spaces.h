@@ -15,9 +15,9 @@ struct tower_reply end_family(uint32_t pid, struct tower_processes *exited);
 /* Writes bytes into the memory of a process that never ran. Its pages have that right afterwards. */
 struct tower_reply load_bytes(uint32_t pid, uint32_t address, const uint8_t *bytes, size_t count, bool write);
 
-/* Handles a page fault of the process that runs here: the core gets the access of a byte, which changes none, and the page
- * gets its shadow entry. Returns whether the process may make the access again. Otherwise the core stopped it, and `reply`
- * is the fault or the refusal. */
+/* Handles a page fault of the process that runs here: the core gets the access of a byte, which changes none, and the
+ * page gets its shadow entry. Returns whether the process may make the access again. Otherwise the core stopped it, and
+ * `reply` is the fault or the refusal. */
 bool handle_fault(uint32_t pid, uint64_t address, bool write, struct tower_reply *reply);
 
 struct spaces_counts {
