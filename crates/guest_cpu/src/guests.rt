@@ -59,14 +59,14 @@ impl Guest {
     pub fn register(&self, register: Reg) -> u32
         ensures { result ≡ register_of self.now register }
     {
-        self.registers[register.number() as usize] // what it holds
+        self.registers[register.number() as usize]
     }
 
     /// The place in its program of the instruction that comes next.
     pub fn counter(&self) -> usize
         ensures { result ≡ self.now.counter }
     {
-        self.counter // where it stands
+        self.counter
     }
 
     /// The event that an instruction makes, where it makes a call.

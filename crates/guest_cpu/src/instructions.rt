@@ -42,7 +42,7 @@ impl Reg {
         ensures value { result ≡ self }
         ensures bound { result < 8 }
     {
-        self.number // of the register
+        self.number
     }
 }
 

@@ -89,7 +89,7 @@ impl DirWord {
     pub fn word(self) -> u32
         ensures { result ≡ self }
     {
-        self.word // PDE: as it stands
+        self.word
     }
 
     /// The frame that it names (bits 31 to 12).
@@ -105,7 +105,7 @@ impl DirWord {
         requires { frame < 2 ^ 20 }
         ensures { self.new ≡ word_with_frame self.old frame }
     {
-        self.word = naming(self.word, frame); // PDE: address
+        self.word = naming(self.word, frame);
     }
 
     /// Whether it is present (bit 0, P): else the processor reads nothing else of it.
@@ -140,28 +140,28 @@ impl DirWord {
     pub fn set_present(&mut self, value: bool)
         ensures { self.new ≡ with_flag self.old 0 value }
     {
-        self.word = set_bit(self.word, PRESENT, value); // PDE: P
+        self.word = set_bit(self.word, PRESENT, value);
     }
 
     /// Sets or clears bit 1, and no other bit.
     pub fn set_writable(&mut self, value: bool)
         ensures { self.new ≡ with_flag self.old 1 value }
     {
-        self.word = set_bit(self.word, WRITABLE, value); // PDE: R/W
+        self.word = set_bit(self.word, WRITABLE, value);
     }
 
     /// Sets or clears bit 2, and no other bit.
     pub fn set_user(&mut self, value: bool)
         ensures { self.new ≡ with_flag self.old 2 value }
     {
-        self.word = set_bit(self.word, USER, value); // PDE: U/S
+        self.word = set_bit(self.word, USER, value);
     }
 
     /// Sets or clears bit 5, and no other bit.
     pub fn set_accessed(&mut self, value: bool)
         ensures { self.new ≡ with_flag self.old 5 value }
     {
-        self.word = set_bit(self.word, ACCESSED, value); // PDE: A
+        self.word = set_bit(self.word, ACCESSED, value);
     }
 }
 
@@ -196,7 +196,7 @@ impl TableWord {
     pub fn word(self) -> u32
         ensures { result ≡ self }
     {
-        self.word // PTE: as it stands
+        self.word
     }
 
     /// The frame that it names (bits 31 to 12).
@@ -212,7 +212,7 @@ impl TableWord {
         requires { frame < 2 ^ 20 }
         ensures { self.new ≡ word_with_frame self.old frame }
     {
-        self.word = naming(self.word, frame); // PTE: address
+        self.word = naming(self.word, frame);
     }
 
     /// Whether it is present (bit 0, P): else the processor reads nothing else of it.
@@ -278,56 +278,56 @@ impl TableWord {
     pub fn set_present(&mut self, value: bool)
         ensures { self.new ≡ with_flag self.old 0 value }
     {
-        self.word = set_bit(self.word, PRESENT, value); // PTE: P
+        self.word = set_bit(self.word, PRESENT, value);
     }
 
     /// Sets or clears bit 1, and no other bit.
     pub fn set_writable(&mut self, value: bool)
         ensures { self.new ≡ with_flag self.old 1 value }
     {
-        self.word = set_bit(self.word, WRITABLE, value); // PTE: R/W
+        self.word = set_bit(self.word, WRITABLE, value);
     }
 
     /// Sets or clears bit 2, and no other bit.
     pub fn set_user(&mut self, value: bool)
         ensures { self.new ≡ with_flag self.old 2 value }
     {
-        self.word = set_bit(self.word, USER, value); // PTE: U/S
+        self.word = set_bit(self.word, USER, value);
     }
 
     /// Sets or clears bit 5, and no other bit.
     pub fn set_accessed(&mut self, value: bool)
         ensures { self.new ≡ with_flag self.old 5 value }
     {
-        self.word = set_bit(self.word, ACCESSED, value); // PTE: A
+        self.word = set_bit(self.word, ACCESSED, value);
     }
 
     /// Sets or clears bit 6, and no other bit.
     pub fn set_dirty(&mut self, value: bool)
         ensures { self.new ≡ with_flag self.old 6 value }
     {
-        self.word = set_bit(self.word, DIRTY, value); // PTE: D
+        self.word = set_bit(self.word, DIRTY, value);
     }
 
     /// Sets or clears bit 9, and no other bit.
     pub fn set_may(&mut self, value: bool)
         ensures { self.new ≡ with_flag self.old 9 value }
     {
-        self.word = set_bit(self.word, MAY, value); // PTE: bit 9
+        self.word = set_bit(self.word, MAY, value);
     }
 
     /// Sets or clears bit 10, and no other bit.
     pub fn set_lazy(&mut self, value: bool)
         ensures { self.new ≡ with_flag self.old 10 value }
     {
-        self.word = set_bit(self.word, LAZY, value); // PTE: bit 10
+        self.word = set_bit(self.word, LAZY, value);
     }
 
     /// Sets or clears bit 11, and no other bit.
     pub fn set_granted(&mut self, value: bool)
         ensures { self.new ≡ with_flag self.old 11 value }
     {
-        self.word = set_bit(self.word, GRANTED, value); // PTE: bit 11
+        self.word = set_bit(self.word, GRANTED, value);
     }
 }
 
