@@ -1,4 +1,4 @@
--- What each call of a live process is refused for, in order, and what it does.
+-- What each call of a live process does, and what each but Load and Store (Plans of fault_handler) is refused for, in order.
 use Rattle.std.proofs.Common.{ℕ, Bool, false, not, ◌&&◌, if◌then◌else◌, ◌==◌, nat_lt, nat_le, [], ◌∷◌, Option, Some, None, is_none, unwrap_or}
 use Rattle.page_words.specs.Addresses.{byte_count, covered, touched, is_user_page}
 use Rattle.page_words.specs.declared.addresses.Size.{Size}
