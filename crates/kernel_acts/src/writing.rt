@@ -99,10 +99,10 @@ fn may_write_table(core: &Core, event: &Event, pid: Pid, region: u32) -> bool
     takes_lazy_in(core, event, pid, region)
 }
 
-/// Returns whether an event may write a frame, if it were the next one. It may write free frames, the directory,
-/// the tables and the pages of its process, and, if it is an Accept of a lazy page, the giver's directory and the
-/// page's table. What it frees is among them. Every other frame stays as it is, except that accessed may be set or
-/// cleared in a directory's words. So whoever keeps something by frames drops what it keeps of those for which this is true.
+/// Returns whether an event may write a frame, if it were the next one. It may write free frames, the directory, the
+/// tables and the pages of its process, and, if it is an Accept of a lazy page, the giver's directory and the page's
+/// table. What it frees is among them. Every other frame stays as it is, except that accessed may be set or cleared in
+/// a directory's words. So whoever keeps something by frames drops what it keeps of those for which this is true.
 ///
 /// For a frame of a page it looks up the pages that the process has mapped, up to that one; for any other frame it
 /// looks up no more than one page.

@@ -28,7 +28,8 @@ fn may_write(core: &Core, event: &TowerEvent, frame: u32) -> Option<bool>
 /// Reports whether an event may write a frame, if it were the next one. It may write free frames, and the directory,
 /// the tables and the pages of its process. An Accept of a lazy page may also write the giver's directory and that
 /// page's table. What the event frees is among them. Every other frame stays as it is, except that accessed may be set
-/// or cleared in a directory's words. Returns false if the handle has no core, the numbers are no event, or there is no such frame.
+/// or cleared in a directory's words. Returns false if the handle has no core, the numbers are no event, or there is no
+/// such frame.
 #[unsafe(no_mangle)]
 pub extern "C" fn tower_may_write(
     alloc: Global,
