@@ -364,26 +364,3 @@ zero_touches v w p a told ended now later zero_frame none reply ended_is state e
     made done =
         let goes = sym (ap completes reply) ∙ done in
         wrote v w p a 0 now later goes state (sym (zero_there goes))
-
--- ---- An address of 64 bits
-
--- what a touch promises of its address
-pub record IsNear (v : View) (e : Event) (p address : ℕ) (access : Access) (told : Reply) (w : View) : Type 0 where
-  pub user : completes told ≡ true → IsUserPage (page_number address)
-  pub finds : completes told ≡ true → finds_at (memory_of w) p access address ≡ true
-  pub marked : completes told ≡ true → AreMarked w.state.spaces (slot_at p address) access
-
-pub near_touch : (v w : View) (p address : ℕ) (access : Access) (told : Reply) (ended : Ended)
-    → Touches v (touch_of v.state p address access) p (near address) access told ended w → IsNear v (touch_of v.state p address access) p address access told w
-near_touch v w p address access told ended t = record {
-  user = λ done. subst (λ n. IsUserPage (page_number n)) (same (t.user done)) (t.user done);
-  finds = λ done. ap (finds_at (memory_of w) p access) (sym (same (t.user done))) ∙ t.finds done;
-  marked = λ done. subst (λ n. AreMarked w.state.spaces (slot_at p n) access) (same (t.user done)) (t.marked done);
-}
-  where
-    same : IsUserPage (page_number (near address)) → near address ≡ address
-    same user = by (nat_lt address 0x100000000) user
-      where
-        by : (low : Bool) → IsUserPage (page_number (if low then address else 0xffffffff)) → (if low then address else 0xffffffff) ≡ address
-        by true h = refl
-        by false h = absurd (let l = h.1 in omega (arith, l))

@@ -172,10 +172,6 @@ module _ (v : View) (core : IsCore v) (e : Event) (found : finds_event v e ≡ t
   pub next_is : next v.state e ≡ after v.state e.pid e.call
   next_is = next-goes v.state e (ap completes (answered v e home.0 core found home.1) ∙ told v core e.pid home.0 home.1 e.call found)
 
-  -- it ends no translation
-  pub ends_none : ended_by v e ≡ end.Nothing
-  ends_none = accessed_ends_none v e found frame_taken
-
   book_stays : (next v.state e).book ≡ v.state.book
   book_stays = ap (λ (s : State). s.book) next_is ∙ same_book v core e.pid home.0 home.1 e.call found
 

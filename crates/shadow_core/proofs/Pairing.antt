@@ -413,14 +413,6 @@ still_ends v now = nothing_ends v v now now refl (record {
   ways = λ slot d f stays way. way;
 })
 
-pub fixed_then : (s t u : Shadow) → IsFixed s t → IsFixed t u → IsFixed s u
-fixed_then s t u first second = record {
-  pool = second.pool ∙ first.pool;
-  block = second.block ∙ first.block;
-  kernel = second.kernel ∙ first.kernel;
-  size = second.size ∙ first.size;
-}
-
 -- no access of a byte ends all of a process
 pub touch_keeps_roots : (v : View) (s : State) (p address q : ℕ) (access : Access) → is_all_of (ended_by v (touch_of s p address access)) q ≡ false
 touch_keeps_roots v s p address q Read = by (completes (answer v.state (load_byte p (near address))))
@@ -448,40 +440,7 @@ touch_keeps_roots v s p address q Write = by (completes (answer v.state (touch_o
 pub roots_then : (ended : Ended) (s t u : Shadow) → ((q : ℕ) → is_all_of ended q ≡ false) → ((q : ℕ) → is_all_of ended q ≡ false → root_frame t q ≡ root_frame s q) → RootsStay t u → RootsStay s u
 roots_then ended s t u none forgotten filled q frame is = filled q frame (forgotten q (none q) ∙ is)
 
--- a fault that was stopped isn't full, nor filled
-pub stopped_alone : (h : Handled) → IsStopped h → (h ≡ Full → ⊥) × (h ≡ Filled → ⊥)
-stopped_alone (Fault addr code) is = (λ e. cc, λ e. cc)
-stopped_alone (Refused cause) is = (λ e. cc, λ e. cc)
-stopped_alone Filled is = absurd is
-stopped_alone Full is = absurd is
-
--- the translations that a fill adds to, named otherwise
-pub filled_onto : (w : View) (before after : Translations) (u : Shadow) (p address : ℕ) (access : Access) → before ≡ after → HasFilled w before u p address access → HasFilled w after u p address access
-filled_onto w before after u p address access same filled = subst (λ (m : Translations). HasFilled w m u p address access) same filled
-
 -- ---- A reply that stops a fault
-
-pub stops : (r : Reply) (h : Handled) → stop_of r ≡ Some h → (completes r ≡ false) × (IsStopped h × (handled_of r ≡ h))
-stops (reply.Fault addr code) h is = (refl, stopped h (Fault addr code) (same_some _ _ is) tt)
-  where
-    same_some : (a b : Handled) → ◌≡◌ {A = Option Handled} (Some a) (Some b) → a ≡ b
-    same_some a b e = cc
-
-    stopped : (h k : Handled) → k ≡ h → IsStopped k → IsStopped h × (k ≡ h)
-    stopped h k e i = (subst IsStopped e i, e)
-stops (reply.Refused cause) h is = (refl, stopped h (Refused cause) (same_some _ _ is) tt)
-  where
-    same_some : (a b : Handled) → ◌≡◌ {A = Option Handled} (Some a) (Some b) → a ≡ b
-    same_some a b e = cc
-
-    stopped : (h k : Handled) → k ≡ h → IsStopped k → IsStopped h × (k ≡ h)
-    stopped h k e i = (subst IsStopped e i, e)
-stops _ h is = cc
-
-pub goes_through : (r : Reply) → stop_of r ≡ None → (completes r ≡ true) × (handled_of r ≡ Filled)
-goes_through (reply.Fault addr code) none = cc
-goes_through (reply.Refused cause) none = cc
-goes_through _ none = (refl, refl)
 
 -- ---- Accesses
 

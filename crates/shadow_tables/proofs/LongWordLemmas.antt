@@ -24,10 +24,6 @@ unfolding with_long
 byte-with_long_other xs p i w h (inl l) = byte-splice_below xs (little_bytes 8 w) p (p + 8) i (omega arith) l
 byte-with_long_other xs p i w h (inr l) = byte-splice_above xs (little_bytes 8 w) p (p + 8) i (omega arith) (omega arith) (omega arith) l
 
-pub length-with_long : (xs : List ℕ) (p w : ℕ) → p + 8 ≤ length xs → length (with_long xs p w) ≡ length xs
-unfolding with_long
-length-with_long xs p w h = length-splice xs (little_bytes 8 w) p (p + 8) (omega arith) h (omega arith)
-
 -- another word of the tables
 pub long_at-with_long_other : (xs : List ℕ) (p q w : ℕ) → p + 8 ≤ length xs → (q + 8 ≤ p) ⊎ (p + 8 ≤ q) → long_at (with_long xs p w) q ≡ long_at xs q
 long_at-with_long_other xs p q w h (inl l) = long_by_bytes _ _ q q (λ k b. byte-with_long_other xs p (q + k) w h (inl (omega arith)))

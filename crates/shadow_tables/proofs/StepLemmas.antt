@@ -12,36 +12,6 @@ use Rattle.shadow_tables.proofs.HoldingLemmas.{with_place-same, with_place-other
 use Rattle.shadow_tables.proofs.WayLemmas.{IsAt, place_of_way, next_at, named_by-link, none_some, same_way, same_translation, nothing_at, rooted_way, some_or_not, user_lower, index_at-below, index_at-root, prefix_at-next}
 use Rattle.shadow_tables.proofs.TableLemmas.{Wrote, Cleared, then_blocks, blocks_stay, table_stays, zero_word}
 
--- nothing is changed
-pub no_step : (t : Tables) (p page depth frame : ℕ) → p < 64 → IsShadow t → way t p page depth ≡ Some frame → IsStep t p page depth 1 (Some frame) t
-no_step t p page depth frame process stands is = record {
-  process = process;
-  stands = stands;
-  same = record { at = λ q at _ _. refl; roots = λ q frame e. e; blocks = same_blocks t };
-  others = record { roots = λ q _. refl; counts = λ q _ _. refl };
-  way_is = is;
-  most = omega arith;
-  none = tt;
-}
-  where
-    same_blocks : (t : Tables) → SameBlocks t t
-    same_blocks t = record { pool = refl; block = refl; kernel = refl; length = refl; frames = refl }
-
--- there was no frame
-pub none_left : (t : Tables) (p page depth : ℕ) → p < 64 → IsShadow t → count_of t.holdings 64 ≡ 0 → IsStep t p page depth 1 None t
-none_left t p page depth process stands none = record {
-  process = process;
-  stands = stands;
-  same = record { at = λ q at _ _. refl; roots = λ q frame e. e; blocks = same_blocks t };
-  others = record { roots = λ q _. refl; counts = λ q _ _. refl };
-  way_is = tt;
-  most = omega arith;
-  none = (none, omega (arith, none));
-}
-  where
-    same_blocks : (t : Tables) → SameBlocks t t
-    same_blocks t = record { pool = refl; block = refl; kernel = refl; length = refl; frames = refl }
-
 -- two steps in sequence
 pub then_step : (t u v : Tables) (p page first second cost more frame : ℕ) (found : Option ℕ) → IsStep t p page first cost (Some frame) u → IsStep u p page second more found v
     → IsStep t p page second (cost + more) found v

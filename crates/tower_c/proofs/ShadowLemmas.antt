@@ -37,12 +37,6 @@ stopped_number Full e = cc
 stopped_number (Fault addr code) e = tt
 stopped_number (Refused cause) e = tt
 
-pub few_statuses : (h : Handled) → status_of h ≤ 2
-few_statuses Filled = omega arith
-few_statuses Full = omega arith
-few_statuses (Fault addr code) = omega arith
-few_statuses (Refused cause) = omega arith
-
 pub handles : (v : View) (s : Shadow) (p address : ℕ) (write : Bool) (h : Handled) (ended : Ended) (w : View) (u : Shadow)
     → (h ≡ Full) ↔ (s.free < 4) → (s.free < 4 → (ended ≡ end.Nothing) × (w ≡ v) × (u ≡ s))
     → (4 ≤ s.free → h ≡ handled_of (answer v.state (touch_of v.state p address (access_of write))))
@@ -78,12 +72,6 @@ handles v s p address write h ended w u full unchanged handled ended_is state by
         apart Full a b = cc
         apart (Fault addr code) a b = cc
         apart (Refused cause) a b = cc
-
--- so it is under other names
-pub handles_none_as : (v : View) (s : Shadow) (o : Option ℕ) (address : ℕ) (write : Bool) (status : ℕ) (told : TowerReply) (ended : TowerEnded) → None ≡ o → status ≡ 2 → told ≡ no_event
-    → ended ≡ ended_numbers end.Nothing → HandlesIn v s o address write status told ended v s
-handles_none_as v s o address write status told ended none number reply nothing =
-    subst (λ (o : Option ℕ). HandlesIn v s o address write status told ended v s) none (number, reply, nothing, refl, refl)
 
 pub handles_as : (v : View) (s : Shadow) (o : Option ℕ) (p address : ℕ) (write : Bool) (access : Access) (h : Handled) (ended : Ended) (status : ℕ) (a : TowerReply) (b : TowerEnded) (w : View) (u : Shadow)
     → Some p ≡ o → access ≡ access_of write → status ≡ status_of h → a ≡ told_of h → b ≡ ended_numbers ended

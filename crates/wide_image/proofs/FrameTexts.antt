@@ -210,8 +210,3 @@ pub agree_at : (roles : List Role) (bytes rest : List ℕ) → HoldTheSame roles
 agree_at [] bytes rest a f role h used = cc
 agree_at (x ∷ roles) bytes rest a zero role h used = frame_first bytes ∙ a.0 (ap is_free (let e : x ≡ role = cc in e) ∙ used) ∙ sym (frame_first rest)
 agree_at (x ∷ roles) bytes rest a (suc f) role h used = frame_next bytes f ∙ agree_at roles (drop 4096 bytes) (drop 4096 rest) a.1 f role h used ∙ sym (frame_next rest f)
-
-pub blank_at : (roles : List Role) (bytes : List ℕ) → AreBlank roles bytes → (f : ℕ) → slice_get roles f ≡ Some Free → frame_bytes bytes f ≡ replicate 4096 0
-blank_at [] bytes a f h = cc
-blank_at (x ∷ roles) bytes a zero h = frame_first bytes ∙ a.0 (ap is_free (let e : x ≡ Free = cc in e))
-blank_at (x ∷ roles) bytes a (suc f) h = frame_next bytes f ∙ blank_at roles (drop 4096 bytes) a.1 f h

@@ -23,9 +23,6 @@ neither (Some c) y h = cc
 pub first_then : {C : Type 0} (x a y : Option C) → x ≡ a → is_some x ≡ true → x ≡ first_of a y
 first_then x a y is some = is ∙ sym (some_first a y (sym (ap is_some is) ∙ some))
 
-pub first_else : {C : Type 0} (x a y z : Option C) → x ≡ a → is_some x ≡ false → z ≡ y → z ≡ first_of a y
-first_else x a y z is none same = same ∙ sym (none_first a y (sym (ap is_some is) ∙ none))
-
 -- the first of two lists' tests
 pub front_bad : (xs ys : List (Bool × ℕ)) (x : Option ℕ) (c : ℕ) → x ≡ first_failing xs → x ≡ Some c → Some c ≡ first_failing (xs ++ ys)
 front_bad xs ys x c is e = sym (append_some xs ys c (sym is ∙ e))

@@ -48,8 +48,6 @@ long_more roles f role low =
     omega (arith, d, e, g)
 
 module _ (xs : List ℕ) (small : (i : ℕ) → slice_index xs i < 256) (n start count : ℕ) (long : start + 4116 * count ≤ length xs) where
-  pub read_none : AreRead xs n start count 0 [] []
-  read_none = record { text = refl; size = refl; most = omega arith; kinds = λ i r h. cc; blank = tt; many = refl }
 
   -- the bytes of one record
   piece : (at : ℕ) → at + 4116 ≤ length xs → role_bytes (role_at xs at) ≡ number (word_at xs (at + 4)) ++ number (word_at xs (at + 8)) ++ number (word_at xs (at + 12)) ++ number (word_at xs (at + 16))
