@@ -492,7 +492,7 @@ function begin() {
   find("title").textContent = `Film of a script on ${frameCount} frames`;
   find("heading").textContent = few ? "Frames" : "Frames in use";
   find("frames").className = frameCount > 64 ? "many" : "";
-  find("lines").append(...lines.map(makeLine));
+  lines.forEach((line, number) => find("lines").append(makeLine(line, number)));
   const ends = { whole: "The script ends here.", cut: "A film shows the first 2,000 events; the script goes on." };
   find("end").textContent = ends[end] || `Line ${end.split(" ")[1]} is malformed: the script is not run further.`;
   find("place").max = steps.length - 1;
