@@ -44,11 +44,7 @@ fn check_fault<R: Abort>(
 }
 
 fn check_event<R: Abort>(rt: &R, shadowed: &mut ShadowedCore, pid: Pid, call: Call) {
-    same(
-        rt,
-        &shadowed.event(&event_of(pid, call)).0,
-        &Reply::Done,
-    );
+    same(rt, &shadowed.event(&event_of(pid, call)).0, &Reply::Done);
 }
 
 #[test]
@@ -68,11 +64,7 @@ fn serves_faults_of_mapped_pages(rt: HostRuntime) -> Result<(), Fail> {
     check_event(&rt, &mut shadowed, pid, Call::Map { page, write: true });
     check_event(&rt, &mut shadowed, pid, store);
     check_fault(&rt, &mut shadowed, pid, at, Access::Read, Handled::Filled);
-    same(
-        &rt,
-        &byte_at(&shadowed, pid, at, Access::Write),
-        &Ok(0x5a),
-    );
+    same(&rt, &byte_at(&shadowed, pid, at, Access::Write), &Ok(0x5a));
     check_event(&rt, &mut shadowed, pid, Call::Unmap { page });
     same(
         &rt,
@@ -112,10 +104,38 @@ fn stops_faults_outside_and_in_a_full_pool(rt: HostRuntime) -> Result<(), Fail> 
         addr: Vaddr(u32::MAX),
         code: 4,
     };
-    check_fault(&rt, &mut shadowed, pid, 0x1_4000_0000, Access::Read, outside);
-    check_fault(&rt, &mut shadowed, pid, 0x4000_0000, Access::Read, Handled::Filled);
-    check_fault(&rt, &mut shadowed, pid, 0x4000_0000, Access::Write, Handled::Full);
+    check_fault(
+        &rt,
+        &mut shadowed,
+        pid,
+        0x1_4000_0000,
+        Access::Read,
+        outside,
+    );
+    check_fault(
+        &rt,
+        &mut shadowed,
+        pid,
+        0x4000_0000,
+        Access::Read,
+        Handled::Filled,
+    );
+    check_fault(
+        &rt,
+        &mut shadowed,
+        pid,
+        0x4000_0000,
+        Access::Write,
+        Handled::Full,
+    );
     shadowed.forget_all();
-    check_fault(&rt, &mut shadowed, pid, 0x4000_0000, Access::Write, Handled::Filled);
+    check_fault(
+        &rt,
+        &mut shadowed,
+        pid,
+        0x4000_0000,
+        Access::Write,
+        Handled::Filled,
+    );
     Ok(())
 }

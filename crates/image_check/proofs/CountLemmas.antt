@@ -4,7 +4,7 @@ use Rattle.std.specs.List.{range_with_len, list_any}
 use Rattle.std.proofs.lemmas.Bool.{cases_eq}
 use Rattle.std.proofs.lemmas.List.Sums.{sum_by-cons}
 use Rattle.page_words.specs.FiniteMap as map
-use Rattle.page_words.specs.FiniteMap.{Order, Map, nat_order, same}
+use Rattle.page_words.specs.FiniteMap.{Order, Map, same}
 use Rattle.page_words.proofs.MapLemmas.{same_itself, get-collect, len-insert}
 use Rattle.page_map.specs.Pages.{counted, count_range}
 use Rattle.image_check.specs.Counts.{sum_range}

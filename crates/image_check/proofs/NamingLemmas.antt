@@ -1,8 +1,7 @@
 -- What a directory names and maps, added up by the frames that it names in place of its slots.
-use Rattle.std.proofs.Common.{◌≡◌, ◌≢◌, ℕ, zero, suc, ◌+◌, ◌-◌, ◌*◌, ◌<◌, ◌≤◌, Bool, List, length, replicate, mul-add, add-mul, mul-le-mul_left, mul-zero, zero-mul, one-mul, refl, sym, ap, subst, ◌∙◌, arith, inl, inr, Option, Some, None}
-use Rattle.std.specs.Prelude.{slice_index, ◌==◌, if◌then◌else◌}
+use Rattle.std.proofs.Common.{◌≡◌, ◌≢◌, ℕ, zero, suc, ◌+◌, ◌-◌, ◌*◌, ◌<◌, ◌≤◌, Bool, List, length, mul-add, add-mul, mul-le-mul_left, mul-zero, zero-mul, one-mul, refl, sym, ap, ◌∙◌, arith, inl, inr, Option, Some, None}
+use Rattle.std.specs.Prelude.{◌==◌, if◌then◌else◌}
 use Rattle.std.proofs.lemmas.Bool.{cases_eq, cases_lt, eq-eqb, ne_eqb}
-use Rattle.std.proofs.lemmas.List.{length-replicate}
 use Rattle.page_words.specs.Words.{is_present}
 use Rattle.page_map.specs.Pages.{counted, count_range}
 use Rattle.page_map.proofs.PageLemmas.{count_range-add, count_range-le, count_range-more, count_range-none, count_range-zero, count_word}

@@ -1,6 +1,6 @@
 -- What the text of an image that represents a state lists of a process.
-use Rattle.std.proofs.Common.{◌≡◌, ℕ, ◌+◌, ◌-◌, ◌*◌, ◌<◌, ◌≤◌, Bool, true, false, ◌&&◌, ◌==◌, List, [], ◌∷◌, ◌++◌, map, length, take, refl, sym, ap, subst, ◌∙◌, arith, append-nil, inl, inr, Option, Some, None}
-use Rattle.std.specs.Prelude.{◌↔◌, IsTrue, MatchBool, if◌then◌else◌, nat_lt, slice_get}
+use Rattle.std.proofs.Common.{◌≡◌, ℕ, ◌+◌, ◌-◌, ◌*◌, ◌<◌, ◌≤◌, Bool, true, false, ◌&&◌, ◌==◌, List, [], ◌∷◌, ◌++◌, map, length, refl, sym, ap, subst, ◌∙◌, arith, append-nil, Option, Some, None}
+use Rattle.std.specs.Prelude.{◌↔◌, IsTrue, MatchBool, if◌then◌else◌}
 use Rattle.std.specs.Cmp.{both_ways}
 use Rattle.std.specs.Option.{option_and_then}
 use Rattle.std.specs.List.{flat_map, range_with_len}
@@ -13,8 +13,7 @@ use Rattle.page_words.specs.FiniteSet as set
 use Rattle.page_words.specs.Addresses.{slot_number, index_number}
 use Rattle.page_words.specs.Words.{frame_number, is_present}
 use Rattle.page_map.specs.Pages.{user_pages}
-use Rattle.alloc_table.specs.declared.Role.{Role}
-use Rattle.alloc_table.specs.declared.Role.TheVariants.{Table, Page}
+use Rattle.alloc_table.specs.declared.Role.TheVariants.{Table}
 use Rattle.address_space.specs.Spaces.{Slot, Cell, at_page}
 use Rattle.address_space.specs.Image.{table_at, word_of, present_word, page_word, page_frame, SlotStands, CellStands}
 use Rattle.process_table.specs.State.{State}
@@ -22,13 +21,12 @@ use Rattle.memory_image.specs.Image.{Image, IsImage, frames, role_at, memory_of}
 use Rattle.memory_image.specs.Sound.{IsSound, StandsFor}
 use Rattle.address_space.specs.ImageWords.{is_lazy_word, own_frame}
 use Rattle.memory_image.proofs.References.{same_some}
-use Rattle.image_check.specs.Told.{fails_nothing, verdict_on}
 use Rattle.image_check.specs.Verdict.{is_table_of}
 use Rattle.memory_image.proofs.MachineLemmas.{widened}
 use Rattle.image_check.proofs.ToldLemmas.{sound_is_told}
 use Rattle.image_map.specs.declared.runs.Run.{Run}
-use Rattle.image_map.specs.Runs.{pages_of, runs_of, own_table, own_if, runs_in, runs_at, pages_in}
-use Rattle.image_map.specs.Text.{run_line, runs_text, slot_text, pages_text, more_line, holders, limit}
+use Rattle.image_map.specs.Runs.{own_table, own_if, runs_in, runs_at, pages_in}
+use Rattle.image_map.specs.Text.{run_line, slot_text, pages_text, more_line, holders, limit}
 use Rattle.image_map.specs.Laws.{Listed, listed, listed_cell, runs_by, ListsEachRun, ListsEachSlot, HoldersAreSlots}
 use Rattle.image_map.proofs.Listing.{same-range, none-range, in-parts, through, mapped-through, word_at_page, runs-list, few-in-table}
 

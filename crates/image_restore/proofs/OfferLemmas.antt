@@ -1,6 +1,6 @@
 -- Offers that are made one after the other.
 use Rattle.std.proofs.Common.{◌≡◌, ◌≢◌, ℕ, ◌+◌, ◌<◌, Bool, true, false, cond, List, [], ◌∷◌, ◌++◌, map, length, take, get_or, refl, sym, ap, subst, ◌∙◌, arith, inl, inr, Option, Some, None, is_some}
-use Rattle.std.specs.Prelude.{if◌then◌else◌, slice_get}
+use Rattle.std.specs.Prelude.{if◌then◌else◌}
 use Rattle.std.specs.List.{Contains}
 use Rattle.std.specs.Option.{unwrap_or}
 use Rattle.std.proofs.lemmas.List.{take_more, map-append}
@@ -11,7 +11,7 @@ use Rattle.page_words.proofs.MapLemmas.{get-insert}
 use Rattle.page_words.proofs.SetLemmas.{same_cases}
 use Rattle.page_sharing.specs.Offers.{Offers, OfferKey, offer_key, offer_order}
 use Rattle.process_table.specs.State.{State, is_live}
-use Rattle.process_table.specs.Calls.{offer_refusal, after_offer}
+use Rattle.process_table.specs.Calls.{offer_refusal}
 use Rattle.process_table.specs.declared.causes.Cause.{Cause}
 use Rattle.process_table.specs.declared.causes.Cause.TheVariants as cause
 use Rattle.process_table.proofs.Refusals.{may_offer}
@@ -20,11 +20,10 @@ use Rattle.kernel_calls.specs.declared.calls.Call.TheVariants as call
 use Rattle.kernel_calls.specs.declared.calls.Event.{Event}
 use Rattle.kernel_calls.specs.declared.calls.Reply.{Reply}
 use Rattle.kernel_calls.specs.declared.calls.Reply.TheVariants as reply
-use Rattle.memory_image.specs.Image.{Image}
 use Rattle.memory_image.specs.Sound.{StandsFor}
 use Rattle.wide_image.specs.declared.offers.PendingOffer.{PendingOffer}
 use Rattle.wide_image.specs.Offers.{AreListed, pending_as}
-use Rattle.image_restore.specs.Resumed.{offer_event, is_done, after_offers, KeepsWhatStands, IsRefused}
+use Rattle.image_restore.specs.Resumed.{offer_event, is_done, after_offers, KeepsWhatStands}
 
 pub done_is : (r : Reply) → is_done r ≡ true → r ≡ reply.Done
 done_is reply.Done h = refl

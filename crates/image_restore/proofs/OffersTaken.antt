@@ -1,13 +1,12 @@
 -- The machine takes back the offers of a well-formed state, one after the other.
-use Rattle.std.proofs.Common.{◌≡◌, ◌≢◌, ℕ, zero, suc, ◌+◌, ◌*◌, ◌<◌, ◌≤◌, Bool, true, false, cond, not, ◌&&◌, List, [], ◌∷◌, length, take, get_or, length-take, get_or-take, refl, sym, ap, subst, ◌∙◌, arith, inl, inr, Option, Some, None, is_some}
-use Rattle.std.specs.Prelude.{if◌then◌else◌, slice_get, ◌==◌, nat_le, IsTrue}
-use Rattle.std.specs.List.{Contains}
-use Rattle.std.specs.Option.{option_map, unwrap_or}
-use Rattle.std.proofs.lemmas.Bool.{and_from, eq-eqb, ne_eqb, le-leb, lt-ltb}
+use Rattle.std.proofs.Common.{◌≡◌, ℕ, zero, suc, ◌+◌, ◌<◌, ◌≤◌, Bool, true, false, cond, not, ◌&&◌, List, [], ◌∷◌, length, take, length-take, get_or-take, refl, sym, ap, subst, ◌∙◌, arith, inl, inr, Option, Some, None, is_some}
+use Rattle.std.specs.Prelude.{if◌then◌else◌, slice_get, ◌==◌, nat_le}
+use Rattle.std.specs.Option.{unwrap_or}
+use Rattle.std.proofs.lemmas.Bool.{and_from, eq-eqb, ne_eqb, le-leb}
 use Rattle.std.proofs.lemmas.Option.{slice_get-get_or, slice_get_within, get_or_from_slice_get}
 use Rattle.page_words.specs.Addresses.{is_user_page}
 use Rattle.page_words.specs.FiniteMap as map
-use Rattle.page_words.specs.FiniteMap.{Map, same}
+use Rattle.page_words.specs.FiniteMap.{Map}
 use Rattle.page_words.specs.FiniteSet as set
 use Rattle.page_words.specs.FiniteSet.{Set}
 use Rattle.page_words.proofs.MapLemmas.{get-insert, get-retain_keys, get-map_values, len-insert, len-change_each}
@@ -15,7 +14,7 @@ use Rattle.page_words.proofs.OptionLemmas.{is_some-map}
 use Rattle.page_words.proofs.SetLemmas.{same_cases}
 use Rattle.address_space.specs.Spaces.{Cell, at_page, cell_or_fresh, fresh}
 use Rattle.address_space.proofs.costs.Sizes.{len-subset}
-use Rattle.page_sharing.specs.Offers.{Offers, OfferKey, offer_key, offer_order, pending}
+use Rattle.page_sharing.specs.Offers.{Offers, OfferKey, offer_order, pending}
 use Rattle.process_table.specs.State.{State, is_live, is_mapped}
 use Rattle.process_table.specs.Calls.{offer_refusal}
 use Rattle.process_table.specs.WellFormed.{IsWellFormed, IsOfferIn}

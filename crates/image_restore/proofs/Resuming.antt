@@ -1,24 +1,19 @@
 -- A stored machine is resumed as the same machine.
-use Rattle.std.proofs.Common.{◌≡◌, ◌≢◌, ℕ, ◌<◌, Bool, List, take, refl, sym, ap, subst, ◌∙◌, arith, Option, Some, None}
-use Rattle.std.specs.Prelude.{slice_get}
-use Rattle.std.specs.List.{Contains}
+use Rattle.std.proofs.Common.{◌≡◌, ℕ, Bool, List, take, refl, sym, ap, ◌∙◌, Option, Some, None}
 use Rattle.page_words.specs.FiniteMap as map
 use Rattle.page_words.proofs.MapLemmas.{same_map}
 use Rattle.page_sharing.specs.Offers.{Offers, OfferKey}
 use Rattle.process_table.specs.State.{State}
-use Rattle.process_table.specs.View.{View}
-use Rattle.process_table.specs.WellFormed.{IsWellFormed}
 use Rattle.process_table.proofs.ImageStanding.{stands_for_one_state}
 use Rattle.kernel_calls.specs.Machine.{answer}
 use Rattle.kernel_calls.specs.declared.calls.Reply.{Reply}
 use Rattle.kernel_calls.specs.declared.calls.Reply.TheVariants as reply
 use Rattle.memory_image.specs.Sound.{shown_by, StandsFor}
 use Rattle.wide_image.specs.declared.offers.PendingOffer.{PendingOffer}
-use Rattle.wide_image.specs.Offers.{AreListed, Rise, pending_as}
-use Rattle.wide_image.specs.Wide.{WideImage, text, Encodes}
-use Rattle.wide_image.specs.Stored.{IsWholeMachine}
+use Rattle.wide_image.specs.Offers.{AreListed, Rise}
+use Rattle.wide_image.specs.Wide.{WideImage}
 use Rattle.wide_image.proofs.Told.{machines_are_read}
-use Rattle.image_restore.specs.Resumed.{offer_event, after_offers, IsResumed, IsRefused, IsSoundWide, StoredMachinesResume}
+use Rattle.image_restore.specs.Resumed.{offer_event, after_offers, IsRefused, IsSoundWide, StoredMachinesResume}
 use Rattle.image_restore.proofs.OffersTaken.{offer_taken}
 
 -- one list is of one map of offers

@@ -1,15 +1,15 @@
 -- The access of one byte that changes none.
 use Rattle.kernel_acts.proofs.Prelude
-use Prelude.{◌≡◌, ◌≢◌, ℕ, zero, suc, ◌+◌, ◌%◌, ◌<◌, ◌≤◌, ◌^◌, ◌==◌, ◌&&◌, Bool, true, false, not, length, List, [], ◌∷◌, ◌++◌}
+use Prelude.{◌≡◌, ℕ, zero, suc, ◌+◌, ◌%◌, ◌<◌, ◌^◌, ◌==◌, ◌&&◌, Bool, true, false, not, length, List, [], ◌∷◌, ◌++◌}
 use Prelude.{take, drop, refl, sym, ap, subst, ◌∙◌, Option, Some, None, unwrap_or, inl, inr, arith, if◌then◌else◌}
-use Prelude.{slice_index, option_map, some_value, no_value, nat_lt, Ok, MatchBool, page_number, offset_number}
-use Prelude.{second_page, page_and, touched, IsUserPage, same_cases, get-insert, same_itself, walk_of, Read, Write}
-use Prelude.{directory_at, is_lazy_at, takes_stores, Slot, slot_order, Cell, Spaces, slot_at, fresh, cell_or_fresh}
-use Prelude.{byte_at, accessed, stored, write_at, set_bytes, with_pages, all_accessed, way_of, way_parts}
+use Prelude.{slice_index, option_map, some_value, nat_lt, page_number, offset_number}
+use Prelude.{page_and, touched, IsUserPage, same_cases, walk_of, Read, Write}
+use Prelude.{is_lazy_at, takes_stores, Slot, slot_order, Cell, Spaces, slot_at, fresh, cell_or_fresh}
+use Prelude.{byte_at, accessed, stored, write_at, with_pages, all_accessed, way_parts}
 use Prelude.{FramesStay, none_goes, WaysAgree, WalkEndsBy, stays_most, StandsFor, image_of, memory_of, State, is_live}
-use Prelude.{is_mapped, View, after_stores, IsWellFormed, get-inserted, get-inserted_other, plan_of, step_of, Goes}
-use Prelude.{ready, all_user, mapped_right, same_cells, answer, answer_of, next, completes, planned_or, carried}
-use Prelude.{is_some, AreStored, ended_by, Ends, load_byte, store_byte, Event, Reply, Ended, gone_by}
+use Prelude.{is_mapped, View, after_stores, IsWellFormed, get-inserted, plan_of, step_of, Goes}
+use Prelude.{ready, all_user, same_cells, answer, answer_of, next, completes, carried}
+use Prelude.{is_some, ended_by, Ends, load_byte, store_byte, Event, Reply, Ended}
 use Rattle.std.specs.Result.{is_ok}
 use Rattle.std.proofs.lemmas.Bool.{cases_Bool}
 use Rattle.std.proofs.lemmas.Bool.Decides.{nat_tests}
@@ -38,7 +38,7 @@ use Rattle.kernel_calls.specs.Translations.{of_plan}
 use Rattle.process_table.specs.declared.causes.Cause.TheVariants as cause
 use Rattle.kernel_calls.specs.declared.calls.Reply.TheVariants as reply
 use Rattle.kernel_calls.specs.declared.translations.Ended.TheVariants as end
-use Rattle.kernel_acts.specs.Touched.{near, touch_of, access_of_byte, AreMarked, TakesNoStore, Touches}
+use Rattle.kernel_acts.specs.Touched.{access_of_byte, AreMarked, TakesNoStore, Touches}
 use Rattle.kernel_acts.proofs.LoadedBytes.{bytes_in, alike, page_long, own_bytes, beside_bytes}
 use Rattle.kernel_acts.proofs.TransferSteps.{one_page, part_stored, takes, byte_accessed, FirstStored, first_stored, first_loaded}
 

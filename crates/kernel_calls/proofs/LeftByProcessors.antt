@@ -6,7 +6,7 @@ use Prelude.{directory_at, finds_live, at_page, slot_at, Spaces, all_accessed, a
 use Prelude.{each_byte, FramesStay, none_goes, WalksAgree, stays_most, Member, quota_of, State, is_live, container_of}
 use Prelude.{as_account, View, memory_of, total-within, IsWellFormed, after_load, after_store, after, next}
 use Prelude.{completes, takes_no_frame, plan_of_call, plan_of_event, finds_call, finds_event, reply_found, Call, Event}
-use Prelude.{IsCore, Ends, Ended, ended_by, ServesCall, IsStore, StoresMarked}
+use Prelude.{IsCore, Ends, Ended, ServesCall, IsStore, StoresMarked}
 use Rattle.kernel_calls.specs.Kept.{bytes_kept}
 use Rattle.kernel_calls.specs.Walked.{bytes_accessed}
 use Rattle.kernel_calls.specs.Processors.{IsSized, IsLeft, with_bytes, WalksLeaveCores, StoresLeaveCores}
@@ -37,7 +37,6 @@ use Rattle.page_words.specs.FiniteMap as map
 use Rattle.process_table.specs.declared.causes.Cause.TheVariants as cause
 use Rattle.fault_handler.specs.declared.plans.Plan.TheVariants as plan
 use Rattle.kernel_calls.specs.declared.calls.Call.TheVariants as call
-use Rattle.kernel_calls.specs.declared.translations.Ended.TheVariants as end
 
 -- ---- A core's memory, by its words
 

@@ -1,10 +1,8 @@
 -- On which CPU a call comes in makes no difference.
-use Rattle.std.proofs.Common.{◌≡◌, ℕ, List, [], ◌∷◌, refl, ap, map}
-use Rattle.process_table.specs.State.{State}
-use Rattle.kernel_calls.specs.Machine.{answer, answers, next, end_of}
-use Rattle.kernel_calls.specs.declared.calls.Event.{Event}
+use Rattle.std.proofs.Common.{List, [], ◌∷◌, refl, ap}
+use Rattle.kernel_calls.specs.Machine.{answer, next}
 use Rattle.kernel_calls.specs.declared.calls.Reply.{Reply}
-use Rattle.kernel_laws.specs.Cpus.{on_cpu, CpusMakeNoDifference, RunsOnCpus}
+use Rattle.kernel_laws.specs.Cpus.{CpusMakeNoDifference, RunsOnCpus}
 
 pub cpus_make_no_difference : CpusMakeNoDifference
 cpus_make_no_difference s e cpu = (refl, refl)

@@ -1,13 +1,13 @@
 -- The steps that take a turn, confirm it and add an entry keep the rule.
 use Rattle.std.proofs.Common.{◌≡◌, ◌≢◌, ℕ, ◌+◌, ◌<◌, ◌≤◌, ◌==◌, Bool, true, false, List, [], ◌∷◌, ◌++◌, length, refl, ap, sym, subst, arith, inl, length-append, None, ◌∙◌, true≢false, slice_set}
-use Rattle.std.proofs.Math.ListN.{length-set, get_or, set}
+use Rattle.std.proofs.Math.ListN.{length-set, set}
 use Rattle.std.proofs.lemmas.List.{append-nil, get_or-set_same, get_or-set_other, get_or_append_left}
 use Rattle.std.proofs.lemmas.Bool.Decides.{nat_tests}
 use mathlib.Core.List.{IsPrefix}
 use mathlib.Core.Logic.{dite}
 use native.Mathlib.Decide.{dec_le, ℕ_discrete}
 use prog.Atomic.{either}
-use Rattle.logbook.specs.Pages.{Cell, Nib, cell, keeps, gives, adds, nib, may_write, may_make, no_nib, step, Moves, Goes, Away}
+use Rattle.logbook.specs.Pages.{Cell, cell, keeps, gives, adds, nib, may_write, may_make, no_nib, step, Moves, Goes}
 use Rattle.locked_core.specs.declared.moment.Moment.{Moment}
 use Rattle.locked_core.specs.Rules.{CellsHold, Adds, Claims, Confirms}
 use Rattle.locked_core.proofs.Moments.{begins_whole}

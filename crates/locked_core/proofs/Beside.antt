@@ -7,7 +7,7 @@ use Rattle.memory_report.specs.Histories.{event_of}
 use Rattle.process_table.specs.View.{View}
 use Rattle.shootdowns.proofs.InOrder.{shootdowns_make_events}
 use Rattle.shootdowns.specs.Windows as window
-use Rattle.shootdowns.specs.Windows.{Steps, memory_in, nobody, settled, under_way}
+use Rattle.shootdowns.specs.Windows.{Steps, memory_in, nobody, settled}
 use Rattle.locked_core.proofs.Moments.{core_push}
 use Rattle.locked_core.specs.Beside.{CallsAndProcessors, Together, none, called, beside}
 use Rattle.locked_core.specs.Moments.{Follows, core_after}

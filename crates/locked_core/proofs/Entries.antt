@@ -13,9 +13,7 @@ use Rattle.process_table.specs.State.{State, open_with}
 use Rattle.kernel_calls.specs.declared.calls.Reply.{Reply}
 use Rattle.locked_core.proofs.Prefixes.{same_entries}
 use Rattle.locked_core.specs.Held.{UnderLock}
-use Rattle.locked_core.specs.Makers.{Maker, Makes, IsRefused, Prevents}
-use Rattle.locked_core.specs.declared.faults.Fault.{Fault}
-use Rattle.locked_core.specs.declared.faults.Fault.TheVariants.{NoMemory, Unread, Disagree}
+use Rattle.locked_core.specs.Makers.{Maker, Makes}
 use Rattle.memory_report.specs.Histories.{StartsWith}
 
 -- no call was made yet

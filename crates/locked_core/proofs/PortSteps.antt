@@ -1,5 +1,5 @@
 -- What a step of a port over a CPU is to the CPU.
-use Rattle.std.proofs.Common.{◌≡◌, ◌≢◌, ◌==◌, ℕ, Bool, true, false, Result, Ok, Err, refl, sym, ap, subst, eq-eqb, arith}
+use Rattle.std.proofs.Common.{◌≡◌, ◌≢◌, ◌==◌, ℕ, Bool, true, false, Result, Ok, Err, refl, sym, ap, subst, arith}
 use Rattle.std.proofs.lemmas.Bool.Decides.{nat_tests}
 use Rattle.guest_cpu.specs.Ports.{Answer}
 use Rattle.kernel_calls.specs.declared.calls.Call.{Call}

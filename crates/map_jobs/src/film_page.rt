@@ -125,8 +125,8 @@ main { display: grid; grid-template-columns: minmax(20rem, 30rem) 1fr; gap: 1.2r
 <ol id="frames" aria-label="frames"></ol>
 <h2>Processes</h2>
 <div id="processes"></div>
-<p class="hint">D directory, T table, P page of the process behind the letter; S page with that many holders, whose processes stand below;
-# the reserved frame, . a free one. The hue is the process's, of five; the bars in a corner tell it from those of its hue, one for each five
+<p class="hint">D is a directory, T a table, P a page, each with the number of its process. S is a shared page with the number of its holders, and below it their processes.
+# is the reserved frame, . a free one. The hue is the process's, of five; the bars in a corner tell it from those of its hue, one for each five
 processes before it. A thick edge marks what this step changes: + taken, - freed, * words, roles or holders, o offered.</p>
 <p class="hint">In a bar: used plain, given striped, room empty. A dashed square is a lazy page: it has no frame yet, and reads as zeros.</p>
 <p class="hint">A line that is refused or faults changes nothing, and is struck through. Arrow keys step, Home and End go to the ends, the space bar plays and pauses; a link such as <code>#12</code> leads to a step.

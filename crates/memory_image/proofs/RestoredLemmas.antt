@@ -1,14 +1,12 @@
 -- The core that is made of an image.
-use Rattle.std.proofs.Common.{◌≡◌, ℕ, ◌<◌, ◌≤◌, ◌*◌, List, length, refl, sym, ap, subst, ◌∙◌, arith, inl, inr, Option, Some, None, is_some, get_or}
-use Rattle.std.specs.Prelude.{slice_get, slice_index, slice_index_or}
+use Rattle.std.proofs.Common.{◌≡◌, ℕ, ◌<◌, List, length, refl, sym, ap, subst, ◌∙◌, arith, inl, inr, Option, Some, None}
+use Rattle.std.specs.Prelude.{slice_get, slice_index_or}
 use Rattle.std.specs.Option.{option_map, unwrap_or}
 use Rattle.std.proofs.lemmas.Bool.{cases_lt}
 use Rattle.std.proofs.lemmas.List.{get_or_past}
-use Rattle.std.proofs.lemmas.Option.{slice_get_past, slice_get-get_or, get_or_from_slice_get}
+use Rattle.std.proofs.lemmas.Option.{slice_get_past, slice_get-get_or}
 use Rattle.page_words.specs.FiniteMap as map
-use Rattle.alloc_table.specs.declared.Role.{Role}
 use Rattle.address_space.specs.View.{directory_of}
-use Rattle.address_space.specs.Image.{image_from}
 use Rattle.quota_tree.specs.declared.accounts.Account as quota_tree
 use Rattle.quota_tree.specs.Accounts.{account_at as account_in}
 use Rattle.quota_tree.specs.Book.{Member}
@@ -16,14 +14,13 @@ use Rattle.process_table.specs.State.{State, as_container, container_of}
 use Rattle.process_table.specs.View.{View}
 use Rattle.process_table.specs.Image as machine
 use Rattle.process_table.specs.Image.{as_account, account_of}
-use Rattle.process_table.specs.Restored.{account_told, image_in, RootIsItsParent}
+use Rattle.process_table.specs.Restored.{account_told, image_in}
 use Rattle.memory_image.specs.declared.processes.Process.{Process}
-use Rattle.memory_image.specs.Image.{Image, process_at, directory_from, memory_of, HasFields}
-use Rattle.memory_image.specs.Machine.{process_from, process_told, IsImageOf}
+use Rattle.memory_image.specs.Image.{Image, process_at, directory_from, HasFields}
+use Rattle.memory_image.specs.Machine.{process_from, IsImageOf}
 use Rattle.memory_image.specs.Restored.{account_from}
 use Rattle.memory_image.specs.Sound as sound
 use Rattle.memory_image.specs.Sound.{account_at, shown_by, IsSound, StandsFor}
-use Rattle.memory_image.proofs.References.{from_map}
 
 -- a list of 64 that was filled from the records
 filled_at : {X : Type 0} (g : Option Process → Option X) (processes : List (Option Process)) (xs : List (Option X)) → g None ≡ None → length processes ≡ 64 → length xs ≡ 64

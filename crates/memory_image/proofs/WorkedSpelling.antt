@@ -1,5 +1,5 @@
 -- The front of an encoding, computed: the image of a machine of 16 frames as it boots, without its frames' bytes.
-use Rattle.std.proofs.Common.{◌≡◌, ℕ, List, [], ◌∷◌, ◌+◌, ◌*◌, replicate, take, length, refl, Some, None}
+use Rattle.std.proofs.Common.{◌≡◌, [], ◌∷◌, ◌+◌, ◌*◌, replicate, take, length, refl, Some, None}
 use Rattle.alloc_table.specs.declared.Role.TheVariants.{Reserved, Free, Directory}
 use Rattle.memory_image.specs.Image.{Image}
 use Rattle.memory_image.specs.Spelling.{spelling}

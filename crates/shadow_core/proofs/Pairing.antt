@@ -32,9 +32,6 @@ use Rattle.kernel_calls.specs.Kept.{Serves, ServesCall}
 use Rattle.kernel_calls.specs.declared.calls.Call.{Call}
 use Rattle.kernel_calls.specs.declared.calls.Call.TheVariants as call
 use Rattle.kernel_calls.specs.declared.calls.Reply.{Reply}
-use Rattle.kernel_calls.specs.declared.calls.Reply.TheVariants as reply
-use Rattle.shadow_core.specs.declared.pairs.Handled.{Handled}
-use Rattle.shadow_core.specs.declared.pairs.Handled.TheVariants.{Filled, Full, Fault, Refused}
 use Rattle.table_walk.specs.declared.WalkEnd.{WalkEnd}
 use Rattle.page_words.specs.Addresses.{second_page, start_number, EachTouched}
 use Rattle.page_words.specs.declared.addresses.Size.{Size}
@@ -51,10 +48,10 @@ use Rattle.kernel_calls.specs.declared.translations.Ended.TheVariants as end
 use Rattle.kernel_calls.proofs.Leaving.{left_read, nothing_ends}
 use Rattle.kernel_calls.specs.Processors.{IsCore}
 use Rattle.shadow_tables.specs.Laws.{WalksAgree}
-use Rattle.shadow_tables.specs.Shadow.{Shadow, Translations, IsFixed, at_page, slot_order, root_frame, root_of, frame_address, shadow_end}
+use Rattle.shadow_tables.specs.Shadow.{Shadow, Translations, at_page, slot_order, root_frame, root_of, frame_address, shadow_end}
 use Rattle.shadow_tables.specs.declared.tables.Translation.{Translation}
 use Rattle.shadow_tables.specs.declared.walk.LongEnd.{LongEnd}
-use Rattle.shadow_core.specs.Paired.{kept_at, IsShadowed, left_by, HasEntered, HasFilled, IsStopped, stop_of, handled_of, RootsStay, WalksAreTheCores, Reaches, ReachesCall, AccessesAreServed, IsServed}
+use Rattle.shadow_core.specs.Paired.{kept_at, IsShadowed, left_by, HasEntered, HasFilled, RootsStay, WalksAreTheCores, Reaches, ReachesCall, AccessesAreServed, IsServed}
 
 none_some : {X : Type 0} (x : X) → ◌≡◌ {A = Option X} None (Some x) → ⊥
 none_some x e = cc

@@ -157,12 +157,7 @@ fn fill(core: &Core, shadow: &mut ShadowTables, pid: Pid, address: Vaddr, access
     ensures fixed { IsFixed shadow.old shadow.new }
 {
     let translation = translation_of(core, pid, address);
-    let Ok(()) = shadow.fill(
-        pid,
-        page_of(address),
-        translation.frame,
-        translation.write,
-    ) else {
+    let Ok(()) = shadow.fill(pid, page_of(address), translation.frame, translation.write) else {
         unreachable!()
     };
     shadow.walks();

@@ -7,7 +7,7 @@ use Rattle.shadow_tables.specs.declared.tables.Tables.{Tables}
 use Rattle.shadow_tables.specs.LongWords.{entry_word}
 use Rattle.shadow_tables.specs.Shadow.{frame_address}
 use Rattle.shadow_tables.specs.Holdings.{Places, with_place, next_place, count_of, AreHeld}
-use Rattle.shadow_tables.specs.Tables.{frames_of, word_of, named_by, index_at, prefix_at, way, translation_at, AreTables, LinksTo, IsWord, IsTable, SameBlocks, SameButBytes, IsFresh, IsShadow, IsStep}
+use Rattle.shadow_tables.specs.Tables.{frames_of, word_of, named_by, index_at, prefix_at, way, translation_at, AreTables, LinksTo, IsWord, IsTable, SameBlocks, SameButBytes, IsFresh, IsStep}
 use Rattle.shadow_tables.proofs.HoldingLemmas.{with_place-same, with_place-other}
 use Rattle.shadow_tables.proofs.WayLemmas.{IsAt, place_of_way, next_at, named_by-link, none_some, same_way, same_translation, nothing_at, rooted_way, some_or_not, user_lower, index_at-below, index_at-root, prefix_at-next}
 use Rattle.shadow_tables.proofs.TableLemmas.{Wrote, Cleared, then_blocks, blocks_stay, table_stays, zero_word}

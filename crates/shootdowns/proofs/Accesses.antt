@@ -36,7 +36,6 @@ use Rattle.process_table.specs.declared.causes.Cause.TheVariants as cause
 use Rattle.process_table.proofs.SharingLaws.{touched_user}
 use Rattle.fault_handler.specs.Plans.{plan_of, plan_at, takes_no_frame}
 use Rattle.fault_handler.specs.declared.plans.Plan.{Plan}
-use Rattle.fault_handler.specs.declared.plans.Plan.TheVariants as plan
 use Rattle.fault_handler.proofs.Settled.{each_page}
 use Rattle.fault_handler.proofs.Walked.{walk_completes}
 use Rattle.kernel_calls.specs.Decisions.{plan_of_call}

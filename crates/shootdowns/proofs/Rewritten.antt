@@ -18,7 +18,7 @@ use Rattle.table_walk.specs.declared.WalkEnd.{WalkEnd}
 use Rattle.table_walk.specs.declared.WalkEnd.TheVariants.{Outside}
 use Rattle.table_walk.specs.Walk.{walk_of, first_that_applies, is_outside, is_write, not_present, not_allowed, dir_word, table_word}
 use Rattle.address_space.specs.Image as memory
-use Rattle.address_space.specs.Image.{directory_at, table_at, word_of, named_by, is_user_slot, present_word, page_word, page_frame, is_lazy_at, IsCount, SlotStands, CellStands, IsOneGroup}
+use Rattle.address_space.specs.Image.{directory_at, table_at, word_of, named_by, is_user_slot, present_word, page_word, page_frame, is_lazy_at, IsCount, SlotStands}
 use Rattle.address_space.specs.ImageWords.{is_lazy_word, own_frame, IsTableWord}
 use Rattle.address_space.specs.Spaces.{Slot, slot_order, Cell, with_bytes, slot_at, at_page}
 use Rattle.address_space.specs.Stays.{way_of, WaysAgree}

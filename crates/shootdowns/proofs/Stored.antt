@@ -6,7 +6,6 @@ use Rattle.page_words.specs.Addresses.{page_number, offset_number}
 use Rattle.page_words.specs.FiniteMap as map
 use Rattle.page_words.specs.FiniteMap.{same}
 use Rattle.page_words.specs.FiniteSet as set
-use Rattle.page_words.specs.FiniteSet.{Set}
 use Rattle.page_words.proofs.MapLemmas.{same_map, same_or_not, get-insert, get-map_values}
 use Rattle.phys_memory.specs.Bytes.{frame_bytes, IsInside, with_frame}
 use Rattle.phys_memory.proofs.Frames.{frames-with_byte, with_frame-same, with_frame-other, length-frame}

@@ -1,5 +1,5 @@
 -- A fault of a core with shadow tables, in numbers.
-use Rattle.std.proofs.Common.{◌≡◌, ℕ, ◌<◌, ◌≤◌, Bool, Option, Some, None, inl, inr, refl, ap, sym, subst, ◌∙◌, arith}
+use Rattle.std.proofs.Common.{◌≡◌, ℕ, ◌<◌, ◌≤◌, Bool, Option, Some, inl, inr, refl, ap, sym, subst, ◌∙◌, arith}
 use Rattle.std.specs.Prelude.{◌↔◌}
 use Rattle.std.proofs.lemmas.Bool.{cases_lt}
 use Rattle.table_walk.specs.declared.Access.{Access}
@@ -14,7 +14,7 @@ use Rattle.shadow_tables.specs.Shadow.{Shadow, IsFixed}
 use Rattle.shadow_core.specs.Paired.{HasFilled, IsStopped, RootsStay, handled_of, left_by}
 use Rattle.shadow_core.specs.declared.pairs.Handled.{Handled}
 use Rattle.shadow_core.specs.declared.pairs.Handled.TheVariants.{Filled, Full, Fault, Refused}
-use Rattle.tower_c.specs.Border.{access_of, no_event, ended_numbers}
+use Rattle.tower_c.specs.Border.{access_of, ended_numbers}
 use Rattle.tower_c.specs.Shadows.{status_of, told_of, Handles, HandlesIn}
 use Rattle.tower_c.specs.declared.numbers.TowerReply.{TowerReply}
 use Rattle.tower_c.specs.declared.numbers.TowerEnded.{TowerEnded}

@@ -3,7 +3,6 @@ use Rattle.std.proofs.Common.{◌≡◌, ℕ, Bool, true, false, Option, Some, N
 use Rattle.table_walk.specs.declared.Access.{Access}
 use Rattle.address_space.specs.ByWalk.{finds_at}
 use Rattle.address_space.specs.Spaces.{byte_at}
-use Rattle.address_space.specs.Stays.{FramesStay, none_goes}
 use Rattle.process_table.specs.Image.{memory_of}
 use Rattle.process_table.specs.View.{View}
 use Rattle.kernel_calls.proofs.Leaving.{nothing_ends}

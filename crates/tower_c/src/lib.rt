@@ -47,8 +47,9 @@ pub use pending::{TowerOffer, tower_next_offer};
 pub use runs::tower_run_until;
 pub use shadow_faults::{tower_shadow_fault, tower_shadow_step};
 pub use shadows::{
-    TowerTranslation, tower_shadow_close, tower_shadow_forget, tower_shadow_forget_all, tower_shadow_free_frames,
-    tower_shadow_open, tower_shadow_pool, tower_shadow_root, tower_shadow_taken_frames, tower_shadow_translation,
+    TowerTranslation, tower_shadow_close, tower_shadow_forget, tower_shadow_forget_all,
+    tower_shadow_free_frames, tower_shadow_open, tower_shadow_pool, tower_shadow_root,
+    tower_shadow_taken_frames, tower_shadow_translation,
 };
 use std::alloc::Global;
 use table_walk::walk;

@@ -10,8 +10,8 @@ ghost use Rattle.tower_c.specs.Border.{event_in, pid_of, reply_in, state_after, 
 ghost use Rattle.tower_c.specs.Shadows.{AreShadowed, HandlesIn, Forgets, status_of, told_of};
 
 use crate::numbers::{
-    TowerEnded, TowerEvent, TowerReply, access_from, done, ended_from, event_from, no_event, pid_from,
-    refused_for, told_from,
+    TowerEnded, TowerEvent, TowerReply, access_from, done, ended_from, event_from, no_event,
+    pid_from, refused_for, told_from,
 };
 use c_handle::{Tower, TowerShadow, put, put_tables, take, take_tables};
 use kernel_calls::{Core, Ended, Reply};
@@ -21,8 +21,11 @@ use std::alloc::Global;
 
 /// How a fault was handled.
 const FILLED: u32 = 0;
+
 const FULL: u32 = 1;
+
 const STOPPED: u32 = 2;
+
 const NOTHING: u32 = 3;
 
 /// The number of how a fault was handled.

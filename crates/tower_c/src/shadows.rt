@@ -17,12 +17,16 @@ use std::alloc::{AllocError, Global};
 
 /// The statuses of an opening.
 const OPENED: u32 = 0;
+
 const BAD_PLACES: u32 = 1;
+
 const NO_MEMORY: u32 = 2;
+
 const HAS_TABLES: u32 = 3;
 
 /// The fewest frames of a pool, and the most.
 const LEAST: u32 = 4;
+
 const MOST: u32 = 1048576;
 
 /// The bytes of half a root.
@@ -286,7 +290,11 @@ pub extern "C" fn tower_shadow_free_frames(alloc: Global, shadow: &mut TowerShad
 
 /// How many frames of the pool a process's tables take: 0 where there are no tables or no such process.
 #[unsafe(no_mangle)]
-pub extern "C" fn tower_shadow_taken_frames(alloc: Global, shadow: &mut TowerShadow, pid: u32) -> u32
+pub extern "C" fn tower_shadow_taken_frames(
+    alloc: Global,
+    shadow: &mut TowerShadow,
+    pid: u32,
+) -> u32
     requires { IsTowerShadow shadow.old }
     ensures kept { IsTowerShadow shadow.new }
     ensures same { shadow.new.hold.tables ≡ shadow.old.hold.tables }

@@ -6,7 +6,9 @@ ghost use Rattle.tower_c.specs.Border.{is_carried_out, pid_of};
 ghost use Rattle.tower_c.specs.Touching.{touch_in, IsTouchedIn};
 ghost use Rattle.c_handle.specs.Handle.{IsTower};
 
-use crate::numbers::{TowerEnded, TowerReply, access_from, ended_from, no_event, pid_from, told_from};
+use crate::numbers::{
+    TowerEnded, TowerReply, access_from, ended_from, no_event, pid_from, told_from,
+};
 use c_handle::{Tower, put, take};
 use kernel_calls::{Core, Ended};
 use std::alloc::Global;

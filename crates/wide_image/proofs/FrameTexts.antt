@@ -1,5 +1,5 @@
 -- The records of frames, one list after another.
-use Rattle.std.proofs.Common.{◌≡◌, ℕ, zero, suc, ◌+◌, ◌*◌, ◌-◌, ◌<◌, ◌≤◌, ◌^◌, Bool, true, false, List, [], ◌∷◌, ◌++◌, length, length-append, length-drop, length-take, take, drop, replicate, append_assoc, append-nil, get_or, refl, sym, ap, subst, ◌∙◌, arith, Option, Some, None}
+use Rattle.std.proofs.Common.{◌≡◌, ℕ, zero, suc, ◌+◌, ◌*◌, ◌-◌, ◌<◌, ◌≤◌, ◌^◌, Bool, true, false, List, [], ◌∷◌, ◌++◌, length, length-append, length-drop, length-take, take, drop, replicate, append_assoc, append-nil, get_or, refl, sym, ap, subst, ◌∙◌, arith, Some}
 use Rattle.std.specs.Prelude.{if◌then◌else◌, slice_get}
 use Rattle.std.proofs.lemmas.List.{take-append-le, drop-append-le, length-replicate, drop-replicate, take-replicate, drop-drop, take_all, take_more, drop_more, drop_all}
 use Rattle.phys_memory.specs.Bytes.{frame_bytes}

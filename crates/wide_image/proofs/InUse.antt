@@ -1,24 +1,23 @@
 -- What a free frame holds is no part of what an image represents.
-use Rattle.std.proofs.Common.{◌≡◌, ℕ, ◌+◌, ◌*◌, ◌<◌, ◌≤◌, Bool, true, false, ◌&&◌, List, length, refl, sym, ap, subst, ◌∙◌, arith, inl, inr, Option, Some, None}
-use Rattle.std.specs.Prelude.{slice_get, is_some, nat_lt, if◌then◌else◌, IsTrue, MatchBool, ◌↔◌, ◌⊎◌}
+use Rattle.std.proofs.Common.{◌≡◌, ℕ, ◌<◌, Bool, true, false, ◌&&◌, List, length, refl, sym, ap, subst, ◌∙◌, arith, inl, inr, Option, Some, None}
+use Rattle.std.specs.Prelude.{slice_get, is_some, nat_lt, if◌then◌else◌, IsTrue, MatchBool, ◌↔◌}
 use Rattle.std.specs.Option.{option_and_then, option_map, unwrap_or}
 use Rattle.page_words.specs.Addresses.{slot_number, index_number}
-use Rattle.page_words.specs.Words.{frame_number, is_lazy, is_present, IsKernelDirWord, NamesPage}
+use Rattle.page_words.specs.Words.{frame_number, is_present, IsKernelDirWord}
 use Rattle.page_words.specs.FiniteMap as map
 use Rattle.page_words.specs.FiniteMap.{Order, nat_order}
-use Rattle.page_words.specs.FiniteSet as set
 use Rattle.phys_memory.specs.Bytes.{frame_bytes, word_in}
 use Rattle.alloc_table.specs.declared.Role.{Role}
-use Rattle.alloc_table.specs.declared.Role.TheVariants.{Reserved, Free, Directory, Table, Page}
+use Rattle.alloc_table.specs.declared.Role.TheVariants.{Reserved, Directory, Table, Page}
 use Rattle.alloc_table.specs.Roles.{is_free}
-use Rattle.address_space.specs.Spaces.{Slot, slot_order, Cell, Spaces, zeros, at_page}
+use Rattle.address_space.specs.Spaces.{Slot, slot_order, Cell, Spaces, at_page}
 use Rattle.address_space.specs.Image as memory
-use Rattle.address_space.specs.Image.{directory_at, word_of, named_by, table_at, present_word, page_word, page_frame, IsCount, IsSoundImage, IsOneGroup, CellStands, SlotStands, StandsFor}
-use Rattle.address_space.specs.ImageWords.{is_lazy_word, own_frame, IsTableWord, NamesPageIn}
+use Rattle.address_space.specs.Image.{directory_at, word_of, named_by, table_at, present_word, page_word, page_frame, IsCount, IsSoundImage, CellStands, SlotStands, StandsFor}
+use Rattle.address_space.specs.ImageWords.{is_lazy_word, own_frame, IsTableWord}
 use Rattle.process_table.specs.State.{State}
-use Rattle.memory_image.specs.Image.{Image, directory_from, process_at}
+use Rattle.memory_image.specs.Image.{Image, directory_from}
 use Rattle.memory_image.specs.Sound.{account_from, shown_by}
-use Rattle.wide_image.specs.InUse.{AgreeInUse, FreeFramesDoNotMatter}
+use Rattle.wide_image.specs.InUse.{FreeFramesDoNotMatter}
 use Rattle.process_table.specs.Image as machine
 
 -- a count is one of what holds as well

@@ -1,6 +1,6 @@
 -- The offers in bytes, and those that are read of them.
-use Rattle.std.proofs.Common.{◌≡◌, ℕ, zero, suc, ◌+◌, ◌*◌, ◌-◌, ◌<◌, ◌≤◌, Bool, true, false, List, [], ◌∷◌, ◌++◌, length, map, take, drop, refl, sym, ap, subst, ◌∙◌, arith, inl, inr, Option, Some, None}
-use Rattle.std.specs.Prelude.{slice_get, slice_index, ◌==◌}
+use Rattle.std.proofs.Common.{◌≡◌, ℕ, zero, suc, ◌+◌, ◌*◌, ◌-◌, ◌<◌, ◌≤◌, List, ◌++◌, length, map, take, drop, refl, sym, ap, subst, ◌∙◌, arith, inl, inr, None}
+use Rattle.std.specs.Prelude.{slice_index, ◌==◌}
 use Rattle.std.specs.List.{flat_map, range_with_len}
 use Rattle.std.proofs.lemmas.Bool.{cases_eq}
 use Rattle.std.proofs.lemmas.List.Folds.{flat_map-map}
@@ -9,10 +9,9 @@ use Rattle.memory_image.specs.Spelling.{number}
 use Rattle.memory_image.specs.Tests.{first_failing}
 use Rattle.memory_image.proofs.PieceLemmas.{pieces}
 use Rattle.memory_image.proofs.ReadingLemmas.{flat-same}
-use Rattle.wide_image.specs.declared.offers.PendingOffer.{PendingOffer}
 use Rattle.wide_image.specs.Offers.{rank, IsPending, Rise, right_number, offer_bytes}
-use Rattle.wide_image.specs.Faults.{first_of, offer_fields, bad_offer}
-use Rattle.wide_image.specs.Reading.{offer_in, offer_at, HasParties}
+use Rattle.wide_image.specs.Faults.{offer_fields, bad_offer}
+use Rattle.wide_image.specs.Reading.{offer_in, HasParties}
 use Rattle.wide_image.proofs.Loops.{neither}
 use Rattle.wide_image.proofs.Kept.{OfferKept, offer_kept}
 use Rattle.wide_image.proofs.Records.{four_at}

@@ -1,5 +1,5 @@
 -- No test refuses the records of a machine.
-use Rattle.std.proofs.Common.{◌≡◌, ℕ, zero, suc, ◌+◌, ◌*◌, ◌<◌, ◌≤◌, ◌^◌, Bool, true, false, not, ◌&&◌, ◌||◌, List, [], ◌∷◌, ◌++◌, length, length-append, length-drop, length-take, take, drop, append_assoc, refl, sym, ap, subst, ◌∙◌, arith, Option, Some, None}
+use Rattle.std.proofs.Common.{◌≡◌, ℕ, suc, ◌+◌, ◌*◌, ◌<◌, ◌≤◌, ◌^◌, Bool, true, false, not, ◌&&◌, List, [], ◌∷◌, ◌++◌, length, length-append, length-drop, length-take, take, drop, append_assoc, refl, sym, ap, ◌∙◌, arith, Option, Some, None}
 use Rattle.std.specs.Prelude.{if◌then◌else◌, slice_get, nat_lt, nat_le, ◌==◌}
 use Rattle.std.specs.List.{flat_map}
 use Rattle.std.proofs.lemmas.Bool.{and_from, lt-ltb, le-leb}
@@ -10,12 +10,11 @@ use Rattle.alloc_table.specs.declared.Role.TheVariants.{Reserved, Free, Director
 use Rattle.alloc_table.specs.Roles.{is_free}
 use Rattle.memory_image.specs.Image.{IsRole, IsWord}
 use Rattle.memory_image.specs.Spelling.{number, role_bytes}
-use Rattle.memory_image.specs.Refusals.{role_tests}
 use Rattle.memory_image.specs.Tests.{first_failing}
 use Rattle.memory_image.proofs.SpellingLemmas.{role_wide}
 use Rattle.memory_image.proofs.RespellLemmas.{word_of_number, word-shift, role_numbers, role_passes, role_four, role_small}
 use Rattle.wide_image.specs.declared.offers.PendingOffer.{PendingOffer}
-use Rattle.wide_image.specs.Layout.{frame_text, frames_text, stored, frames_stored}
+use Rattle.wide_image.specs.Layout.{frames_text, stored, frames_stored}
 use Rattle.wide_image.specs.Offers.{rank, rank_of, IsPending, Rise, right_number, offer_bytes}
 use Rattle.wide_image.specs.Faults.{first_of, offer_tests, offer_fields, bad_offer, frame_tests, frame_fields, bad_frame}
 

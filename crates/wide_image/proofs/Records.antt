@@ -1,18 +1,17 @@
 -- The frames' records in bytes, and the frames that are read of them.
-use Rattle.std.proofs.Common.{◌≡◌, ℕ, zero, suc, ◌+◌, ◌*◌, ◌-◌, ◌<◌, ◌≤◌, Bool, true, false, List, [], ◌∷◌, ◌++◌, length, length-append, length-drop, length-take, take, drop, replicate, append-nil, refl, sym, ap, subst, ◌∙◌, arith, Option, Some, None}
-use Rattle.std.specs.Prelude.{slice_get, slice_index, ◌⊎◌}
-use Rattle.std.proofs.lemmas.List.{drop-drop, length-replicate, take_all}
+use Rattle.std.proofs.Common.{◌≡◌, ℕ, zero, suc, ◌+◌, ◌*◌, ◌-◌, ◌<◌, ◌≤◌, List, [], ◌∷◌, ◌++◌, length, length-append, length-drop, length-take, take, drop, replicate, append-nil, sym, ap, subst, ◌∙◌, arith, Some, None}
+use Rattle.std.specs.Prelude.{slice_get, slice_index}
+use Rattle.std.proofs.lemmas.List.{drop-drop, length-replicate}
 use Rattle.phys_memory.specs.Bytes.{word_at}
 use Rattle.phys_memory.proofs.Words.{word_at-lt}
 use Rattle.alloc_table.specs.declared.Role.{Role}
 use Rattle.alloc_table.specs.declared.Role.TheVariants.{Free}
-use Rattle.alloc_table.specs.Roles.{is_free}
 use Rattle.memory_image.specs.Image.{IsRole}
 use Rattle.memory_image.specs.Spelling.{number, role_bytes}
 use Rattle.memory_image.specs.Tests.{first_failing}
 use Rattle.memory_image.proofs.PieceLemmas.{number_spells, take-more}
 use Rattle.memory_image.proofs.ReadingLemmas.{role_kept, role_owner, four_numbers}
-use Rattle.wide_image.specs.Layout.{frames_text, frames_stored, AreBlank}
+use Rattle.wide_image.specs.Layout.{frames_text}
 use Rattle.wide_image.specs.Faults.{frame_fields}
 use Rattle.wide_image.specs.Reading.{role_at, HasOwner, AreRead, AreFrames}
 use Rattle.wide_image.proofs.FrameTexts.{frames_both, free_text, one_more, stored_both, none_stored, stored_more, blank_both, blank_free, blank_more}
@@ -48,7 +47,6 @@ long_more roles f role low =
     omega (arith, d, e, g)
 
 module _ (xs : List ℕ) (small : (i : ℕ) → slice_index xs i < 256) (n start count : ℕ) (long : start + 4116 * count ≤ length xs) where
-
   -- the bytes of one record
   piece : (at : ℕ) → at + 4116 ≤ length xs → role_bytes (role_at xs at) ≡ number (word_at xs (at + 4)) ++ number (word_at xs (at + 8)) ++ number (word_at xs (at + 12)) ++ number (word_at xs (at + 16))
       → number (word_at xs at) ++ (role_bytes (role_at xs at) ++ take 4096 (drop (at + 20) xs)) ≡ take 4116 (drop at xs)

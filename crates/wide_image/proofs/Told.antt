@@ -1,16 +1,13 @@
 -- A text tells its machine: what isn't free, and the offers.
-use Rattle.std.proofs.Common.{◌≡◌, ℕ, ◌+◌, ◌*◌, ◌<◌, ◌≤◌, ◌^◌, Bool, true, false, List, ◌++◌, length, refl, sym, ap, subst, ◌∙◌, arith, append_assoc}
-use Rattle.std.specs.Prelude.{slice_get}
-use Rattle.std.specs.List.{flat_map}
-use Rattle.alloc_table.specs.declared.Role.{Role}
-use Rattle.memory_image.specs.Image.{IsWord, IsRole, frames}
-use Rattle.memory_image.specs.Spelling.{magic, number, process_bytes}
+use Rattle.std.proofs.Common.{◌≡◌, ◌*◌, Bool, true, false, length, refl, sym, ap, subst, ◌∙◌, arith}
+use Rattle.memory_image.specs.Image.{frames}
+use Rattle.memory_image.specs.Spelling.{magic, process_bytes}
 use Rattle.memory_image.proofs.SpellingLemmas.{same_parts, same_number, first_number, same_pieces, Fits, process_wide, process_exact, fields_fit}
 use Rattle.wide_image.specs.declared.offers.PendingOffer.{PendingOffer}
-use Rattle.wide_image.specs.Layout.{frames_text, frames_stored}
+use Rattle.wide_image.specs.Layout.{frames_stored}
 use Rattle.wide_image.specs.Offers.{AreListed, IsPending, right_number, offer_bytes}
-use Rattle.wide_image.specs.Wide.{WideImage, HasWideFields, text}
-use Rattle.wide_image.specs.InUse.{AgreeInUse, TextsTellMachines, MachinesAreRead}
+use Rattle.wide_image.specs.Wide.{text}
+use Rattle.wide_image.specs.InUse.{TextsTellMachines, MachinesAreRead}
 use Rattle.wide_image.proofs.FrameTexts.{same_frames, agree_at}
 use Rattle.wide_image.proofs.InUse.{free_frames}
 use Rattle.wide_image.proofs.Passing.{few_offers, right_small}

@@ -1,17 +1,17 @@
 -- Bytes against which there is no reason encode the image that is read from them, and there is none against an image's.
-use Rattle.std.proofs.Common.{◌≡◌, ℕ, ◌+◌, ◌*◌, ◌<◌, ◌≤◌, Bool, true, false, ◌||◌, not, List, [], ◌∷◌, ◌++◌, map, length, length-append, length-drop, take, drop, take-append-drop, refl, sym, ap, subst, ◌∙◌, arith, inl, inr, Option, Some, None}
-use Rattle.std.specs.Prelude.{if◌then◌else◌, ◌==◌, nat_lt, nat_le, slice_get, slice_index}
+use Rattle.std.proofs.Common.{◌≡◌, ℕ, ◌+◌, ◌*◌, ◌<◌, ◌≤◌, true, false, ◌||◌, List, [], ◌∷◌, ◌++◌, map, length, length-append, length-drop, take, drop, take-append-drop, refl, sym, ap, subst, ◌∙◌, arith, inr, Option, Some, None}
+use Rattle.std.specs.Prelude.{◌==◌, nat_lt, nat_le, slice_get, slice_index}
 use Rattle.std.specs.Option.{option_map, unwrap_or}
 use Rattle.std.specs.List.{flat_map, range_with_len}
 use Rattle.std.proofs.Math.Seq.{drop-append-add}
-use Rattle.std.proofs.lemmas.Bool.{eqb-true, leb-true, eq-eqb, lt-ltb, le-ltb, le-leb}
+use Rattle.std.proofs.lemmas.Bool.{eqb-true, leb-true, eq-eqb, le-ltb, le-leb}
 use Rattle.std.proofs.lemmas.List.{drop-drop, take_all}
 use Rattle.std.proofs.lemmas.List.FromFn.{length-map-range_with_len}
 use Rattle.phys_memory.specs.Bytes.{word_at}
 use Rattle.alloc_table.specs.declared.Role.{Role}
 use Rattle.alloc_table.specs.declared.Role.TheVariants.{Reserved, Free, Directory, Table, Page}
 use Rattle.memory_image.specs.declared.processes.Process.{Process}
-use Rattle.memory_image.specs.Image.{IsWord, IsProcess, IsWideImage, frames}
+use Rattle.memory_image.specs.Image.{IsWord, IsProcess, frames}
 use Rattle.memory_image.specs.Restored.{image_with}
 use Rattle.memory_image.specs.Spelling.{magic, number, process_bytes}
 use Rattle.memory_image.specs.Tests.{first_failing}
@@ -26,8 +26,8 @@ use Rattle.wide_image.specs.declared.faults.WideImageFault.TheVariants.{NotImage
 use Rattle.wide_image.specs.declared.offers.PendingOffer.{PendingOffer}
 use Rattle.wide_image.specs.Layout.{frames_text, stored, frames_stored}
 use Rattle.wide_image.specs.Offers.{IsPending, offer_bytes}
-use Rattle.wide_image.specs.Wide.{WideImage, AreOffers, HasWideFields, text, Encodes}
-use Rattle.wide_image.specs.Faults.{first_of, bad_offer, bad_frame, front_fields, frames_place, first_bad, bad_field, fault_by, fault_with, fault_of}
+use Rattle.wide_image.specs.Wide.{WideImage, HasWideFields, text, Encodes}
+use Rattle.wide_image.specs.Faults.{bad_offer, bad_frame, front_fields, first_bad, bad_field, fault_by, fault_with, fault_of}
 use Rattle.wide_image.specs.Reading.{offer_in, offers_in, AreFrames}
 use Rattle.wide_image.proofs.FrameTexts.{frames_long}
 use Rattle.wide_image.proofs.Loops.{neither}

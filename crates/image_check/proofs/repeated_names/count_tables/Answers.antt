@@ -1,6 +1,6 @@
-use Rattle.std.proofs.Common.{◌≡◌, subst, ◌∙◌, arith, ap}
+use Rattle.std.proofs.Common.{◌≡◌, ◌∙◌, arith, ap}
 use Rattle.image_check.specs.Counts.{sum_range, maps_by}
-use Rattle.image_check.specs.Adds.{Adds, maps_first}
+use Rattle.image_check.specs.Adds.{maps_first}
 use Rattle.image_check.proofs.AddLemmas.{adds_alike, sums_begin, sums_go_on}
 use Rattle.image_check.proofs.NamingLemmas.{maps_by_first, room_by_first, term_room}
 use Rattle.image_check.proofs.repeated_names.count_tables.Goals as goal

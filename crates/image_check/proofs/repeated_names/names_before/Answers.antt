@@ -1,4 +1,4 @@
-use Rattle.std.proofs.Common.{◌≡◌, ◌-◌, ap, ◌∙◌, arith}
+use Rattle.std.proofs.Common.{◌-◌, ap, ◌∙◌, arith}
 use Rattle.page_map.specs.Pages.{counted}
 use Rattle.page_map.proofs.PageLemmas.{count_range-le}
 use Rattle.address_space.specs.Image.{table_at}

@@ -1,5 +1,4 @@
-use Rattle.std.proofs.Common.{◌≡◌, ◌==◌, sym, ap, ◌∙◌, arith}
-use Rattle.page_map.specs.Pages.{count_range}
+use Rattle.std.proofs.Common.{◌==◌, sym, arith}
 use Rattle.page_map.proofs.PageLemmas.{count_range-zero, count_word}
 use Rattle.memory_image.specs.Image.{role_at}
 use Rattle.image_map.specs.Text.{letter}

@@ -1,10 +1,9 @@
-use Rattle.std.proofs.Common.{rules, refl, sym, ap, ◌∙◌, Some}
+use Rattle.std.proofs.Common.{rules, sym, Some}
 use Rattle.text_output.specs.Output.{AppendsFront}
 use Rattle.text_output.proofs.OutputLemmas.{wrote_first, cut_first, wrote_piece, cut_piece, wrote_last, cut_last}
-use Rattle.memory_image.specs.Image.{directory_from}
 use Rattle.memory_image.proofs.References.{directory_read}
 use Rattle.image_map.proofs.TextParts.{process_parts}
-use Rattle.image_map.specs.Text.{process_line, bar_line, pages_text, process_text}
+use Rattle.image_map.specs.Text.{process_text}
 use Rattle.image_map.proofs.text.write_live.Goals as goal
 
 pub returns-in_err-write_process_line-clause-err : goal.returns-in_err-write_process_line-clause-err

@@ -1,9 +1,8 @@
 -- What is not written yet are the lines from the next number on.
-use Rattle.std.proofs.Common.{◌-◌, ◌+◌, ◌/◌}
+use Rattle.std.proofs.Common.{◌-◌}
 use Rattle.std.specs.List.{flat_map, range_with_len}
 use Rattle.text_output.specs.Output.{LeavesUnwritten}
-use Rattle.memory_image.specs.Image.{frames, process_at}
-use Rattle.image_map.specs.Text.{slot_text, pages_text, process_text, processes_text, row_line, rows_text, limit}
+use Rattle.image_map.specs.Text.{slot_text, pages_text}
 use Rattle.image_map.proofs.text.write_pages.Given as goal
 
 abbrev pub invariant-loop-slot : goal.invariant-loop-slot

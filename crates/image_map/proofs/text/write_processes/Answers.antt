@@ -1,8 +1,7 @@
-use Rattle.std.proofs.Common.{rules, arith, refl, ◌+◌, ◌-◌, ◌/◌}
-use Rattle.std.specs.Prelude.{Some}
+use Rattle.std.proofs.Common.{rules, arith, refl, ◌-◌}
 use Rattle.text_output.specs.Output.{AppendsFront}
-use Rattle.memory_image.specs.Image.{frames, process_at}
-use Rattle.image_map.specs.Text.{slot_text, pages_text, process_text, processes_text, row_line, rows_text, limit}
+use Rattle.memory_image.specs.Image.{process_at}
+use Rattle.image_map.specs.Text.{process_text, processes_text}
 use Rattle.image_map.proofs.RangeTexts.{writes_none, wrote_number, cut_number, wrote_range}
 use Rattle.image_map.proofs.text.write_processes.Goals as goal
 

@@ -2,8 +2,8 @@
 use Rattle.std.proofs.Common.{◌-◌, ◌+◌, ◌/◌}
 use Rattle.std.specs.List.{flat_map, range_with_len}
 use Rattle.text_output.specs.Output.{LeavesUnwritten}
-use Rattle.memory_image.specs.Image.{frames, process_at}
-use Rattle.image_map.specs.Text.{slot_text, pages_text, process_text, processes_text, row_line, rows_text, limit}
+use Rattle.memory_image.specs.Image.{frames}
+use Rattle.image_map.specs.Text.{row_line, rows_text}
 use Rattle.image_map.proofs.text.write_rows.Given as goal
 
 abbrev pub invariant-loop-row : goal.invariant-loop-row

@@ -1,10 +1,8 @@
-use Rattle.std.proofs.Common.{◌≡◌, ◌≤◌, List, take, length, refl, subst, ap, sym, ◌∙◌, arith, Some}
-use Rattle.std.specs.Prelude.{slice_get}
+use Rattle.std.proofs.Common.{◌≡◌, take, subst, ap, sym, ◌∙◌, arith, Some}
 use Rattle.std.proofs.lemmas.List.{take_all}
 use Rattle.std.proofs.lemmas.Option.{slice_get-get_or}
 use Rattle.kernel_calls.specs.Machine.{answer}
 use Rattle.process_table.specs.State.{State}
-use Rattle.wide_image.specs.declared.offers.PendingOffer.{PendingOffer}
 use Rattle.wide_image.specs.Offers.{AreListed}
 use Rattle.image_restore.specs.Resumed.{offer_event}
 use Rattle.image_restore.proofs.OfferLemmas.{AreMade, none_made, one_made, all_made, not_done}

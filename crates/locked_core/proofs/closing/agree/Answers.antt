@@ -1,4 +1,4 @@
-use Rattle.std.proofs.Common.{rules, ◌≡◌, ◌<◌, Bool, true, false, List, All, length, arith, true≢false, sym}
+use Rattle.std.proofs.Common.{rules, Bool, true, false, All, length, arith, true≢false, sym}
 use Rattle.std.specs.Prelude.{IsTrue, MatchBool}
 use Rattle.std.proofs.lemmas.Iterator.{cases_from_all, YieldsList-from_slice}
 use Rattle.core.specs.List.{AllWithin}

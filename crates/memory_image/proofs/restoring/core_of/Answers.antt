@@ -1,4 +1,3 @@
-use Rattle.memory_image.specs.Image.{Image}
 use Rattle.memory_image.specs.Restored.{image_with}
 use Rattle.std.proofs.Common.{refl}
 use Rattle.memory_image.proofs.RestoredLemmas.{made_sound, made_stands, made_shows}

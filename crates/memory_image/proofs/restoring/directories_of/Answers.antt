@@ -1,7 +1,6 @@
 use Rattle.std.proofs.Common.{◌≡◌, ℕ, ◌+◌, ◌<◌, length, length-set, ap, sym, subst, ◌∙◌, arith, Option, Some, None}
 use Rattle.std.specs.Prelude.{slice_get, slice_set, slice_index_or}
 use Rattle.std.proofs.lemmas.List.{get_or_default}
-use Rattle.quota_tree.specs.declared.accounts.Account as quota_tree
 use Rattle.memory_image.specs.Image.{directory_from}
 use Rattle.memory_image.proofs.FillLemmas.{fill_goes_on}
 use Rattle.memory_image.proofs.restoring.directories_of.Goals as goal

@@ -14,6 +14,8 @@ pub returns-clause-walk : goal.returns-clause-walk
 returns-clause-walk c =
     let d = c.unwrap-directory.result in (
       d,
-      ((let a = c.directory.ensures in let b = c.unwrap-directory.ensures in cc),
-      ap (λ bytes. walk_of bytes d c.args.address Read) (sym c.memory-memory.ensures) ∙ sym c.in-Ok.ensures),
+      (
+        (let a = c.directory.ensures in let b = c.unwrap-directory.ensures in cc),
+        ap (λ bytes. walk_of bytes d c.args.address Read) (sym c.memory-memory.ensures) ∙ sym c.in-Ok.ensures,
+      ),
     )

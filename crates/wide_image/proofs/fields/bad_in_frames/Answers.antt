@@ -1,4 +1,4 @@
-use Rattle.std.proofs.Common.{◌≡◌, ◌+◌, ◌*◌, sym, ap, ◌∙◌, arith}
+use Rattle.std.proofs.Common.{◌+◌, sym, ap, ◌∙◌, arith}
 use Rattle.std.specs.Prelude.{is_some}
 use Rattle.wide_image.specs.Faults.{bad_frame}
 use Rattle.wide_image.proofs.Loops.{frames_from, frames_begin, frames_go_on, frames_stop, frames_end}

@@ -1,4 +1,4 @@
-use Rattle.std.proofs.Common.{◌≡◌, ◌+◌, ◌*◌, sym, ap, ◌∙◌, arith}
+use Rattle.std.proofs.Common.{◌+◌, sym, ap, ◌∙◌, arith}
 use Rattle.std.specs.Prelude.{is_some}
 use Rattle.wide_image.specs.Faults.{bad_offer}
 use Rattle.wide_image.proofs.Loops.{offers_from, offers_begin, offers_go_on, offers_stop, offers_end}

@@ -1,9 +1,9 @@
-use Rattle.std.proofs.Common.{◌≡◌, ℕ, ◌+◌, ◌*◌, ◌-◌, ◌<◌, ◌++◌, ◌∷◌, [], List, length, replicate, arith, refl, sym, ap, subst, ◌∙◌}
+use Rattle.std.proofs.Common.{◌≡◌, ℕ, ◌+◌, ◌*◌, ◌-◌, ◌<◌, List, length, arith, sym, ap, subst, ◌∙◌}
 use Rattle.std.specs.Prelude.{slice_index}
 use Rattle.alloc_table.specs.declared.Role.{Role}
 use Rattle.wide_image.specs.Reading.{AreRead, AreFrames}
-use Rattle.wide_image.proofs.Loops.{frames_from, frames_begin}
-use Rattle.wide_image.proofs.Records.{read_none, next_record, record_asks, read_more, read_all, long_more}
+use Rattle.wide_image.proofs.Loops.{frames_from}
+use Rattle.wide_image.proofs.Records.{next_record, record_asks, read_more, read_all, long_more}
 use Rattle.wide_image.proofs.frames.frames_in.Goals as goal
 
 pub read_frame-added-requires-clause-owner : goal.read_frame-added-requires-clause-owner

@@ -1,4 +1,4 @@
-use Rattle.std.proofs.Common.{◌≡◌, ◌+◌, ◌*◌, ◌∷◌, [], ◌++◌, List, Some, arith, subst, sym, ap}
+use Rattle.std.proofs.Common.{◌≡◌, ◌+◌, ◌*◌, ◌∷◌, [], ◌++◌, Some, arith, subst, sym, ap}
 use Rattle.page_words.specs.FiniteMap as map
 use Rattle.wide_image.specs.declared.offers.PendingOffer.{PendingOffer}
 use Rattle.wide_image.specs.Gathered.{ListedBelow, place_of}

@@ -1,4 +1,4 @@
-use Rattle.std.proofs.Common.{ℕ, ◌+◌, ◌*◌, ◌-◌, ◌≤◌, ◌^◌}
+use Rattle.std.proofs.Common.{◌+◌, ◌*◌, ◌-◌, ◌≤◌, ◌^◌}
 use Rattle.wide_image.specs.Gathered.{ListedBelow, place_of}
 use Rattle.wide_image.proofs.gathering.gather.Given as goal
 

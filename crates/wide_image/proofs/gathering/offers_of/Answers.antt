@@ -1,4 +1,4 @@
-use Rattle.std.proofs.Common.{◌≡◌, ℕ, ◌+◌, List, arith, refl, subst, sym}
+use Rattle.std.proofs.Common.{◌≡◌, ◌+◌, List, arith, subst, sym}
 use Rattle.wide_image.specs.declared.offers.PendingOffer.{PendingOffer}
 use Rattle.wide_image.specs.Gathered.{ListedBelow, place_of}
 use Rattle.wide_image.proofs.GatherLemmas.{none_gathered, all_listed, all_fields}

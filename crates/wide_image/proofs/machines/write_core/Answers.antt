@@ -1,5 +1,4 @@
-use Rattle.std.proofs.Common.{subst, sym, inr, List}
-use Rattle.wide_image.specs.declared.offers.PendingOffer.{PendingOffer}
+use Rattle.std.proofs.Common.{subst, sym, inr}
 use Rattle.wide_image.specs.Offers.{AreListed}
 use Rattle.wide_image.specs.Wide.{AreOffers}
 use Rattle.wide_image.proofs.machines.write_core.Goals as goal

@@ -1,5 +1,4 @@
-use Rattle.std.proofs.Common.{◌+◌, take, sym, ap, ◌∙◌, arith}
-use Rattle.wide_image.specs.Layout.{frames_stored}
+use Rattle.std.proofs.Common.{◌+◌, sym, ◌∙◌, arith}
 use Rattle.wide_image.proofs.FrameTexts.{stored_next}
 use Rattle.wide_image.proofs.writing.count_stored.Goals as goal
 

@@ -1,4 +1,4 @@
-use Rattle.std.proofs.Common.{◌+◌, ◌*◌, drop, rules, arith, subst, ◌∙◌}
+use Rattle.std.proofs.Common.{rules, arith, subst}
 use Rattle.text_output.specs.Output.{AppendsFront, LeavesUnwritten}
 use Rattle.text_output.proofs.OutputLemmas.{wrote_piece, cut_piece}
 use Rattle.wide_image.specs.Layout.{frame_text, frames_text}

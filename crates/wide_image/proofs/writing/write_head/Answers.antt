@@ -1,6 +1,6 @@
 use Rattle.std.proofs.Common.{List, ℕ, subst, ◌≡◌, ◌∙◌, ◌++◌}
 use Rattle.std.specs.Prelude.{OnErr}
-use Rattle.memory_image.specs.Spelling.{magic, number, role_bytes}
+use Rattle.memory_image.specs.Spelling.{number, role_bytes}
 use Rattle.text_output.specs.Output.{AppendsFront}
 use Rattle.wide_image.proofs.writing.write_head.Goals as goal
 

@@ -1,4 +1,4 @@
-use Rattle.std.proofs.Common.{◌++◌, rules, refl, sym, append_assoc}
+use Rattle.std.proofs.Common.{◌++◌, rules, sym, append_assoc}
 use Rattle.memory_image.specs.Spelling.{number, role_bytes}
 use Rattle.text_output.specs.Output.{AppendsFront}
 use Rattle.text_output.proofs.OutputLemmas.{wrote_first, cut_first, wrote_last, cut_last}

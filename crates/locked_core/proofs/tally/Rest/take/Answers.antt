@@ -1,4 +1,4 @@
-use Rattle.std.proofs.Common.{ap, ◌∙◌, ◌≡◌}
+use Rattle.std.proofs.Common.{ap, ◌∙◌}
 use Rattle.locked_core.proofs.Eight.{same_elsewhere}
 use Rattle.std.specs.Prelude.{slice_index_or}
 use Rattle.locked_core.proofs.tally.Rest.take.Goals as goal

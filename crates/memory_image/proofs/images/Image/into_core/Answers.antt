@@ -1,8 +1,7 @@
 use Rattle.std.proofs.Common.{◌≡◌, sym, subst}
 use Rattle.memory_image.specs.Image.{Image, IsWideImage}
-use Rattle.memory_image.specs.Machine.{IsImageOf}
 use Rattle.memory_image.specs.Restored.{image_with}
-use Rattle.memory_image.specs.Sound.{IsSound, StandsFor}
+use Rattle.memory_image.specs.Sound.{IsSound}
 use Rattle.memory_image.proofs.MachineLemmas.{widened}
 use Rattle.memory_image.proofs.images.Image.into_core.Goals as goal
 
