@@ -658,7 +658,7 @@ TOWER_NODISCARD static inline enum tower_outcome tower_do_ending(struct tower *t
 /* The functions of the archive require pointers that are not null, whatever the count is, and take addresses and pages of
  * 32 bits. A program calls each function below by its own name, without `_inline`. In place of NULL with a count of 0 it
  * passes the address of an object. If an address or a page has more than 32 bits, it passes 255 as the process, which is
- * none: nothing is copied, and the reply, if there is one, is TOWER_NO_EVENT. */
+ * none: nothing is found or copied, nothing changes, and the reply, if there is one, is TOWER_NO_EVENT. */
 TOWER_NODISCARD static inline bool tower_run_inline(struct tower *tower, const struct tower_event *events,
                                                     size_t event_count, struct tower_reply *replies,
                                                     size_t reply_count) {
@@ -722,6 +722,30 @@ TOWER_NODISCARD static inline bool tower_take_back_inline(struct tower *tower, u
                            lost_count || lost ? lost : &holder, lost_count, count, told);
 }
 
+TOWER_NODISCARD static inline bool tower_next_page_inline(const struct tower *tower, uint32_t pid, uint64_t from,
+                                                          uint32_t *page, struct tower_page *found) {
+    return tower_next_page(tower, tower_pid_at(pid, from), (uint32_t)from, page, found);
+}
+
+TOWER_NODISCARD static inline bool tower_next_offer_inline(const struct tower *tower, uint32_t pid, uint64_t page,
+                                                           uint32_t target, struct tower_offer *offer) {
+    return tower_next_offer(tower, tower_pid_at(pid, page), (uint32_t)page, target, offer);
+}
+
+TOWER_NODISCARD static inline bool tower_next_holder_inline(const struct tower *tower, uint32_t pid, uint64_t page,
+                                                            uint32_t holder, uint64_t from, uint32_t *found) {
+    return tower_next_holder(tower, tower_pid_at(pid, page | from), (uint32_t)page, holder, (uint32_t)from, found);
+}
+
+TOWER_NODISCARD static inline bool tower_next_dirty_inline(const struct tower *tower, uint32_t pid, uint64_t from,
+                                                           uint32_t *page) {
+    return tower_next_dirty(tower, tower_pid_at(pid, from), (uint32_t)from, page);
+}
+
+TOWER_NODISCARD static inline bool tower_clean_inline(struct tower *tower, uint32_t pid, uint64_t page, bool *dirty) {
+    return tower_clean(tower, tower_pid_at(pid, page), (uint32_t)page, dirty);
+}
+
 /* The walk at an address of more than 32 bits is that at address 0: both are outside the user range. */
 TOWER_NODISCARD static inline bool tower_walk_inline(const struct tower *tower, uint32_t pid, uint64_t address,
                                                      bool write, struct tower_walk *found) {
@@ -729,6 +753,11 @@ TOWER_NODISCARD static inline bool tower_walk_inline(const struct tower *tower, 
 }
 
 #define tower_walk(tower, pid, address, write, found) tower_walk_inline(tower, pid, address, write, found)
+#define tower_next_page tower_next_page_inline
+#define tower_next_offer tower_next_offer_inline
+#define tower_next_holder tower_next_holder_inline
+#define tower_next_dirty tower_next_dirty_inline
+#define tower_clean tower_clean_inline
 #define tower_load_bytes tower_load_bytes_inline
 #define tower_peek tower_peek_inline
 #define tower_take_back tower_take_back_inline

@@ -145,7 +145,14 @@ TOWER_NODISCARD static inline uint32_t tower_shadow_open_inline(uint32_t frames,
     return tower_shadow_open(frames, pool, block, half_count || half ? half : &byte, half_count, shadow);
 }
 
+/* A page of more than 32 bits has no translation: no process has the number 255. */
+TOWER_NODISCARD static inline bool tower_shadow_translation_inline(const struct tower_shadow *shadow, uint32_t pid,
+                                                                   uint64_t page, struct tower_translation *found) {
+    return tower_shadow_translation(shadow, tower_pid_at(pid, page), (uint32_t)page, found);
+}
+
 #define tower_shadow_open tower_shadow_open_inline
+#define tower_shadow_translation tower_shadow_translation_inline
 
 #ifdef __cplusplus
 }

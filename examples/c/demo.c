@@ -9,6 +9,7 @@
 
 enum { PAGE = TOWER_FIRST_PAGE, ADDRESS = PAGE << 12, OTHER_PAGE = 0x50000, WORD = 0x11223344 };
 #define FAR ((uint64_t)1 << 32 | ADDRESS) /* an address of 33 bits, whose low ones are those of ADDRESS */
+#define FAR_PAGE ((uint64_t)1 << 32 | PAGE) /* and a page */
 
 static struct tower tower = TOWER_NONE;
 
@@ -248,6 +249,34 @@ static void goes_over_pages(void) {
            "no process 2 or 64");
 }
 
+/* Page PAGE of process 0 is mapped, dirty, offered and shared. A page of 33 bits, whose low ones are those of PAGE, is
+ * none of these. */
+static void finds_no_far_page(void) {
+    const uint64_t none = (uint64_t)1 << 32;
+    struct tower_page found;
+    struct tower_offer offer;
+    struct tower_holder lost[2];
+    struct tower_reply told = {0};
+    uint32_t page = 0;
+    size_t count = 99;
+    bool dirty = false;
+    expect(is_done(tower_store(0, ADDRESS, 4, WORD)) && is_done(tower_offer(0, PAGE, 1, TOWER_READ_WRITE)) &&
+               is_done(tower_accept(1, 0, PAGE, OTHER_PAGE + 2)) && is_done(tower_offer(0, PAGE, 1, TOWER_READ_WRITE)),
+           "a page is shared, and offered again");
+    expect(tower_next_page(&tower, 0, 0, &page, &found) && page == PAGE && tower_next_dirty(&tower, 0, 0, &page) &&
+               page == PAGE && tower_next_offer(&tower, 0, PAGE, 0, &offer) && offer.page == PAGE &&
+               tower_next_holder(&tower, 0, PAGE, 1, 0, &page) && page == OTHER_PAGE,
+           "the queries find it");
+    page = 7;
+    expect(!tower_next_page(&tower, 0, none, &page, &found) && !tower_next_dirty(&tower, 0, none, &page) &&
+               !tower_next_offer(&tower, 0, none, 0, &offer) && !tower_next_holder(&tower, 0, PAGE, 1, none, &page) &&
+               !tower_next_holder(&tower, 0, FAR_PAGE, 1, 0, &page) && page == 7, "but nothing from page 2 to the 32 on");
+    expect(!tower_clean(&tower, 0, FAR_PAGE, &dirty) && tower_next_dirty(&tower, 0, 0, &page) && page == PAGE,
+           "a page of 33 bits is not cleaned");
+    expect(tower_take_back(&tower, 0, FAR_PAGE, lost, 2, &count, &told) && count == 0 && told.kind == TOWER_NO_EVENT &&
+               tower_next_holder(&tower, 0, PAGE, 1, 0, &page), "or taken back");
+}
+
 int main(void) {
     boots();
     maps_and_loads();
@@ -260,6 +289,7 @@ int main(void) {
     runs_until();
     copies();
     goes_over_pages();
+    finds_no_far_page();
     tower_free(&tower);
     tower_free(&tower);
     expect(!tower.live && tower_frames(&tower) == 0, "freed");
