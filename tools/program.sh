@@ -34,6 +34,11 @@ sources() {
         { find $folders $others -type f -exec sha256sum {} + 2>/dev/null || true; } | LC_ALL=C sort -k 2)
 }
 
+# Prints one sum of these.
+sum_of_sources() {
+    sources | sha256sum | cut -c 1-64
+}
+
 # Prints such sums, and behind them that of a program.
 sums_with() {
     echo "$1"

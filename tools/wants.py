@@ -20,12 +20,17 @@ HINTS = {
 }
 
 
-# Whether what this repository built is of its current sources, by its kind: the wrapper's question, and make's.
-CURRENT = {"": "sh -c 'root=$PWD name=$0; . tools/program.sh; is_proved' {name}", ".a": "make -s -q -C c ../{path}"}
+# Whether what this repository built is of its current sources, by its kind: the wrapper's question, make's, and whether
+# the page has the sum of its sources.
+CURRENT = {
+    "": "sh -c 'root=$PWD name=$0; . tools/program.sh; is_proved' {name}",
+    ".a": "make -s -q -C c ../{path}",
+    ".html": "sh -c 'root=$PWD name=tower_film; . tools/program.sh; grep -qF \"$(sum_of_sources)\" {path}'",
+}
 
 
 def is_stale(path):
-    """Returns whether a path is a program or an archive of this repository that is older than its sources."""
+    """Returns whether a path is a program, an archive or a page of this repository that is older than its sources."""
     path = pathlib.Path(path).resolve()
     if not path.is_relative_to(ROOT / "crates") or path.parent.name != "out" or path.suffix not in CURRENT:
         return False

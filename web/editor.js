@@ -1,34 +1,40 @@
-// ---- The proved core: the rows of a script's film, from the module. A script and its rows are bytes.
+// ---- The core: the rows of a script's film, from the module. A script and its rows are bytes.
 const examples = JSON.parse(find("examples").textContent);
 const module = WebAssembly.compile(Uint8Array.from(atob(find("module").textContent), it => it.charCodeAt(0)));
-let core = null, room = 0;
+let core = null, room = 1 << 20;
 const sayings = { 1: "A machine has 16 to 4096 frames.", 2: "There is no memory for this film.", 3: "The script has more than 16,777,216 bytes." };
 class NoFilm extends Error {}
-function roomFor(length) {
+// Adds a block of so many bytes to the list.
+function roomFor(length, blocks) {
   const at = core.page_room(BigInt(length));
   if (at === 0n) throw new NoFilm(sayings[2]);
+  blocks.push(at);
   return at;
 }
 // Memory is 64 bit, so that addresses are BigInts.
 const bytesAt = (at, length) => new Uint8Array(core.memory.buffer, Number(at), length);
 async function rowsOf(frames, script) {
+  // (the module would get the low 32 bits of another number)
+  if (!Number.isInteger(frames) || frames < 0 || frames >= 2 ** 32) throw new NoFilm(sayings[1]);
   if (core === null) core = (await WebAssembly.instantiate(await module)).exports;
-  const from = roomFor(script.length), size = roomFor(8);
-  bytesAt(from, script.length).set(script);
-  for (room = Math.max(room, 1 << 20); ; ) {
-    const rows = roomFor(room);
-    const status = core.tower_film(frames, from, BigInt(script.length), rows, BigInt(room), size);
-    const length = Number(new DataView(core.memory.buffer).getBigUint64(Number(size), true));
-    const told = status === 0 ? bytesAt(rows, length).slice() : null;
-    core.rattle_dealloc(rows);
-    if (status === 4) {
-      room = length;
-      continue;
+  const blocks = [];
+  try {
+    const from = roomFor(script.length, blocks), size = roomFor(8, blocks);
+    bytesAt(from, script.length).set(script);
+    for (let most = room; ; ) {
+      const rows = roomFor(most, blocks);
+      const status = core.tower_film(frames, from, BigInt(script.length), rows, BigInt(most), size);
+      if (status !== 0 && status !== 4) throw new NoFilm(sayings[status]);
+      const length = Number(new DataView(core.memory.buffer).getBigUint64(Number(size), true));
+      if (status === 0) {
+        room = most;
+        return bytesAt(rows, length).slice();
+      }
+      core.rattle_dealloc(blocks.pop());
+      most = length;
     }
-    core.rattle_dealloc(from);
-    core.rattle_dealloc(size);
-    if (status !== 0) throw new NoFilm(sayings[status]);
-    return told;
+  } finally {
+    for (const block of blocks) core.rattle_dealloc(block);
   }
 }
 
@@ -60,7 +66,7 @@ async function film(step) {
     take(new TextDecoder().decode(rows));
     show();
     go(step === undefined ? stepAtCursor() : Math.min(step, steps.length - 1));
-    say(`${count(steps.length - 1, "event")} in ${took.toFixed(0)} ms, by the proved core.`, false);
+    say(`${count(steps.length - 1, "event")} in ${took.toFixed(0)} ms, by a module compiled from the proved crates.`, false);
   } catch (fault) {
     // (after a trap the instance isn't used again)
     if (!(fault instanceof NoFilm)) core = null;
