@@ -1,4 +1,5 @@
 """Compares the program with the machine: a script's replies, its line on standard error, its status, and its image."""
+import shutil
 import struct
 import subprocess
 import sys
@@ -10,9 +11,11 @@ import memory
 
 ROOT = Path(__file__).resolve().parent.parent.parent
 sys.path.append(str(ROOT / "tools"))
-from wants import wants  # noqa: E402, F401 (for the checks that import this module)
+from wants import is_stale, wants  # noqa: E402, F401 (for the checks that import this module)
 
 PROVED = ROOT / "crates" / "tower" / "out" / "tower"
+PREBUILT = ROOT / "prebuilt" / "tower"
+IS_OF_THESE_SOURCES = 'root=$PWD name=tower; . tools/program.sh; is_of "$(sources)" "$prebuilt"'
 RECORDS, HEAD = 12, 1548
 
 
@@ -49,6 +52,17 @@ class Image:
         """The processes as a film's rows have them."""
         both = zip(self.containers, self.directories)
         return [f"{it.parent},{it.quota},{it.used},{it.given},{at}" if it else "-" for it, at in both]
+
+
+def program_here(check):
+    """The proved program. If there is none of the present sources, and no `rt` on PATH, that of prebuilt/. A line on
+    standard error then says so."""
+    if shutil.which("rt") or PROVED.exists() and not is_stale(PROVED) or not PREBUILT.exists():
+        return PROVED
+    is_of_these = subprocess.run(["sh", "-c", IS_OF_THESE_SOURCES], cwd=ROOT).returncode == 0
+    which = "the proved program" if is_of_these else "the proved program of older sources"
+    print(f"{check}: this is {which}, from prebuilt/: no 'rt' is on PATH", file=sys.stderr)
+    return PREBUILT
 
 
 def ran(program, words, script=b""):
