@@ -127,12 +127,13 @@ note_sources() {
 }
 
 # Proves each crate that the program depends on, the lowest first, with a line for each, and builds the program.
-# If the sources did not change while rt proved them, it leaves a stamp next to the program.
+# If the sources did not change while rt proved them, it leaves a stamp next to the program, and this notes the sources.
 prove() {
     command -v rt >/dev/null || refuse "nothing can be proved, and no 'rt' is on PATH (README.md says what it is)"
     mkdir -p "$root/crates/$name/out"
     rm -f "$made_of"
     log=$root/crates/$name/out/prove.log
+    before=$(sources)
     for crate in $("$root/c/below" "$name" | tac); do
         began=$(date +%s)
         if [ "$crate" = "$name" ]; then set -- run -- --help; else set -- lib; fi
@@ -142,6 +143,7 @@ prove() {
         echo "$crate: proved ($(($(date +%s) - began)) s)"
     done
     [ -e "$program.stamp" ] || not_proved "$name"
+    [ "$(sources)" = "$before" ] || refuse "a source has changed since the first proof began"
     note_sources
     echo "$name: ./$name is proved now, and runs crates/$name/out/$name until a source changes"
 }
