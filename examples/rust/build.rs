@@ -1,10 +1,11 @@
 //! Links the archive of `crates/tower_c`, and with the feature `images` that of `crates/tower_images`.
 //!
 //! If `TOWER_LIB` names a folder, they are that folder's. Otherwise, in a release, they are those in its `lib/`.
-//! Otherwise they are the repository's, which `make -C c` makes if one is missing or older than its sources. If
-//! `prebuilt/` doesn't have it, that takes minutes and needs the kit's `rt`; a warning says so before it begins.
+//! Otherwise they are the repository's: the one that was made there if it is of the present sources, or that of
+//! `prebuilt/` likewise, or one of these that is older than its sources, with a warning. This script makes and proves
+//! nothing: an editor that opens the folder runs it.
 use std::path::{Path, PathBuf};
-use std::process::Command;
+use std::process::{Command, Stdio};
 use std::{env, fs};
 
 /// The crates whose archives are linked.
@@ -16,19 +17,8 @@ fn crates() -> Vec<&'static str> {
         .collect()
 }
 
-fn archive(name: &str) -> String {
-    format!("lib{name}.a")
-}
-
-/// What to do if there is no archive.
-fn advice(name: &str) -> String {
-    format!(
-        "TOWER_LIB=FOLDER names the folder of a built {}",
-        archive(name)
-    )
-}
-
-/// Each folder whose files a crate's archive is built from, and the list of crates.
+/// Each folder whose files a crate's archive is built from, the crate's own with what is made there, and the list of
+/// crates.
 fn sources(root: &Path, name: &str) -> Vec<PathBuf> {
     let below = Command::new(root.join("c/below")).arg(name).output();
     let names = String::from_utf8(below.expect("c/below runs").stdout).expect("names of crates");
@@ -37,73 +27,71 @@ fn sources(root: &Path, name: &str) -> Vec<PathBuf> {
     let parts = crates.flat_map(|at| ["src", "specs", "proofs"].map(|part| at.join(part)));
     parts
         .filter(|part| part.exists())
-        .chain([root.join("crates.txt")])
+        .chain([root.join("crates").join(name), root.join("crates.txt")])
         .collect()
 }
 
-/// Whether `make -C c` of a crate's archive, with these arguments, ends with status 0.
-fn makes(root: &Path, name: &str, words: &[&str]) -> bool {
-    let ended = Command::new("make")
-        .arg("-s")
-        .arg("-C")
-        .arg(root.join("c"))
-        .args(words)
-        .arg(format!("../crates/{name}/out/{}", archive(name)))
+/// Whether a shell's command at the repository's top ends with status 0.
+fn succeeds(root: &Path, command: &str) -> bool {
+    let ended = Command::new("sh")
+        .args(["-c", command])
+        .current_dir(root)
+        .stdout(Stdio::null())
+        .stderr(Stdio::null())
         .status();
     ended.is_ok_and(|status| status.success())
 }
 
-/// The folder of a crate's archive in the repository. The archive is first proved and built if it is missing or older
-/// than its sources.
-fn built(root: &Path, name: &str) -> PathBuf {
+/// A crate's archive in the repository, if there is one.
+fn of_repository(root: &Path, name: &str, file: &str) -> Option<PathBuf> {
     for source in sources(root, name) {
         println!("cargo::rerun-if-changed={}", source.display());
     }
-    if !makes(root, name, &["-q"]) {
-        let (archive, advice) = (archive(name), advice(name));
-        println!(
-            "cargo::warning=`make -C c` makes {archive}, which takes minutes if it has to be proved; {advice}"
-        );
-        assert!(
-            makes(root, name, &[]),
-            "`make -C c` did not build {archive}; {advice}"
-        );
+    let made = root.join("crates").join(name).join("out").join(file);
+    let prebuilt = root.join("prebuilt").join(file);
+    // (`make -q` only asks)
+    let made_is_of_these = format!("make -s -q -C c ../crates/{name}/out/{file}");
+    let prebuilt_is_of_these =
+        format!("root=$PWD name={name}; . tools/program.sh; is_of \"$(sources)\" \"$prebuilt\"");
+    if made.exists() && succeeds(root, &made_is_of_these) {
+        return Some(made);
     }
-    root.join("crates").join(name).join("out")
+    if prebuilt.exists() && succeeds(root, &prebuilt_is_of_these) {
+        return Some(prebuilt);
+    }
+    let older = [made, prebuilt].into_iter().find(|it| it.exists())?;
+    println!("cargo::warning={file} is older than its sources; `make -C c` makes it again");
+    Some(older)
 }
 
-/// The folder of the archive that is linked.
-fn folder(name: &str) -> PathBuf {
+/// The archive that is linked, if there is one.
+fn archive(name: &str, file: &str) -> Option<PathBuf> {
     if let Some(named) = env::var_os("TOWER_LIB") {
-        return PathBuf::from(named);
+        return Some(PathBuf::from(named).join(file)).filter(|it| it.exists());
     }
     let own = PathBuf::from(env::var_os("CARGO_MANIFEST_DIR").expect("cargo sets it"));
     let root = own.join("../..");
-    let released = root.join("lib");
-    if released.join(archive(name)).exists() {
-        return released;
+    let released = root.join("lib").join(file);
+    if released.exists() {
+        return Some(released);
     }
     let is_repository = root.join("c/below").exists();
-    assert!(
-        is_repository,
-        "there is no {} here: {}",
-        archive(name),
-        advice(name)
-    );
-    built(&root, name)
+    is_repository
+        .then(|| of_repository(&root, name, file))
+        .flatten()
 }
 
-/// Links a crate's archive.
+/// Links a crate's archive. If there is none, the build fails with one line.
 fn links(name: &str) {
-    let folder = folder(name);
-    let folder = fs::canonicalize(&folder).unwrap_or(folder);
-    let found = folder.join(archive(name));
-    assert!(
-        found.exists(),
-        "there is no {}: {}",
-        found.display(),
-        advice(name)
-    );
+    let file = format!("lib{name}.a");
+    let Some(found) = archive(name, &file) else {
+        println!(
+            "cargo::error=there is no {file}: TOWER_LIB=FOLDER names its folder; in the repository `make -C c` makes it"
+        );
+        return;
+    };
+    let found = fs::canonicalize(&found).unwrap_or(found);
+    let folder = found.parent().expect("a file is in a folder");
     println!("cargo::rerun-if-changed={}", found.display());
     println!("cargo::rustc-link-search=native={}", folder.display());
     println!("cargo::rustc-link-lib=static={name}");
