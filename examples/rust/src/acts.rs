@@ -7,6 +7,8 @@ use ::core::iter::FusedIterator;
 use ::core::ops::Deref;
 
 /// Up to 64 processes, in the order in which they are listed.
+///
+/// Example: [families](crate#families).
 #[derive(Clone, Copy, Debug)]
 pub struct Processes {
     pids: [Pid; 64],
@@ -35,6 +37,8 @@ impl Deref for Processes {
 }
 
 /// A pending offer of a process.
+///
+/// Example: [sharing](crate#sharing).
 #[derive(Clone, Copy, Debug, PartialEq, Eq, Hash)]
 pub struct Offer {
     /// The offerer's page.
@@ -46,6 +50,8 @@ pub struct Offer {
 }
 
 /// A page of a process.
+///
+/// Example: [sharing](crate#sharing).
 #[derive(Clone, Copy, Debug, PartialEq, Eq, Hash)]
 pub struct Holder {
     /// The process.
@@ -55,6 +61,8 @@ pub struct Holder {
 }
 
 /// The pending offers of a process in the order of pages and targets, as [`Core::offers`] returns them.
+///
+/// Example: [sharing](crate#sharing).
 #[derive(Clone, Debug)]
 pub struct Offers<'a> {
     core: &'a Core<'a>,
@@ -76,6 +84,8 @@ impl Iterator for Offers<'_> {
 impl FusedIterator for Offers<'_> {}
 
 /// The dirty pages of a process in ascending order, as [`Core::dirty_pages`] returns them.
+///
+/// Example: [memory of a process](crate#memory-of-a-process).
 #[derive(Clone, Debug)]
 pub struct DirtyPages<'a> {
     core: &'a Core<'a>,
@@ -108,6 +118,8 @@ fn cause_of(told: &raw::Reply) -> Option<Cause> {
 
 impl Core<'_> {
     /// Returns a process's children in order of their numbers; none if it is not live.
+    ///
+    /// Example: [families](crate#families).
     #[must_use]
     pub fn children(&self, pid: Pid) -> Processes {
         let mut found = raw::Processes::default();
@@ -118,6 +130,8 @@ impl Core<'_> {
 
     /// Returns a process's first pending offer from a page and a target on, in the order of pages, and of targets for
     /// one page. `target` may be any number: past 63 it leads to the next page.
+    ///
+    /// Example: [sharing](crate#sharing).
     #[must_use]
     pub fn next_offer(&self, pid: Pid, page: Page, target: u32) -> Option<Offer> {
         let mut offer = raw::Offer::default();
@@ -139,6 +153,8 @@ impl Core<'_> {
     }
 
     /// Returns a process's pending offers, in the order of pages, and of targets for one page.
+    ///
+    /// Example: [sharing](crate#sharing).
     #[must_use]
     pub fn offers(&self, pid: Pid) -> Offers<'_> {
         Offers {
@@ -150,6 +166,8 @@ impl Core<'_> {
 
     /// Returns the lowest page from `from` on at which process `holder` also has a page of a process: both share it. The
     /// page itself is none of them.
+    ///
+    /// Example: [sharing](crate#sharing).
     #[must_use]
     pub fn next_holder(&self, pid: Pid, page: Page, holder: Pid, from: Page) -> Option<Page> {
         let mut found = 0;
@@ -168,6 +186,8 @@ impl Core<'_> {
     }
 
     /// Returns the lowest page from `from` on that a process has mapped and that is dirty.
+    ///
+    /// Example: [memory of a process](crate#memory-of-a-process).
     #[must_use]
     pub fn next_dirty(&self, pid: Pid, from: Page) -> Option<Page> {
         let mut page = 0;
@@ -179,6 +199,8 @@ impl Core<'_> {
     }
 
     /// Returns the pages that a process has mapped and that are dirty, in ascending order.
+    ///
+    /// Example: [memory of a process](crate#memory-of-a-process).
     #[must_use]
     pub fn dirty_pages(&self, pid: Pid) -> DirtyPages<'_> {
         DirtyPages {
@@ -190,6 +212,8 @@ impl Core<'_> {
 
     /// Copies bytes of a process's memory out as they are, up to the first that is not mapped, and returns how many. The
     /// rest of `bytes` is unchanged. No page is mapped, and no flag is set.
+    ///
+    /// Example: [memory of a process](crate#memory-of-a-process).
     #[must_use = "fewer bytes may have been copied"]
     pub fn peek(&self, pid: Pid, addr: Vaddr, bytes: &mut [u8]) -> usize {
         let mut moved = 0;
@@ -210,6 +234,8 @@ impl Core<'_> {
     /// Puts bytes into a process's memory from an address on, whatever right the process has there, and leaves each page
     /// with the right that `write` says: all of them, or none. A kernel whose processors cache translations invalidates
     /// those of the pages. If the process has one page at two of the addresses, the byte that comes last stays.
+    ///
+    /// Example: [memory of a process](crate#memory-of-a-process).
     ///
     /// # Errors
     ///
@@ -240,6 +266,8 @@ impl Core<'_> {
 
     /// Clears accessed and dirty of a page, and returns whether it was dirty; None if the process has not mapped it. It
     /// is no event. A kernel whose processors cache translations invalidates the page's.
+    ///
+    /// Example: [memory of a process](crate#memory-of-a-process).
     #[must_use = "the page may not be mapped"]
     pub fn clean(&mut self, pid: Pid, page: Page) -> Option<bool> {
         let mut dirty = false;
@@ -258,6 +286,8 @@ impl Core<'_> {
     /// Ends a process with all that descend from it, children first, and returns them in that order: it is the run of
     /// their Exits. A kernel whose processors cache translations invalidates all of each of them. The next spawn or fork
     /// may give one of their numbers to another process.
+    ///
+    /// Example: [families](crate#families).
     ///
     /// # Errors
     ///
@@ -281,6 +311,8 @@ impl Core<'_> {
     /// the process has the page alone. Otherwise others may still have it. Those that lost it may access the same
     /// addresses again, which maps pages of zeros of their own. A kernel whose processors cache translations
     /// invalidates those of these pages.
+    ///
+    /// Example: [sharing](crate#sharing).
     ///
     /// # Errors
     ///

@@ -178,6 +178,8 @@ fn boot_over(frames: u32, handle: *mut raw::Tower, block: &mut [u8]) -> u32 {
 ///
 /// These are 4,096 for each frame, 16 for what the core keeps of each, and those of the core itself, up to the next
 /// multiple of 4,096. The tests compare it with what the library requests.
+///
+/// Example: [`Core::over`].
 #[must_use]
 pub const fn block_bytes(frames: u32) -> usize {
     let book = frames as usize * BOOK + 19_064 + 64;

@@ -7,6 +7,8 @@ use crate::core::Core;
 use crate::words::{Call, Ended, Event, Failure, Page, Pid, Reply, Size, Vaddr};
 
 /// The state of a page of a process.
+///
+/// Example: [calls](crate#calls).
 #[derive(Clone, Copy, Debug, PartialEq, Eq, Hash)]
 #[allow(clippy::struct_excessive_bools)] // (four flags of a page, as a reply has them)
 pub struct Info {
@@ -23,6 +25,8 @@ pub struct Info {
 }
 
 /// What a process may use, in frames.
+///
+/// Example: [calls](crate#calls).
 #[derive(Clone, Copy, Debug, PartialEq, Eq, Hash)]
 pub struct Usage {
     /// Its quota.
@@ -66,7 +70,9 @@ impl Core<'_> {
         }
     }
 
-    /// Reads the bytes at an address, zero-extended.
+    /// Reads the bytes at an address, zero-extended. A page that is not mapped is mapped first, and the quota pays for it.
+    ///
+    /// Example: [calls](crate#calls).
     ///
     /// # Errors
     ///
@@ -78,8 +84,10 @@ impl Core<'_> {
         }
     }
 
-    /// Writes the low bytes of a value at an address. A page that gets its first store gets a frame, and the translation of
-    /// its zeros ends.
+    /// Writes the low bytes of a value at an address. A page that is not mapped is mapped first. One that gets its first
+    /// store gets a frame, and the translation of its zeros ends. The quota pays for both.
+    ///
+    /// Example: [calls](crate#calls).
     ///
     /// # Errors
     ///
@@ -96,6 +104,8 @@ impl Core<'_> {
 
     /// Maps a page of zeros, with the right to write if `write`.
     ///
+    /// Example: [calls](crate#calls).
+    ///
     /// # Errors
     ///
     /// The fault or the refusal, as docs/MACHINE.md has it; nothing changed then.
@@ -104,6 +114,8 @@ impl Core<'_> {
     }
 
     /// Removes a page from the process's space, and ends its translation.
+    ///
+    /// Example: [translations](crate#translations).
     ///
     /// # Errors
     ///
@@ -114,6 +126,8 @@ impl Core<'_> {
 
     /// Sets whether the process may write to a page. Without the right, the page's translation ends.
     ///
+    /// Example: [translations](crate#translations).
+    ///
     /// # Errors
     ///
     /// The fault or the refusal, as docs/MACHINE.md has it; nothing changed then.
@@ -122,6 +136,8 @@ impl Core<'_> {
     }
 
     /// Returns a page's flags, and how many slots share it.
+    ///
+    /// Example: [calls](crate#calls).
     ///
     /// # Errors
     ///
@@ -147,6 +163,8 @@ impl Core<'_> {
 
     /// Offers a page to another process, with the right to write or without it.
     ///
+    /// Example: [sharing](crate#sharing).
+    ///
     /// # Errors
     ///
     /// The fault or the refusal, as docs/MACHINE.md has it; nothing changed then.
@@ -163,6 +181,8 @@ impl Core<'_> {
 
     /// Withdraws an offer.
     ///
+    /// Example: [sharing](crate#sharing).
+    ///
     /// # Errors
     ///
     /// The fault or the refusal, as docs/MACHINE.md has it; nothing changed then.
@@ -172,6 +192,8 @@ impl Core<'_> {
 
     /// Maps a page that another process offers at `page`. If the page is lazy, it gets a frame, and the giver's translation
     /// ends.
+    ///
+    /// Example: [sharing](crate#sharing).
     ///
     /// # Errors
     ///
@@ -195,6 +217,8 @@ impl Core<'_> {
 
     /// Makes a child with that quota, in frames, and an empty space.
     ///
+    /// Example: [sharing](crate#sharing).
+    ///
     /// # Errors
     ///
     /// The fault or the refusal, as docs/MACHINE.md has it; nothing changed then.
@@ -203,6 +227,8 @@ impl Core<'_> {
     }
 
     /// Makes a child with that quota, in frames, and a copy of each of the process's pages.
+    ///
+    /// Example: [families](crate#families).
     ///
     /// # Errors
     ///
@@ -214,6 +240,8 @@ impl Core<'_> {
     /// Ends a process, whose quota returns to its parent, and all of its translations. The next spawn or fork may give its
     /// number to another process.
     ///
+    /// Example: [families](crate#families).
+    ///
     /// # Errors
     ///
     /// The fault or the refusal, as docs/MACHINE.md has it; nothing changed then.
@@ -222,6 +250,8 @@ impl Core<'_> {
     }
 
     /// Returns a process's quota, and how much of it is used and given.
+    ///
+    /// Example: [calls](crate#calls).
     ///
     /// # Errors
     ///

@@ -13,6 +13,8 @@ use ::core::marker::PhantomData;
 use ::core::ptr::{NonNull, null_mut};
 
 /// Why no core is booted.
+///
+/// Example: [calls](crate#calls).
 #[derive(Clone, Copy, Debug, PartialEq, Eq, Hash)]
 pub enum BootFault {
     /// The library's version is not that of the header for which this crate was written.
@@ -47,6 +49,8 @@ impl fmt::Display for BootFault {
 impl Error for BootFault {}
 
 /// The number of places for replies is not that of events.
+///
+/// Example: [runs](crate#runs).
 #[derive(Clone, Copy, Debug, PartialEq, Eq, Hash)]
 pub struct UnequalLengths;
 
@@ -59,6 +63,8 @@ impl fmt::Display for UnequalLengths {
 impl Error for UnequalLengths {}
 
 /// The library's version: 10,000 for each major version, 100 for each minor one, 1 for each patch.
+///
+/// Example: [frames and tables](crate#frames-and-tables).
 #[must_use]
 pub fn version() -> u32 {
     raw::tower_version()
@@ -72,6 +78,8 @@ const CHUNK: usize = 32;
 ///
 /// `'block` is how long the block of `Core::over` is borrowed; a core that `boot` or `boot_wide` returns borrows
 /// nothing.
+///
+/// Example: [calls](crate#calls).
 pub struct Core<'block> {
     handle: UnsafeCell<raw::Tower>,
     block: PhantomData<&'block mut [u8]>,
@@ -113,6 +121,8 @@ impl<'block> Core<'block> {
 impl Core<'static> {
     /// Boots a machine of that many frames, 16 to 4,096. It has only process 0, whose quota is all frames but one.
     ///
+    /// Example: [calls](crate#calls).
+    ///
     /// # Errors
     ///
     /// `OtherVersion` if the linked library's version is not [`VERSION`]. Otherwise `BadSize` if the number of frames
@@ -125,6 +135,8 @@ impl Core<'static> {
     }
 
     /// Boots a machine as `boot` does, but of 16 to 1,048,576 frames, which are 4 GiB.
+    ///
+    /// Example: [frames and tables](crate#frames-and-tables).
     ///
     /// # Errors
     ///
@@ -158,6 +170,8 @@ impl Core<'_> {
     }
 
     /// Carries out one event.
+    ///
+    /// Example: [calls](crate#calls).
     pub fn step(&mut self, event: &Event) -> Reply {
         let mut reply = raw::Reply::default();
         // SAFETY: the handle was booted and is borrowed alone; all three lie apart.
@@ -168,7 +182,8 @@ impl Core<'_> {
     /// Returns which cached translations an event will end. A kernel whose processors cache what walks gave invalidates
     /// these once the event is carried out. If other events may come in between, `step_ending` reports them with the
     /// event.
-    #[must_use]
+    ///
+    /// Example: [translations](crate#translations).
     pub fn ends(&self, event: &Event) -> Ended {
         let mut ended = raw::Ended::default();
         // SAFETY: as for `frames`, and the event and `ended` lie apart.
@@ -178,6 +193,8 @@ impl Core<'_> {
 
     /// Returns whether an event may write a frame, if it were the next one; None if there is no such frame. What it frees is
     /// among them. Whoever keeps something by frames, as an emulator keeps translated code, drops what it keeps of those.
+    ///
+    /// Example: [frames and tables](crate#frames-and-tables).
     #[must_use]
     pub fn may_write(&self, event: &Event, frame: Frame) -> Option<bool> {
         let mut may = false;
@@ -191,6 +208,8 @@ impl Core<'_> {
     /// Carries out one event, and returns its reply and which cached translations it ended. A kernel whose processors
     /// cache what walks gave invalidates these, on all processors, before the next access or event. Only the reply is
     /// for the process.
+    ///
+    /// Example: [translations](crate#translations).
     #[must_use = "what was ended is to be invalidated"]
     pub fn step_ending(&mut self, event: &Event) -> (Reply, Ended) {
         let mut reply = raw::Reply::default();
@@ -209,6 +228,8 @@ impl Core<'_> {
 
     /// Carries out events in order, and writes the reply to each in its place.
     ///
+    /// Example: [runs](crate#runs).
+    ///
     /// # Errors
     ///
     /// If the number of places for replies is not that of events; then nothing is done.
@@ -225,6 +246,8 @@ impl Core<'_> {
     /// Carries out events in order up to the first that is refused or faults. Writes the reply to each in its place,
     /// and to that one too; the other places are unchanged. Returns how many were carried out, which is the place of
     /// that one.
+    ///
+    /// Example: [runs](crate#runs).
     ///
     /// # Errors
     ///
@@ -297,6 +320,8 @@ impl Core<'_> {
     }
 
     /// Returns how many frames the machine has.
+    ///
+    /// Example: [frames and tables](crate#frames-and-tables).
     #[must_use]
     pub fn frames(&self) -> u32 {
         // SAFETY: the handle was booted; as a `Core` is not `Sync`, no other call has it.
@@ -304,6 +329,8 @@ impl Core<'_> {
     }
 
     /// Returns the frame of a process's directory; None if the process is not live.
+    ///
+    /// Example: [frames and tables](crate#frames-and-tables).
     #[must_use]
     pub fn directory(&self, pid: Pid) -> Option<Frame> {
         let mut frame = 0;
@@ -314,6 +341,8 @@ impl Core<'_> {
     }
 
     /// Returns what a process may use, uses and gives; None if it is not live.
+    ///
+    /// Example: [frames and tables](crate#frames-and-tables).
     #[must_use]
     pub fn container(&self, pid: Pid) -> Option<Container> {
         let mut container = raw::Container::default();
@@ -325,6 +354,8 @@ impl Core<'_> {
     }
 
     /// Returns the role of a frame; None if memory has no such frame.
+    ///
+    /// Example: [frames and tables](crate#frames-and-tables).
     #[must_use]
     pub fn role(&self, frame: Frame) -> Option<Role> {
         let mut role = raw::Role::default();
@@ -335,6 +366,8 @@ impl Core<'_> {
 
     /// Returns how the processor's walk of a process's tables ends, for an access to a byte; None if the process is not
     /// live.
+    ///
+    /// Example: [frames and tables](crate#frames-and-tables).
     #[must_use]
     pub fn walk(&self, pid: Pid, addr: Vaddr, access: Access) -> Option<Result<Frame, WalkEnd>> {
         let mut found = raw::Walk::default();
@@ -353,6 +386,8 @@ impl Core<'_> {
     }
 
     /// Copies a frame's bytes out. Returns false if memory has no such frame; then nothing is written.
+    ///
+    /// Example: [frames and tables](crate#frames-and-tables).
     #[must_use = "there may be no such frame"]
     pub fn copy_frame(&self, frame: Frame, bytes: &mut [u8; FRAME_BYTES]) -> bool {
         // SAFETY: as for `directory`, and the length is the array's.
@@ -364,6 +399,8 @@ impl Core<'_> {
     /// Returns where the machine's memory lies, until the core is dropped. Frame f is the 4,096 bytes from place 4,096
     /// f on. It is only for a processor that walks the core's directories, which may write there between two calls as
     /// docs/C-LIBRARY.md says.
+    ///
+    /// Example: [frames and tables](crate#frames-and-tables).
     ///
     /// # Panics
     ///
@@ -398,6 +435,8 @@ impl Drop for Core<'_> {
 
 impl Vaddr {
     /// Returns the page of an address.
+    ///
+    /// Example: [calls](crate#calls).
     #[must_use]
     pub const fn page(self) -> Page {
         Page(self.0 >> 12)

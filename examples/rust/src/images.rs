@@ -13,6 +13,8 @@ use ::core::ptr::null_mut;
 use alloc::vec::Vec;
 
 /// Memory ran out for a check.
+///
+/// Example: [`Core::image`].
 #[derive(Clone, Copy, Debug, PartialEq, Eq, Hash)]
 pub struct NoMemory;
 
@@ -25,6 +27,8 @@ impl fmt::Display for NoMemory {
 impl Error for NoMemory {}
 
 /// Why there is no image of a core.
+///
+/// Example: [`Core::image`].
 #[derive(Clone, Copy, Debug, PartialEq, Eq, Hash)]
 pub enum CoreImageFault {
     /// The core has more than 4,096 frames, which are the most of an image.
@@ -45,6 +49,8 @@ impl fmt::Display for CoreImageFault {
 impl Error for CoreImageFault {}
 
 /// The result of checking an image. docs/IMAGES.md has the clauses.
+///
+/// Example: [`Core::image`].
 #[derive(Clone, Copy, Debug, PartialEq, Eq, Hash)]
 pub enum Verdict {
     /// No clause fails.
@@ -78,6 +84,8 @@ impl fmt::Display for Verdict {
 }
 
 /// Why bytes are not checked.
+///
+/// Example: [`Core::image`].
 #[derive(Clone, Copy, Debug, PartialEq, Eq, Hash)]
 pub enum ImageFault {
     /// They do not begin with the four bytes of an image.
@@ -116,6 +124,8 @@ impl From<NoMemory> for ImageFault {
 }
 
 /// Why no core is made of an image.
+///
+/// Example: [`Core::image`].
 #[derive(Clone, Copy, Debug, PartialEq, Eq, Hash)]
 pub enum RestoreFault {
     /// The library's version is not that of the header for which this crate was written.
@@ -186,6 +196,8 @@ fn fault_of(raw: raw::Verdict) -> ImageFault {
 
 /// Checks the image that bytes encode, whatever wrote them.
 ///
+/// Example: [`Core::image`].
+///
 /// # Errors
 ///
 /// If the bytes encode no image, the first reason against them; `NoMemory` if memory ran out for the check.
@@ -200,6 +212,8 @@ pub fn check_image(bytes: &[u8]) -> Result<Verdict, ImageFault> {
 impl Core<'static> {
     /// Makes a core of the image that bytes encode, whatever wrote them. Its state is the one that the image represents,
     /// without any offer, and its image has the same bytes.
+    ///
+    /// Example: [`Core::image`].
     ///
     /// # Errors
     ///
@@ -247,6 +261,24 @@ impl Core<'_> {
 
     /// Returns the bytes of the core's image, whose format is in docs/IMAGES.md.
     ///
+    /// ```
+    /// use tower::{Core, ImageFault, Pid, RestoreFault, Size, Vaddr, Verdict, check_image};
+    ///
+    /// let mut core = Core::boot(16)?;
+    /// let addr = Vaddr(0x4000_0000);
+    /// core.store(Pid::ROOT, addr, Size::Four, 7)?.ignore();
+    /// assert_eq!(core.check()?, Verdict::Sound);
+    /// let mut image = core.image()?;
+    /// let mut again = Core::restore(&image)?;
+    /// assert_eq!(again.load(Pid::ROOT, addr, Size::Four)?, 7);
+    ///
+    /// image[3] = 0; // (no longer the bytes of an image)
+    /// assert_eq!(check_image(&image), Err(ImageFault::NotImage));
+    /// let refused = Core::restore(&image).err();
+    /// assert_eq!(refused, Some(RestoreFault::Refused(ImageFault::NotImage)));
+    /// # Ok::<(), Box<dyn std::error::Error>>(())
+    /// ```
+    ///
     /// # Errors
     ///
     /// `TooManyFrames` if the core has more than 4,096 frames. Otherwise `NoMemory` if memory ran out for it.
@@ -262,6 +294,8 @@ impl Core<'_> {
 
     /// Checks the core's own image, where it lies: of a core of any size. Any verdict but `Sound` says that something
     /// else has written in the core's memory.
+    ///
+    /// Example: [`Core::image`].
     ///
     /// # Errors
     ///

@@ -8,6 +8,8 @@ use ::core::fmt;
 use ::core::iter::FusedIterator;
 
 /// A transfer that stopped before its end.
+///
+/// Example: [memory of a process](crate#memory-of-a-process).
 #[derive(Clone, Copy, Debug, PartialEq, Eq, Hash)]
 pub struct Stopped {
     /// How many bytes were copied before it.
@@ -33,6 +35,8 @@ fn ended(count: usize, stop: &raw::Reply) -> Result<(), Stopped> {
 }
 
 /// A mapped page of a process.
+///
+/// Example: [memory of a process](crate#memory-of-a-process).
 #[derive(Clone, Copy, Debug, PartialEq, Eq, Hash)]
 #[allow(clippy::struct_excessive_bools)] // (flags of a page, as the library reports them)
 pub struct Mapped {
@@ -53,6 +57,8 @@ pub struct Mapped {
 }
 
 /// The pages of a process in ascending order, as [`Core::pages`] returns them.
+///
+/// Example: [memory of a process](crate#memory-of-a-process).
 #[derive(Clone, Debug)]
 pub struct Pages<'a> {
     core: &'a Core<'a>,
@@ -76,6 +82,8 @@ impl Core<'_> {
     /// Reads a process's memory from an address on, as copyin does, with the effect of one-byte loads in order. A page
     /// that is not mapped is mapped first, as a load does it, and the quota pays for it; no page gets a frame.
     /// [`Core::peek`] maps nothing.
+    ///
+    /// Example: [memory of a process](crate#memory-of-a-process).
     ///
     /// # Errors
     ///
@@ -103,6 +111,8 @@ impl Core<'_> {
     /// gives lazy pages frames. A kernel whose processors cache translations then invalidates those of the process's
     /// pages from the first byte's page to that of the last byte copied.
     ///
+    /// Example: [memory of a process](crate#memory-of-a-process).
+    ///
     /// # Errors
     ///
     /// If the store of a byte is refused or faults: how many bytes were written before it, and why.
@@ -124,6 +134,8 @@ impl Core<'_> {
     }
 
     /// Returns the lowest page from `from` on that a process has mapped; None if there is none.
+    ///
+    /// Example: [memory of a process](crate#memory-of-a-process).
     #[must_use]
     pub fn next_page(&self, pid: Pid, from: Page) -> Option<Mapped> {
         let (mut page, mut found) = (0, raw::Page::default());
@@ -149,6 +161,8 @@ impl Core<'_> {
     }
 
     /// Returns the pages that a process has mapped, in ascending order; no pages if it is not live.
+    ///
+    /// Example: [memory of a process](crate#memory-of-a-process).
     #[must_use]
     pub fn pages(&self, pid: Pid) -> Pages<'_> {
         Pages {

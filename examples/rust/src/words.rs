@@ -5,9 +5,13 @@ use ::core::error::Error;
 use ::core::fmt;
 
 /// The bytes of a frame.
+///
+/// Example: [frames and tables](crate#frames-and-tables).
 pub const FRAME_BYTES: usize = 4096;
 
 /// A virtual address. Its debug output is in hexadecimal, as in docs/MACHINE.md.
+///
+/// Example: [calls](crate#calls).
 #[derive(Clone, Copy, PartialEq, Eq, PartialOrd, Ord, Hash)]
 pub struct Vaddr(pub u32);
 
@@ -18,6 +22,8 @@ impl fmt::Debug for Vaddr {
 }
 
 /// A page: an address without its last 12 bits. Its debug output is in hexadecimal, as in docs/MACHINE.md.
+///
+/// Example: [calls](crate#calls).
 #[derive(Clone, Copy, PartialEq, Eq, PartialOrd, Ord, Hash)]
 pub struct Page(pub u32);
 
@@ -28,26 +34,36 @@ impl fmt::Debug for Page {
 }
 
 /// A frame of memory.
+///
+/// Example: [frames and tables](crate#frames-and-tables).
 #[derive(Clone, Copy, Debug, PartialEq, Eq, PartialOrd, Ord, Hash)]
 pub struct Frame(pub u32);
 
 /// The number of a process, 0 to 63. It has no generation: once a process has ended, the next spawn or fork may give its
 /// number to another. A copy that a program keeps then names the other process. `examples/tenants.rs` has each number in
 /// one place, and ends the process when that is dropped.
+///
+/// Example: [calls](crate#calls).
 #[derive(Clone, Copy, Debug, PartialEq, Eq, PartialOrd, Ord, Hash)]
 pub struct Pid(u8);
 
 impl Pid {
     /// Process 0, which a machine boots with.
+    ///
+    /// Example: [calls](crate#calls).
     pub const ROOT: Pid = Pid(0);
 
     /// Returns the process of that number; None from 64 on.
+    ///
+    /// Example: [calls](crate#calls).
     #[must_use]
     pub const fn new(number: u8) -> Option<Pid> {
         if number < 64 { Some(Pid(number)) } else { None }
     }
 
     /// Returns the process's number.
+    ///
+    /// Example: [calls](crate#calls).
     #[must_use]
     pub const fn number(self) -> u8 {
         self.0
@@ -55,6 +71,8 @@ impl Pid {
 }
 
 /// How many bytes an access covers.
+///
+/// Example: [calls](crate#calls).
 #[derive(Clone, Copy, Debug, PartialEq, Eq, PartialOrd, Ord, Hash)]
 pub enum Size {
     /// One byte.
@@ -66,6 +84,8 @@ pub enum Size {
 }
 
 /// A call; docs/MACHINE.md says what each does.
+///
+/// Example: [calls](crate#calls).
 #[derive(Clone, Copy, Debug, PartialEq, Eq, Hash)]
 pub enum Call {
     /// Reads the bytes at an address. They may lie in two pages.
@@ -150,6 +170,8 @@ pub enum Call {
 }
 
 /// A call of a process, from a CPU. The CPU has no effect.
+///
+/// Example: [calls](crate#calls).
 #[derive(Clone, Copy, Debug, PartialEq, Eq, Hash)]
 pub struct Event {
     /// The CPU, any number.
@@ -161,6 +183,8 @@ pub struct Event {
 }
 
 /// The reply to a call.
+///
+/// Example: [calls](crate#calls).
 #[derive(Clone, Copy, Debug, PartialEq, Eq, Hash)]
 #[must_use = "a call may have been refused"]
 pub enum Reply {
@@ -204,6 +228,8 @@ pub enum Reply {
 }
 
 /// Why an event was not carried out. Nothing changed.
+///
+/// Example: [calls](crate#calls).
 #[derive(Clone, Copy, Debug, PartialEq, Eq, Hash)]
 pub enum Failure {
     /// A page fault.
@@ -233,6 +259,8 @@ impl Error for Failure {}
 impl Reply {
     /// Returns the reply of an event that was carried out, or why it was not.
     ///
+    /// Example: [calls](crate#calls).
+    ///
     /// # Errors
     ///
     /// The fault or the refusal, if the reply is one.
@@ -246,6 +274,8 @@ impl Reply {
 }
 
 /// Why a call is refused.
+///
+/// Example: [calls](crate#calls).
 #[derive(Clone, Copy, Debug, PartialEq, Eq, PartialOrd, Ord, Hash)]
 pub enum Cause {
     /// The process is not live.
@@ -303,6 +333,8 @@ impl Cause {
     ];
 
     /// Returns the cause of that number, as docs/MACHINE.md numbers them; None if there is none.
+    ///
+    /// Example: [calls](crate#calls).
     #[must_use]
     pub fn numbered(number: u32) -> Option<Cause> {
         Cause::ALL.into_iter().find(|cause| *cause as u32 == number)
@@ -318,6 +350,8 @@ impl fmt::Display for Cause {
 impl Error for Cause {}
 
 /// The role of a frame.
+///
+/// Example: [frames and tables](crate#frames-and-tables).
 #[derive(Clone, Copy, Debug, PartialEq, Eq, Hash)]
 pub enum Role {
     /// Frame 0, which no process has.
@@ -344,6 +378,8 @@ pub enum Role {
 }
 
 /// What a process may use, uses and gives to children, in frames.
+///
+/// Example: [frames and tables](crate#frames-and-tables).
 #[derive(Clone, Copy, Debug, PartialEq, Eq, Hash)]
 pub struct Container {
     /// The process that gave the quota; process 0 is its own parent.
@@ -359,6 +395,8 @@ pub struct Container {
 }
 
 /// The access that a walk is for.
+///
+/// Example: [frames and tables](crate#frames-and-tables).
 #[derive(Clone, Copy, Debug, PartialEq, Eq, Hash)]
 pub enum Access {
     /// To read.
@@ -368,6 +406,8 @@ pub enum Access {
 }
 
 /// How a walk without a frame ends.
+///
+/// Example: [frames and tables](crate#frames-and-tables).
 #[derive(Clone, Copy, Debug, PartialEq, Eq, Hash)]
 pub enum WalkEnd {
     /// A page fault.
@@ -437,6 +477,8 @@ pub enum Ended {
 
 impl Ended {
     /// Does nothing: for a program in which no processor, emulator or copy caches translations.
+    ///
+    /// Example: [translations](crate#translations).
     pub const fn ignore(self) {}
 }
 
