@@ -1,4 +1,5 @@
-"""What documents copy from elsewhere, by the marks around it: code, counts of definitions, drawings of crates.
+"""What documents copy from elsewhere, by the marks around it: code, counts of definitions, drawings of crates. Also the
+pages of man/, which tools/manual.py writes.
 
 A piece of code is a block after a comment `<!-- PATH: NAME, NAME .. -->`. It has the functions of these names in that
 file, in sequence, with their attributes and docstrings, or in C with the comments above them. Of a file of definitions
@@ -10,6 +11,7 @@ import re
 import textwrap
 
 import believed
+import manual
 from clones import documents
 from sources import ROOT, crates, functions_in
 
@@ -122,10 +124,11 @@ def with_blocks(text):
 
 def faults(is_written=False):
     """The documents that don't have what they copy. With `is_written` they get it."""
-    for path in documents(ROOT):
+    pages = {ROOT / name: text for name, text in manual.pages().items()}
+    for path in (*documents(ROOT), *pages):
         name, old = str(path.relative_to(ROOT)), path.read_text(encoding="utf-8")
         try:
-            new = with_blocks(with_code(old))
+            new = pages.get(path) or with_blocks(with_code(old))
         except Missing as fault:
             yield f"{name}: {fault}"
             continue
