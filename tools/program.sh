@@ -81,10 +81,26 @@ run_proved() {
     fi
 }
 
+# Returns whether the arguments request help.
+asks_help() {
+    case "$name: $* " in *" -h "* | *" --help "* | "tower: help "*) ;; *) return 1 ;; esac
+}
+
+# Prints a program's help on standard output, and ends with status 0. The program itself writes it to standard error, and
+# ends with 2. If it refuses the arguments, this returns.
+give_help() {
+    ended=0
+    said=$("$@" 2>&1 </dev/null) || ended=$?
+    case $ended:$said in 2:error:* | [!2]:*) return 0 ;; esac
+    printf '%s\n' "$said"
+    exit 0
+}
+
 # Runs a program in place of this script. If it reads a script from a file, this script stays, to show a malformed line.
 run_it() {
     it=$1
     shift
+    ! asks_help "$@" || give_help "$it" "$@"
     { reads_script "$@" && [ -f /dev/stdin ]; } || exec "$it" "$@"
     from=$(sed -n 's/^pos:[^0-9]*//p' /proc/self/fdinfo/0 2>/dev/null || true)
     exec 3>&1
@@ -171,6 +187,7 @@ run_older() {
 begin_unproved() {
     why=$(why_unproved)
     if is_older "$prebuilt"; then
+        ! asks_help "$@" || give_help "$prebuilt" "$@"
         refuse_arguments "$@"
         command -v rt >/dev/null || run_older "$@"
     fi
@@ -243,7 +260,7 @@ refuse_unread() {
 
 # Says how a script is read, if it is a terminal or named as an argument, and refuses one from a folder.
 look_at_input() {
-    case " $* " in *" -h "* | *" --help "*) return ;; esac
+    ! asks_help "$@" || return 0
     for word do
         [ "$1" = resume ] || [ ! -f "$word" ] || say "a script is read from standard input, as by '< $word'"
     done
