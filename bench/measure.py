@@ -9,7 +9,7 @@ import time
 
 sys.path.append(str(pathlib.Path(__file__).resolve().parent.parent / "tools"))
 from sources import CRATES, ROOT  # noqa: E402
-from wants import wants  # noqa: E402, F401 (for the benches that import this module)
+from wants import answers_help, wants  # noqa: E402, F401 (for the benches that import this module)
 
 TOWER, ARCHIVE = CRATES / "tower" / "out" / "tower", CRATES / "tower_c" / "out" / "libtower_c.a"
 # A frame is zeroed and copied without the processor's instructions for blocks, of which valgrind counts each byte.

@@ -38,9 +38,17 @@ def is_stale(path):
     return subprocess.run(asked, shell=True, cwd=ROOT, capture_output=True).returncode != 0
 
 
+def answers_help():
+    """If help is requested, prints the docstring of the script that runs, and ends it."""
+    if {"-h", "--help"} & {*sys.argv[1:]}:
+        print(sys.modules["__main__"].__doc__.strip())
+        sys.exit(0)
+
+
 def wants(bench, *needs):
-    """Ends the bench at the first need that isn't met. A need is a command on PATH, or a path, and what this repository
-    built has to be of its current sources."""
+    """Ends the bench at the first need that isn't met, or if help is requested. A need is a command on PATH, or a path,
+    and what this repository built has to be of its current sources."""
+    answers_help()
     for need in needs:
         is_path = isinstance(need, pathlib.PurePath) or "/" in need
         name = pathlib.Path(need).name
