@@ -82,6 +82,10 @@ def facts():
     yield "lines of definitions", believed, {"README.md": r"(\S+) lines of definitions"}
     functions = number("docs/TUTORIAL.md", r"functions=(\d+)")
     yield "functions of quota_tree", functions, {"docs/TUTORIAL.md": r"Each of its (\d+) functions"}
+    lines = source("quota_tree/src/lib.rt").splitlines()
+    yield "the line of with_child", 1 + next(k for k, it in enumerate(lines) if it.startswith("fn with_child(")), {
+        "docs/TUTORIAL.md": r"src/lib\.rt:(\d+):1: |sed -n '(\d+),\d+p' crates|function begins at line (\d+),",
+    }
     yield "processes", processes, {"README.md": r"up to (\d+) processes", MACHINE: r"\| Processes \| (\d+) numbers"}
     yield "CPUs", cpus, {"README.md": r"up to (\d+) CPUs", MACHINE: r"A kernel has 1 to (\d+) CPUs"}
     yield "pending offers", offers, {MACHINE: r"\| Offers \| (\d+) pending"}
