@@ -11,6 +11,9 @@
  *    pointer may be NULL. Each `bool` is 0 or 1.
  *  - memset and memmove do what the C library's do, and rattle_alloc and rattle_dealloc what
  *    tower_heap.h says. No call is made from a signal handler.
+ *  - An address or a page is passed whole, with up to 64 bits. One of more than 32 bits makes no event, and no function
+ *    finds, copies or changes anything there. The prototypes below are the archive's, which take 32 bits. At the end of
+ *    this file are functions of the same names, which programs call.
  *
  * A query takes a const handle: it leaves the core as it was. It is still a call, and comes one at a time
  * with the others. The handle itself isn't a const object: the call takes the core out of it and puts it
