@@ -1,6 +1,7 @@
 """The needs of a bench or a check. If one isn't met, it ends with one line that says so and with status 2."""
 import pathlib
 import shutil
+import signal
 import subprocess
 import sys
 
@@ -41,6 +42,7 @@ def is_stale(path):
 def answers_help():
     """If help is requested, prints the docstring of the script that runs, and ends it."""
     if {"-h", "--help"} & {*sys.argv[1:]}:
+        signal.signal(signal.SIGPIPE, signal.SIG_DFL)
         print(sys.modules["__main__"].__doc__.strip())
         sys.exit(0)
 
