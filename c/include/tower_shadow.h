@@ -39,7 +39,7 @@ struct tower_shadow {
 #define TOWER_SHADOW_NONE TOWER_NONE
 
 /* The fewest frames of a pool, which are also what a fault needs to be free: a root and three tables. An instruction that
- * touches several pages needs all of them at the same time, so give a pool 16 frames at least. */
+ * touches several pages needs all of them at the same time: give a pool 11 frames for each processor, and these four. */
 #define TOWER_SHADOW_LEAST 4
 /* The most frames of a pool. */
 #define TOWER_SHADOW_MOST 1048576
@@ -67,7 +67,7 @@ static inline const char *tower_shadow_status_name(uint32_t status) {
 
 /* Opens tables without a translation or a root, over a pool of TOWER_SHADOW_LEAST to TOWER_SHADOW_MOST frames, which the
  * library requests from rattle_alloc in one block, and writes zeros into. `pool` is the physical address of that block,
- * and `block` that of the core's frame 0. The upper half of each root will be `half`, 2,048 bytes, as it is. */
+ * and `block` that of the core's frame 0. The upper half of each root will be `half`, 2,048 bytes, which are copied. */
 TOWER_NODISCARD uint32_t tower_shadow_open(uint32_t frames, uint64_t pool, uint64_t block, const uint8_t *half,
                                            size_t half_count, struct tower_shadow *shadow);
 
@@ -98,8 +98,9 @@ static inline const char *tower_shadow_handled_name(uint32_t handled) {
  * walk does and the page is dirty: dirty of the core is set before a processor may write.
  *
  * At TOWER_SHADOW_FULL the caller has all processors leave the roots that it frees, calls tower_shadow_forget_all (or
- * tower_shadow_forget for processes of its choice), and repeats the call. At TOWER_SHADOW_STOPPED `reply` is the process's
- * fault or the core's refusal, or TOWER_NO_EVENT if pid is no process's number; otherwise it becomes TOWER_DONE. */
+ * tower_shadow_forget for processes of its choice), and repeats the call; `ended` becomes TOWER_ENDS_NOTHING, and nothing
+ * is promised of `reply`. At TOWER_SHADOW_STOPPED `reply` is the process's fault or the core's refusal, or TOWER_NO_EVENT
+ * if pid is no process's number. At TOWER_SHADOW_FILLED it becomes TOWER_DONE. */
 TOWER_NODISCARD uint32_t tower_shadow_fault(struct tower *tower, struct tower_shadow *shadow, uint32_t pid,
                                             uint64_t address, bool write, struct tower_reply *reply,
                                             struct tower_ended *ended);
