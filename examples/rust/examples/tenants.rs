@@ -102,10 +102,12 @@ impl Host {
     fn share(&self, giver: &mut Tenant, taker: &mut Tenant, write: bool) -> Result<(), Failure> {
         let mut core = self.core();
         for page in BUFFER.each() {
-            if let Err(failure) = share_page(&mut core, giver.pid, taker.pid, page, write) {
+            if let Err(failure) = share_page(&mut core, giver, taker.pid, page, write) {
                 for before in BUFFER.each().take_while(|it| *it < page) {
                     core.unmap(taker.pid, before)?.ignore(); // (no processor caches translations here)
-                    core.unmap(giver.pid, before)?.ignore();
+                    if giver.buffer.is_none() {
+                        core.unmap(giver.pid, before)?.ignore();
+                    }
                 }
                 return Err(failure);
             }
@@ -134,22 +136,29 @@ impl Host {
     }
 }
 
-/// Maps a page, offers it and accepts it, or does none of these.
+/// Maps a page unless the giver has the buffer, offers it and accepts it, or does none of these.
 fn share_page(
     core: &mut Core,
-    giver: Pid,
+    giver: &Tenant,
     taker: Pid,
     page: Page,
     write: bool,
 ) -> Result<(), Failure> {
-    core.map(giver, page, true)?;
+    let is_new = giver.buffer.is_none();
+    if is_new {
+        core.map(giver.pid, page, true)?;
+    }
     let shared = core
-        .offer(giver, page, taker, write)
-        .and_then(|()| core.accept(taker, giver, page, page));
+        .offer(giver.pid, page, taker, write)
+        .and_then(|()| core.accept(taker, giver.pid, page, page));
     match shared {
         Ok(ended) => ended.ignore(),
         Err(failure) => {
-            core.unmap(giver, page)?.ignore(); // (its offer goes with it)
+            if is_new {
+                core.unmap(giver.pid, page)?.ignore(); // (its offer goes with it)
+            } else {
+                let _ = core.withdraw(giver.pid, page, taker); // (if it was made)
+            }
             return Err(failure);
         }
     }
@@ -224,7 +233,7 @@ mod tests {
     use tower::Cause;
 
     /// A host with two tenants that share the buffer.
-    fn with_both(write: bool, test: impl FnOnce(&Host, Tenant, Tenant)) {
+    fn with_both(write: bool, test: impl for<'h> FnOnce(&'h Host, Tenant<'h>, Tenant<'h>)) {
         let host = Host::new(64).unwrap();
         let (mut first, mut second) = (host.tenant(10).unwrap(), host.tenant(8).unwrap());
         host.share(&mut first, &mut second, write).unwrap();
@@ -241,6 +250,37 @@ mod tests {
             second.write(second.buffer, 4096, b"c").unwrap();
             first.read(first.buffer, 4095, &mut got).unwrap();
             assert_eq!(&got, b"ac");
+        });
+    }
+
+    #[test]
+    fn a_buffer_is_shared_again_and_with_a_third() {
+        with_both(true, |host, mut first, mut second| {
+            let mut third = host.tenant(8).unwrap();
+            first.write(first.buffer, 0, b"kept").unwrap();
+            host.take_back(&first, &mut second).unwrap();
+            for taker in [&mut second, &mut third] {
+                let mut got = [0; 4];
+                host.share(&mut first, taker, false).unwrap();
+                taker.read(taker.buffer, 0, &mut got).unwrap();
+                assert_eq!(&got, b"kept");
+            }
+        });
+    }
+
+    #[test]
+    fn a_buffer_that_can_not_be_shared_again_stays() {
+        with_both(true, |host, mut first, second| {
+            let mut got = [0; 4];
+            first.write(first.buffer, 0, b"kept").unwrap();
+            let mut poor = host.tenant(3).unwrap(); // (room for a table and one page of two)
+            let refused = host.share(&mut first, &mut poor, true);
+            assert_eq!(refused, Err(Failure::Refused(Cause::Quota)));
+            assert_eq!(poor.usage().unwrap().used, 1);
+            second.read(second.buffer, 0, &mut got).unwrap();
+            assert_eq!(&got, b"kept");
+            first.read(first.buffer, 0, &mut got).unwrap();
+            assert_eq!(&got, b"kept");
         });
     }
 
