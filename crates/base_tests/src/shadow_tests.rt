@@ -1,4 +1,6 @@
 //! The walk of four-level tables on words that are written here, and shadow tables in pools of a few frames.
+ghost use Rattle.std.specs.Prelude.{◌<◌};
+
 use crate::comparing::same;
 use byteorder::{ByteOrder, LittleEndian};
 use page_words::{Frame, Page, Pid};
@@ -14,31 +16,43 @@ const POOL: u64 = 0x10000;
 
 const BLOCK: u64 = 0x1_0000_0000;
 
+/// Writes a word of eight bytes, where it lies inside.
+fn put(bytes: &mut [u8], place: usize, word: u64) {
+    if bytes.len() >= 8 && place <= bytes.len() - 8 {
+        LittleEndian::write_u64(&mut bytes[place..place + 8], word);
+    }
+}
+
+/// How the walk of a pool of at most 16 frames ends.
+fn walked(bytes: &[u8], root: u64, address: u64, access: Access) -> Option<End> {
+    if bytes.len() > 0x10000 {
+        return None;
+    }
+    Some(long_walk(bytes, POOL, root, address, access))
+}
+
 /// The ends of the walks of one address for a read and for a write, by the words of its four tables.
-fn ends<R: AllocGlobal + Abort>(rt: &R, words: [u64; 4]) -> [End; 2] {
+fn ends<R: AllocGlobal + Abort>(rt: &R, words: [u64; 4]) -> [Option<End>; 2] {
     let mut bytes = vec![in rt.alloc(); 0u8; 4 * 4096]
         .ok()
         .expect(rt, "four tables");
-    LittleEndian::write_u64(&mut bytes[8..16], words[0]);
-    LittleEndian::write_u64(&mut bytes[4112..4120], words[1]);
-    LittleEndian::write_u64(&mut bytes[8216..8224], words[2]);
-    LittleEndian::write_u64(&mut bytes[12320..12328], words[3]);
-    [Access::Read, Access::Write].map(|access| long_walk(
-        &bytes,
-        POOL,
-        POOL,
-        0x80_8060_4abc,
-        access,
-    ))
+    put(&mut bytes, 8, words[0]);
+    put(&mut bytes, 4112, words[1]);
+    put(&mut bytes, 8216, words[2]);
+    put(&mut bytes, 12320, words[3]);
+    [
+        walked(&bytes, POOL, 0x80_8060_4abc, Access::Read),
+        walked(&bytes, POOL, 0x80_8060_4abc, Access::Write),
+    ]
 }
 
 #[test]
 fn walks_four_levels(rt: HostRuntime) {
-    let found = Ok(0x777abc);
-    let denied = Err(LongEnd::Denied);
-    let missing = Err(LongEnd::Missing);
-    let unmarked = Err(LongEnd::Unmarked);
-    let foreign = Err(LongEnd::Foreign);
+    let found = Some(Ok(0x777abc));
+    let denied = Some(Err(LongEnd::Denied));
+    let missing = Some(Err(LongEnd::Missing));
+    let unmarked = Some(Err(LongEnd::Unmarked));
+    let foreign = Some(Err(LongEnd::Foreign));
     same(
         &rt,
         &ends(&rt, [0x11027, 0x12027, 0x13027, 0x777067]),
@@ -92,24 +106,31 @@ fn walks_four_levels(rt: HostRuntime) {
 }
 
 /// Shadow tables over that many frames.
-fn shadow_of(rt: &impl Abort, alloc: Global, frames: u32) -> Result<ShadowTables, Fail>
+fn shadow_of(alloc: Global, frames: u32) -> Result<ShadowTables, Fail>
     requires { frames < 16 }
 {
     let bytes = vec![in alloc; 7u8; 4096 * frames as usize]?;
     let kernel = vec![in alloc; 9u8; 2048]?;
-    same(rt, &bytes.len(), &(4096 * frames as usize));
-    same(rt, &kernel.len(), &2048);
+    if bytes.len() != 4096 * frames as usize || kernel.len() != 2048 {
+        return Err("a vector has another length".into());
+    }
     Ok(ShadowTables::new(alloc, bytes, frames, POOL, BLOCK, kernel)?)
 }
 
 /// How the walk of an address ends.
 fn end_at(shadow: &ShadowTables, pid: Pid, address: u64, access: Access) -> Option<End> {
-    Some(long_walk(shadow.bytes(), POOL, shadow.root(pid)?, address, access))
+    walked(shadow.bytes(), shadow.root(pid)?, address, access)
+}
+
+/// The last byte of a process's root.
+fn last_of_root(shadow: &ShadowTables, pid: Pid) -> Option<u8> {
+    let place = shadow.root(pid)?.checked_sub(POOL)?.checked_add(4095)?;
+    shadow.bytes().get(place as usize).copied()
 }
 
 #[test]
 fn fills_and_forgets(rt: HostRuntime) -> Result<(), Fail> {
-    let mut shadow = shadow_of(&rt, rt.alloc(), 4)?;
+    let mut shadow = shadow_of(rt.alloc(), 4)?;
     let pid = Pid::new(5).ok_or("a process")?;
     let other = Pid::new(63).ok_or("a process")?;
     same(&rt, &end_at(&shadow, pid, 0x40123abc, Access::Read), &None);
@@ -163,7 +184,7 @@ fn fills_and_forgets(rt: HostRuntime) -> Result<(), Fail> {
 
 #[test]
 fn uses_its_frames_again(rt: HostRuntime) -> Result<(), Fail> {
-    let mut shadow = shadow_of(&rt, rt.alloc(), 5)?;
+    let mut shadow = shadow_of(rt.alloc(), 5)?;
     let pid = Pid::new(0).ok_or("a process")?;
     same(
         &rt,
@@ -205,11 +226,6 @@ fn uses_its_frames_again(rt: HostRuntime) -> Result<(), Fail> {
         &end_at(&shadow, pid, 0xc0000000, Access::Read),
         &Some(Err(LongEnd::Missing)),
     );
-    let place = shadow.root(pid).map(|root| (root - POOL) as usize + 4095);
-    same(
-        &rt,
-        &place.and_then(|place| shadow.bytes().get(place).copied()),
-        &Some(9),
-    );
+    same(&rt, &last_of_root(&shadow, pid), &Some(9));
     Ok(())
 }
