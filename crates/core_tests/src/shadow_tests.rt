@@ -20,7 +20,11 @@ fn event_of(pid: Pid, call: Call) -> Event {
 fn byte_at(shadowed: &ShadowedCore, pid: Pid, address: u64, access: Access) -> Result<u8, LongEnd> {
     let shadow = shadowed.shadow();
     let root = shadow.root(pid).ok_or(LongEnd::Foreign)?;
-    let physical = long_walk(shadow.bytes(), POOL, root, address, access)?;
+    let bytes = shadow.bytes();
+    if bytes.len() > 0x10000 {
+        return Err(LongEnd::Foreign);
+    }
+    let physical = long_walk(bytes, POOL, root, address, access)?;
     let place = physical.checked_sub(BLOCK).ok_or(LongEnd::Foreign)?;
     shadowed
         .core()
