@@ -77,16 +77,6 @@ def with_code(text):
     return PIECE.sub(lambda it: f"{it[1]}```{it[4]}\n{piece(it[2], it[3])}```" if it[1] else it[0], text)
 
 
-def layers():
-    """The crates by the longest chain of crates below each, the highest first."""
-    height = {}
-    for crate, used in crates().items():
-        height[crate] = 1 + max((height[it] for it in used), default=-1)
-    for level in range(max(height.values()), -1, -1):
-        row = ", ".join(it for it in height if height[it] == level and not it.endswith(NO_LAYER))
-        yield from [row] if row else []
-
-
 def arrows():
     """The crates' graph as Mermaid text: an arrow to each crate used, unless another arrow leads there already."""
     below = {}
@@ -103,7 +93,6 @@ def drawn(kind, lines):
 
 BLOCKS = {
     "believed": lambda: "\n" + "\n".join(believed.table()) + "\n",
-    "layers": lambda: drawn("", layers()),
     "arrows": lambda: drawn("mermaid", arrows()),
 }
 
