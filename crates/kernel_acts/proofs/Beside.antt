@@ -4,10 +4,11 @@ use Prelude.{◌≡◌, ◌<◌, ◌≤◌, ◌+◌, ◌*◌, ◌^◌, ℕ, [], 
 use Prelude.{refl, sym, ap, subst, ◌∙◌, is_some, Option, Some, None, unwrap_or, Ok, ◌↔◌, IsTrue, MatchBool, ◌⊎◌}
 use Prelude.{option_map, option_and_then, cases_lt, page_number, start_number, IsUserPage, frame_bytes, frame_past}
 use Prelude.{walk_of, Read, frame_number, is_lazy, is_lazy_at, directory_at, page_word, page_frame, CellStands}
-use Prelude.{own_frame, Slot, slot_order, Cell, cell_or_fresh, is_slot, at_page, slot_at, way_of, WaysAgree, WalksAgree}
-use Prelude.{WalkEndsBy, way_parts, from_map, owned, own_is, StandsFor, image_of, memory_of, State, is_mapped, View}
+use Prelude.{own_frame, Slot, slot_order, Cell, cell_or_fresh, is_slot, at_page, slot_at, way_of, IsCore}
+use Prelude.{WalkEndsBy, way_parts, from_map, owned, own_is, memory_of, State, is_mapped, View}
 use Prelude.{IsWellFormed, same_itself, shares, is_beside, eqb-true, eq-eqb}
 use Rattle.table_walk.specs.declared.WalkEnd.{WalkEnd}
+use Rattle.kernel_calls.proofs.CoreMemory.{walks_of, ways_of}
 use Rattle.kernel_calls.proofs.Translated.{way_mapped}
 use Rattle.page_words.specs.FiniteMap as map
 use Rattle.page_words.specs.FiniteSet as set
@@ -23,8 +24,7 @@ shares_there s slot other w h = by (map.get s.spaces slot) refl h
 pub beside_there : (s : State) (slot other : Slot) → IsWellFormed s → is_mapped s other ≡ false → is_beside s slot other ≡ false
 beside_there s slot other w none = grind (arith, shares_there)
 
-module _ (v : View) (stands : StandsFor (image_of v) v.state) (walks : WalksAgree (memory_of v) v.state.spaces)
-    (ways : WaysAgree (memory_of v)) where
+module _ (v : View) (core : IsCore v) where
   -- the word and the cell of a slot with a way
   pub record Led (slot : Slot) (frame : ℕ) : Type 0 where
     pub word : ℕ
@@ -38,11 +38,11 @@ module _ (v : View) (stands : StandsFor (image_of v) v.state) (walks : WalksAgre
   pub led : (slot : Slot) (d f : ℕ) → way_of (memory_of v) slot ≡ Some (d, f) → Led slot f
   led slot d f way =
       let a = from_map frame_number (page_word (memory_of v) slot) f (way_parts (memory_of v) slot d f way).names in
-      let c = way_mapped v stands walks ways slot d f way in record {
+      let c = way_mapped v core slot d f way in record {
         word = a.0;
         there = a.1;
         names = a.2;
-        lazy = sym (ap (λ (x : Option ℕ). unwrap_or (option_map is_lazy x) false) a.1) ∙ ways.lazy slot d f way;
+        lazy = sym (ap (λ (x : Option ℕ). unwrap_or (option_map is_lazy x) false) a.1) ∙ (ways_of core).lazy slot d f way;
         cell = c.0;
         mapped = c.1;
         agrees = grind arith;
@@ -99,7 +99,7 @@ module _ (v : View) (stands : StandsFor (image_of v) v.state) (walks : WalksAgre
       let below = user.1 in
       let small : a < 2 ^ 32 = omega (arith, is, below) in
       let same : page_number a ≡ page = omega (arith, is) in
-      sym (ap (λ n. way_of (memory_of v) (at_page p n)) same) ∙ ways.lead p d a f Read live small walk
+      sym (ap (λ n. way_of (memory_of v) (at_page p n)) same) ∙ (ways_of core).lead p d a f Read live small walk
 
   -- the page is mapped then, and the frame lies in memory and has its bytes
   pub record Leads (p page f : ℕ) : Type 0 where
@@ -107,22 +107,22 @@ module _ (v : View) (stands : StandsFor (image_of v) v.state) (walks : WalksAgre
     pub inside : 4096 * f + 4096 ≤ length v.bytes
     pub bytes : frame_bytes v.bytes f ≡ (cell_or_fresh v.state.spaces (at_page p page)).bytes
 
-  pub page_leads : IsWellFormed v.state → (p page d f a : ℕ) → IsUserPage page → a ≡ start_number page → directory_at (memory_of v) p ≡ Some d
+  pub page_leads : (p page d f a : ℕ) → IsUserPage page → a ≡ start_number page → directory_at (memory_of v) p ≡ Some d
       → walk_of v.bytes d a Read ≡ Ok f → Leads p page f
-  page_leads w p page d f a user is live walk =
+  page_leads p page d f a user is live walk =
       let below = user.1 in
       let small : a < 2 ^ 32 = omega (arith, is, below) in
-      by (map.get v.state.spaces (slot_at p a)) (ap (λ n. map.get v.state.spaces (at_page p n)) same) (walks p d a Read live small)
+      by (map.get v.state.spaces (slot_at p a)) (ap (λ n. map.get v.state.spaces (at_page p n)) same) (walks_of core p d a Read live small)
     where
       same : page_number a ≡ page
       same = omega (arith, is)
 
       held : (c : Cell) → map.get v.state.spaces (at_page p page) ≡ Some c → frame_bytes v.bytes f ≡ c.bytes → (f < length v.roles) ⊎ (length v.roles ≤ f) → 4096 * f + 4096 ≤ length v.bytes
-      held c at bytes (inl l) = let size = stands.sound.memory.size in omega (arith, l, size)
+      held c at bytes (inl l) = let size = core.image.sound.memory.size in omega (arith, l, size)
       held c at bytes (inr past) = absurd (
-          let size = stands.sound.memory.size in
+          let size = core.image.sound.memory.size in
           let none : frame_bytes v.bytes f ≡ [] = frame_past v.bytes f (omega (arith, size, past)) in
-          let long = (w.cells (at_page p page) c at).long in
+          let long = (core.well_formed.cells (at_page p page) c at).long in
           let zero : ◌≡◌ {A = ℕ} 0 (length c.bytes) = ap length (sym none ∙ bytes) in
           omega (arith, long, zero))
 
@@ -136,7 +136,7 @@ module _ (v : View) (stands : StandsFor (image_of v) v.state) (walks : WalksAgre
       let below = user.1 in
       let small : a < 2 ^ 32 = omega (arith, is, below) in
       let same : page_number a ≡ page = omega (arith, is) in
-      sym (ap (λ n. is_mapped v.state (at_page p n)) same) ∙ by (map.get v.state.spaces (slot_at p a)) (walks p d a Read live small)
+      sym (ap (λ n. is_mapped v.state (at_page p n)) same) ∙ by (map.get v.state.spaces (slot_at p a)) (walks_of core p d a Read live small)
     where
       by : (x : Option Cell) → WalkEndsBy v.bytes d a Read (is_lazy_at (memory_of v) (slot_at p a)) x → is_some x ≡ false
       by x h = grind arith

@@ -2,8 +2,8 @@
 use Rattle.kernel_acts.proofs.Prelude
 use Prelude.{◌≡◌, ℕ, ◌+◌, ◌≤◌, ◌<◌, ◌==◌, ◌&&◌, Bool, false, not, refl, sym, ap, subst, ◌∙◌, Some, inl, inr, arith, ◌⊎◌}
 use Prelude.{◌↔◌, IsTrue, slice_get, cases_lt, eqb-true, eq-eqb, same_Some, slot_number, Role, Reserved, Free}
-use Prelude.{Directory, Table, Page, directory_at, table_at, page_frame, is_lazy_at, Slot, at_page, way_of, WaysAgree}
-use Prelude.{WalksAgree, owned, own_is, StandsFor, image_of, memory_of, is_mapped, View, both_true, IsCore, Event}
+use Prelude.{Directory, Table, Page, directory_at, table_at, page_frame, is_lazy_at, Slot, at_page, way_of}
+use Prelude.{owned, own_is, memory_of, is_mapped, View, both_true, IsCore, Event}
 use Rattle.kernel_calls.specs.Written.{TakesLazy, MayWrite}
 use Rattle.kernel_acts.proofs.Beside.{led}
 use Rattle.kernel_calls.proofs.Writings.{unmapped_slot}
@@ -55,10 +55,9 @@ pub no_frame_bare : (v : View) → IsCore v → (p page f : ℕ) → is_mapped v
 no_frame_bare v core p page f none is = grind (arith, unmapped_slot)
 
 -- a page that leads to a frame has that frame, unless it is frame 0
-pub on_frame : (v : View) → StandsFor (image_of v) v.state → WalksAgree (memory_of v) v.state.spaces → WaysAgree (memory_of v)
-    → (slot : Slot) (d g f : ℕ) → way_of (memory_of v) slot ≡ Some (d, g)
+pub on_frame : (v : View) → IsCore v → (slot : Slot) (d g f : ℕ) → way_of (memory_of v) slot ≡ Some (d, g)
     → IsTrue (not (g == 0) && (g == f)) ↔ (page_frame (memory_of v) slot ≡ Some f)
-on_frame v stands walks ways slot d g f way = grind (arith, led, both_true, own_is, eqb-true, owned, eq-eqb)
+on_frame v core slot d g f way = grind (arith, led, both_true, own_is, eqb-true, owned, eq-eqb)
 
 -- ---- The search
 

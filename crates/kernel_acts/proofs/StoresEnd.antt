@@ -8,6 +8,7 @@ use Prelude.{StandsFor, image_of, memory_of, View, get-inserted_other, EndsMarks
 use Prelude.{Ended, and-false}
 use Rattle.kernel_calls.proofs.Flags.{has}
 use Rattle.kernel_calls.specs.Processors.{IsCore}
+use Rattle.kernel_calls.proofs.CoreMemory.{ways_of}
 use Rattle.kernel_calls.proofs.Linked.{mapped_way, tables_map}
 use Rattle.kernel_calls.proofs.Translated.{walk_takes, walk_finds, has_right}
 use Rattle.kernel_acts.proofs.Unmaps.{slot_test}
@@ -71,12 +72,12 @@ page_ends gone v w p page now later stay own some_way same = record {
       let live = gives.0 in
       let walk = gives.1 in
       let slot = slot_at q a in
-      let way = now.ways.lead q d a f access live small walk in
+      let way = (ways_of now).lead q d a f access live small walk in
       let way' = stay.ways slot d f (own slot f spared) way in (
         stay.directories q d (record { page = slot.page; frame = f; stays = own slot f spared }) live,
-        walk_finds w later.image later.walks later.ways q d a f access small way' (λ is.
-            let right = has_right v now.image now.walks now.ways slot (walk_takes v now.image now.walks now.ways q d a f live small (ap (walk_of v.bytes d a) (sym is) ∙ walk)) in
-            (write_kept (map.get v.state.spaces slot) (map.get w.state.spaces slot) (same slot spared) right.0, later.ways.lazy slot d f way' ∙ sym (now.ways.lazy slot d f way) ∙ right.1)),
+        walk_finds w later q d a f access small way' (λ is.
+            let right = has_right v now slot (walk_takes v now q d a f live small (ap (walk_of v.bytes d a) (sym is) ∙ walk)) in
+            (write_kept (map.get v.state.spaces slot) (map.get w.state.spaces slot) (same slot spared) right.0, (ways_of later).lazy slot d f way' ∙ sym ((ways_of now).lazy slot d f way) ∙ right.1)),
       );
   slots = λ slot spared there. mapped_kept (map.get v.state.spaces slot) (map.get w.state.spaces slot) (same slot spared) there;
   flags = grind (arith, same_Some);

@@ -31,6 +31,7 @@ use Rattle.fault_handler.specs.declared.plans.PageStep.TheVariants as step
 use Rattle.kernel_calls.proofs.Decided.{next-goes, next-stays}
 use Rattle.kernel_calls.proofs.Leaving.{event_ends}
 use Rattle.kernel_calls.specs.Processors.{IsCore}
+use Rattle.kernel_calls.proofs.CoreMemory.{walks_of, ways_of}
 use Rattle.kernel_calls.proofs.Linked.{mapped_way}
 use Rattle.kernel_calls.proofs.Runs.{went-on}
 use Rattle.kernel_calls.proofs.Translated.{walk_finds, has_right}
@@ -53,7 +54,7 @@ finds_here : (v : View) → IsCore v → (p a : ℕ) (access : Access) → IsUse
 finds_here v now p a access user there right =
     let way = mapped_way v now.image (slot_at p a) there in
     let small : a < 2 ^ 32 = omega (arith, user.1) in
-    let walk = walk_finds v now.image now.walks now.ways p way.0 a way.1 access small way.2 (λ is. has_right v now.image now.walks now.ways (slot_at p a) (right (ap is_write is))) in
+    let walk = walk_finds v now p way.0 a way.1 access small way.2 (λ is. has_right v now (slot_at p a) (right (ap is_write is))) in
     let live = (way_parts (memory_of v) (slot_at p a) way.0 way.1 way.2).live in
     ap (λ o. nat_lt a 0x100000000 && unwrap_or (option_map (λ d. is_ok (walk_of v.bytes d a access)) o) false) live
     ∙ ap (λ r. nat_lt a 0x100000000 && is_ok r) walk ∙ low a small
@@ -157,8 +158,8 @@ read_touches v w p a told ended now later reply ended_is state ends kept = recor
 -- ---- A write
 
 -- where a store completed, the page takes stores
-takes_here : (s : State) (v : View) (p a b : ℕ) → FirstStored s v.state p a b → StandsFor (image_of v) v.state → WaysAgree (memory_of v) → takes_stores v.state.spaces (memory_of v) (slot_at p a) ≡ true
-takes_here s v p a b f stands ways = grind arith
+takes_here : (s : State) (v : View) (p a b : ℕ) → FirstStored s v.state p a b → IsCore v → takes_stores v.state.spaces (memory_of v) (slot_at p a) ≡ true
+takes_here s v p a b f core = let stands = core.image in let ways = ways_of core in grind arith
 
 -- the state after the store of a byte
 stored_state : (s : State) (p a b : ℕ) → completes (answer s (store_byte p a b)) ≡ true
@@ -176,7 +177,7 @@ wrote : (v w : View) (p a b : ℕ) → IsCore v → IsCore w → completes (answ
     → b % 256 ≡ byte_at v.state.spaces p a → Wrote v w p a
 wrote v w p a b now later done state same =
     let f = first_stored v.state w.state p a b done state in
-    let taken = takes_here v.state w p a b f later.image later.ways in
+    let taken = takes_here v.state w p a b f later in
     let s = v.state in
     let W = with_pages s.spaces p (touched a One) in
     let slot = slot_at p a in
@@ -274,10 +275,10 @@ lazy_zero v now zero_frame p a user there lazy =
     let small : a < 2 ^ 32 = omega (arith, user.1) in
     let live = (way_parts (memory_of v) slot d f way.2).live in
     let c = some_value (map.get v.state.spaces slot) there in
-    let none : (f == 0) ≡ true = sym (now.ways.lazy slot d f way.2) ∙ lazy in
+    let none : (f == 0) ≡ true = sym ((ways_of now).lazy slot d f way.2) ∙ lazy in
     let ends : WalkEndsBy v.bytes d a Read (is_lazy_at (memory_of v) slot) (Some c.0) =
-    subst (λ (x : Option Cell). WalkEndsBy v.bytes d a Read (is_lazy_at (memory_of v) slot) x) c.1 (now.walks p d a Read live small) in
-    let same : ◌≡◌ {A = Option (ℕ × ℕ)} (Some (d, ends.frame)) (Some (d, f)) = sym (now.ways.lead p d a ends.frame Read live small ends.found) ∙ way.2 in
+    subst (λ (x : Option Cell). WalkEndsBy v.bytes d a Read (is_lazy_at (memory_of v) slot) x) c.1 (walks_of now p d a Read live small) in
+    let same : ◌≡◌ {A = Option (ℕ × ℕ)} (Some (d, ends.frame)) (Some (d, f)) = sym ((ways_of now).lead p d a ends.frame Read live small ends.found) ∙ way.2 in
     let frame : ◌≡◌ {A = Option ℕ} (Some ends.frame) (Some f) = ap (option_map (λ (q : ℕ × ℕ). q.1)) same in
     let at_zero : ends.frame ≡ 0 = zero_of ends.frame f frame none in
     ap (λ (x : Option Cell). (unwrap_or x (fresh slot true)).bytes) c.1 ∙ sym ends.same ∙ ap (frame_bytes v.bytes) at_zero ∙ zero_frame

@@ -5,14 +5,15 @@ use Prelude.{length, drop, length-drop, ◌-◌, refl, ap, sym, subst, ◌∙◌
 use Prelude.{get_or-drop, if◌then◌else◌, slice_index, range_with_len, page_number, offset_number, second_page, page_and}
 use Prelude.{touched, IsUserPage, same, first_by_page, page_stays, same_or_not, same-true, get-insert, Read, Write}
 use Prelude.{Slot, Cell, Spaces, at_page, slot_at, cell_or_fresh, fresh, byte_at, accessed, stored, with_pages}
-use Prelude.{all_accessed, takes_stores, WaysAgree, of_lazy, insert_there, kept, key-stored, need-in_one, IsThere}
-use Prelude.{touched-there, load_in_page, extra_touched, State, is_live, is_mapped, overdrawn, View, StandsFor}
-use Prelude.{image_of, memory_of, after_loads, after_stores, get-inserted, outside, plan_of, step_of, Goes, ready}
+use Prelude.{all_accessed, takes_stores, of_lazy, insert_there, kept, key-stored, need-in_one, IsThere}
+use Prelude.{touched-there, load_in_page, extra_touched, State, is_live, is_mapped, overdrawn, View, IsCore}
+use Prelude.{memory_of, after_loads, after_stores, get-inserted, outside, plan_of, step_of, Goes, ready}
 use Prelude.{all_user, same_cells, mapped_right, page_is_user, answer, answer_of, next, completes, planned_or, gone_by}
 use Prelude.{load_byte, store_byte, of_lazy_pages, AreLoaded, AreStored, Event}
 use Rattle.std.proofs.Common.{map as each}
 use Rattle.page_words.specs.declared.addresses.Size.TheVariants.{One}
 use Rattle.address_space.proofs.steps.Bytes.{stored-stored, stored-flags, stored-write}
+use Rattle.kernel_calls.proofs.CoreMemory.{ways_of}
 use Rattle.kernel_calls.proofs.Decided.{next-goes}
 use Rattle.kernel_calls.proofs.Runs.{went-on}
 use Rattle.kernel_acts.proofs.TransferLemmas.{loaded-none, loaded-first, stored-none, stored-first}
@@ -282,8 +283,8 @@ pub record RestTaken (v : View) (p a : ℕ) : Type 0 where
   pub user : IsUserPage (page_number a)
   pub taken : takes_stores v.state.spaces (memory_of v) (slot_at p a) ≡ true
 
-pub rest_taken : (s : State) (v : View) (p a b : ℕ) → FirstStored s v.state p a b → StandsFor (image_of v) v.state → WaysAgree (memory_of v) → offset_number a + 1 < 4096 → RestTaken v p (a + 1)
-rest_taken s v p a b f stands ways fits = grind (arith, page_stays)
+pub rest_taken : (s : State) (v : View) (p a b : ℕ) → FirstStored s v.state p a b → IsCore v → offset_number a + 1 < 4096 → RestTaken v p (a + 1)
+rest_taken s v p a b f core fits = let stands = core.image in let ways = ways_of core in grind (arith, page_stays)
 
 small_rest : (part : List ℕ) → AreSmall part → AreSmall (drop 1 part)
 small_rest part small i = let e = get_or-drop 1 part i 0 in let h = small (1 + i) in omega (arith, e, h)

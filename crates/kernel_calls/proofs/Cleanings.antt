@@ -5,6 +5,7 @@ use Prelude.{same_itself, same_cases, same_Some, walk_of, FramesStay, none_goes,
 use Prelude.{Cell, fresh, cell_or_fresh, is_slot, at_page, slot_at, State, is_mapped, View, get-inserted}
 use Prelude.{get-inserted_other, cleaned, EndsMarks, IsCore}
 use Rattle.kernel_calls.specs.Cleaned.{EventsEndMarks}
+use Rattle.kernel_calls.proofs.CoreMemory.{ways_of}
 use Rattle.kernel_calls.proofs.Flags.{has}
 use Rattle.kernel_calls.proofs.Linked.{mapped_way, tables_map}
 use Rattle.kernel_calls.proofs.Translated.{walk_takes, walk_finds, has_right}
@@ -36,12 +37,12 @@ cleaning_ends v w p page now later mapped state stay = record {
       let live = gives.0 in
       let walk = gives.1 in
       let slot = slot_at q a in
-      let way = now.ways.lead q d a f access live small walk in
+      let way = (ways_of now).lead q d a f access live small walk in
       let way' = stay.ways slot d f refl way in (
         stay.directories q d (record { page = slot.page; frame = f; stays = refl }) live,
-        walk_finds w later.image later.walks later.ways q d a f access small way' (λ is.
-            let right = has_right v now.image now.walks now.ways slot (walk_takes v now.image now.walks now.ways q d a f live small (ap (walk_of v.bytes d a) (sym is) ∙ walk)) in
-            (sym (writes slot) ∙ right.0, later.ways.lazy slot d f way' ∙ sym (now.ways.lazy slot d f way) ∙ right.1)),
+        walk_finds w later q d a f access small way' (λ is.
+            let right = has_right v now slot (walk_takes v now q d a f live small (ap (walk_of v.bytes d a) (sym is) ∙ walk)) in
+            (sym (writes slot) ∙ right.0, (ways_of later).lazy slot d f way' ∙ sym ((ways_of now).lazy slot d f way) ∙ right.1)),
       );
   slots = grind (arith, there, kept);
   flags = grind (arith, get-inserted_other, apart, same_Some);

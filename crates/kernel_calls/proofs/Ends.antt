@@ -6,10 +6,11 @@ use Prelude.{option_map, page_number, offset_number, second_page, byte_count, to
 use Prelude.{same-true, same_itself, get-map_values, contains-insert, Access, Read, Write, walk_of, directory_at}
 use Prelude.{is_lazy_at, takes_stores, Slot, slot_order, Cell, Spaces, at_page, slot_at, is_slot, cell_or_fresh, fresh}
 use Prelude.{with_pages, with_holders, set_bytes, set_holders, write_at, stored, all_stored, bytes_of, joined, without}
-use Prelude.{way_of, WaysAgree, WalksAgree, length-bytes_of, StandsFor, image_of, memory_of, offered, is_mapped, View}
-use Prelude.{IsWellFormed, get-inserted, get-inserted_other, without-was, may_accept, giver_mapped, goes_on, plan_at}
+use Prelude.{way_of, length-bytes_of, memory_of, offered, is_mapped, View}
+use Prelude.{IsCore, get-inserted, get-inserted_other, without-was, may_accept, giver_mapped, goes_on, plan_at}
 use Prelude.{step_at, ready, plan_of_call, answer, answer_of, after, next, completes, is_ended, page_filled}
 use Prelude.{second_filled, of_pages, of_plan, of_call, ended_by, EndsNoMore, Call, Event}
+use Rattle.kernel_calls.proofs.CoreMemory.{ways_of}
 use Rattle.kernel_calls.proofs.Decided.{goes-event, next-goes}
 use Rattle.kernel_calls.proofs.Flags.{has, dirty_is_flag, keeps_all_stored}
 use Rattle.kernel_calls.proofs.Translated.{way_mapped, walk_takes, walk_finds, has_right}
@@ -76,8 +77,7 @@ module _ (S : Spaces) (p address : ℕ) (size : Size) (value : ℕ) where
 
 -- ---- What isn't lazy afterwards
 
-module _ (w : View) (stands : StandsFor (image_of w) w.state) (walks : WalksAgree (memory_of w) w.state.spaces)
-    (ways : WaysAgree (memory_of w)) where
+module _ (w : View) (core : IsCore w) where
   -- a dirty slot
   dirty_real : (slot : Slot) → has dirty (map.get w.state.spaces slot) ≡ true → is_lazy_at (memory_of w) slot ≡ false
   dirty_real slot h = grind (arith, has)
@@ -85,13 +85,13 @@ module _ (w : View) (stands : StandsFor (image_of w) w.state) (walks : WalksAgre
   -- a walk to frame 0 is of a lazy slot
   walk_lazy : (p d a f : ℕ) → directory_at (memory_of w) p ≡ Some d → a < 2 ^ 32 → walk_of w.bytes d a Read ≡ Ok f
       → (f == 0) ≡ true → is_lazy_at (memory_of w) (slot_at p a) ≡ true
-  walk_lazy p d a f live small walk none = ways.lazy (slot_at p a) d f (ways.lead p d a f Read live small walk) ∙ none
+  walk_lazy p d a f live small walk none = (ways_of core).lazy (slot_at p a) d f ((ways_of core).lead p d a f Read live small walk) ∙ none
 
   -- a walk is of a mapped slot
   walk_mapped : (p d a f : ℕ) → directory_at (memory_of w) p ≡ Some d → a < 2 ^ 32 → walk_of w.bytes d a Read ≡ Ok f
       → is_some (map.get w.state.spaces (slot_at p a)) ≡ true
   walk_mapped p d a f live small walk = ap is_some
-      (way_mapped w stands walks ways (slot_at p a) d f (ways.lead p d a f Read live small walk)).1
+      (way_mapped w core (slot_at p a) d f ((ways_of core).lead p d a f Read live small walk)).1
 
 -- ---- By the event
 
@@ -126,10 +126,7 @@ giver_joined S giver slot right c there own differ =
       contains-insert group slot slot ∙ ap (λ b. b || set.contains group slot) (same_itself slot_order slot),
     )
 
-module _ (v w : View) (stands : StandsFor (image_of v) v.state) (walks : WalksAgree (memory_of v) v.state.spaces)
-    (ways : WaysAgree (memory_of v)) (well : IsWellFormed v.state)
-    (stands' : StandsFor (image_of w) w.state) (walks' : WalksAgree (memory_of w) w.state.spaces)
-    (ways' : WaysAgree (memory_of w)) (p d a f : ℕ) (live : directory_at (memory_of v) p ≡ Some d)
+module _ (v w : View) (now : IsCore v) (later : IsCore w) (p d a f : ℕ) (live : directory_at (memory_of v) p ≡ Some d)
     (small : a < 2 ^ 32) (walk : walk_of v.bytes d a Read ≡ Ok f) where
   abbrev pub slot : Slot
   slot = slot_at p a
@@ -140,7 +137,7 @@ module _ (v w : View) (stands : StandsFor (image_of v) v.state) (walks : WalksAg
       × ((d' : ℕ) → directory_at (memory_of w) p ≡ Some d' → walk_of w.bytes d' a access ≢ Ok f)
 
   way : way_of (memory_of v) slot ≡ Some (d, f)
-  way = ways.lead p d a f Read live small walk
+  way = (ways_of now).lead p d a f Read live small walk
 
   -- where the slot is mapped no more
   lost_gone : is_some (map.get w.state.spaces slot) ≡ false → Lost
@@ -148,7 +145,7 @@ module _ (v w : View) (stands : StandsFor (image_of v) v.state) (walks : WalksAg
     Read,
     walk,
     λ d' live' found. let k : false ≡ true = sym gone
-        ∙ walk_mapped w stands' walks' ways' p d' a f live' small found in cc,
+        ∙ walk_mapped w later p d' a f live' small found in cc,
   )
 
   -- where it was lazy, and isn't
@@ -157,8 +154,8 @@ module _ (v w : View) (stands : StandsFor (image_of v) v.state) (walks : WalksAg
     Read,
     walk,
     λ d' live' found.
-        let none : (f == 0) ≡ true = sym (ways.lazy slot d f way) ∙ lazy in
-        let k : false ≡ true = sym real ∙ walk_lazy w stands' walks' ways' p d' a f live' small found none in
+        let none : (f == 0) ≡ true = sym ((ways_of now).lazy slot d f way) ∙ lazy in
+        let k : false ≡ true = sym real ∙ walk_lazy w later p d' a f live' small found none in
         cc,
   )
 
@@ -167,11 +164,11 @@ module _ (v w : View) (stands : StandsFor (image_of v) v.state) (walks : WalksAg
       → has (λ c. c.write) (map.get w.state.spaces slot) ≡ false → Lost
   lost_right takes none = (
     Write,
-    walk_finds v stands walks ways p d a f Write small way
-        (λ _. has_right v stands walks ways slot takes),
+    walk_finds v now p d a f Write small way
+        (λ _. has_right v now slot takes),
     λ d' live' found.
-        let k : false ≡ true = sym none ∙ (has_right w stands' walks' ways' slot
-        (walk_takes w stands' walks' ways' p d' a f live' small found)).0 in
+        let k : false ≡ true = sym none ∙ (has_right w later slot
+        (walk_takes w later p d' a f live' small found)).0 in
         cc,
   )
 
@@ -207,7 +204,7 @@ module _ (v w : View) (stands : StandsFor (image_of v) v.state) (walks : WalksAg
       elim pages [
         | inl first ↦
             let there = filled q (page_number addr) first in
-            lost_filled there.1 (dirty_real w stands' walks' ways' slot
+            lost_filled there.1 (dirty_real w later slot
             (grind (arith, dirty_first)))
         | inr second ↦ by (second_page addr size) refl second
       ]
@@ -220,7 +217,7 @@ module _ (v w : View) (stands : StandsFor (image_of v) v.state) (walks : WalksAg
       by None none k = cc
       by (Some page) is k =
           let there = filled q page k in
-          lost_filled there.1 (dirty_real w stands' walks' ways' slot
+          lost_filled there.1 (dirty_real w later slot
           (grind (arith, dirty_second)))
   lost_call q (call.Unmap page) done goes state h = grind (arith, lost_gone, without_gone)
   lost_call q (call.Protect page write) done goes state h = by write _ refl refl h
@@ -241,11 +238,11 @@ module _ (v w : View) (stands : StandsFor (image_of v) v.state) (walks : WalksAg
       by true lazy k =
           let here = same-true slot_order (at_page giver giver_page) slot k in
           let may = may_accept v.state q giver giver_page page (not-refused _ _ done) in
-          let g = giver_mapped v.state q giver giver_page well may.there in
+          let g = giver_mapped v.state q giver giver_page now.well_formed may.there in
           let differ : at_page giver giver_page ≢ at_page q page =
           (λ e. let n : Some g.0 ≡ None = sym g.1 ∙ ap (map.get v.state.spaces) e ∙ may.none in cc) in
           let j = giver_joined v.state.spaces (at_page giver giver_page) (at_page q page)
-          (offered v.state giver giver_page q) g.0 g.1 (well.cells (at_page giver giver_page) g.0 g.1).own differ in
+          (offered v.state giver giver_page q) g.0 g.1 (now.well_formed.cells (at_page giver giver_page) g.0 g.1).own differ in
           lost_filled (sym (ap (is_lazy_at (memory_of v)) here) ∙ lazy)
           (grind arith)
   lost_call q _ done goes state h = grind (arith, lost_gone, without_gone)
@@ -263,10 +260,8 @@ module _ (v w : View) (stands : StandsFor (image_of v) v.state) (walks : WalksAg
           ∙ sym (grind arith) ∙ goes-event v e ∙ is)
           (state ∙ next-goes v.state e is) k
 
-pub ends_no_more : (v w : View) (e : Event) → StandsFor (image_of v) v.state → WalksAgree (memory_of v) v.state.spaces
-    → WaysAgree (memory_of v) → IsWellFormed v.state
-    → StandsFor (image_of w) w.state → WalksAgree (memory_of w) w.state.spaces → WaysAgree (memory_of w)
-    → w.state ≡ next v.state e → EndsNoMore (ended_by v e) (memory_of v) (memory_of w)
-ends_no_more v w e stands walks ways well stands' walks' ways' state p d a f small ended gives =
-    let gone = lost v w stands walks ways well stands' walks' ways' p d a f gives.0 small gives.1 e state ended in
-    (gone.0, (gives.0, gone.1), λ d later. gone.2 d later.0 later.1)
+pub ends_no_more : (v w : View) (e : Event) → IsCore v → IsCore w → w.state ≡ next v.state e
+    → EndsNoMore (ended_by v e) (memory_of v) (memory_of w)
+ends_no_more v w e now later state p d a f small ended gives =
+    let gone = lost v w now later p d a f gives.0 small gives.1 e state ended in
+    (gone.0, (gives.0, gone.1), λ d live. gone.2 d live.0 live.1)

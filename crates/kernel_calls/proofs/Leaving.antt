@@ -2,7 +2,7 @@
 use Rattle.kernel_calls.proofs.Prelude
 use Prelude.{◌≡◌, ◌<◌, ◌^◌, ℕ, Bool, true, false, List, [], ◌∷◌, refl, ap, sym, ◌∙◌, subst, arith, Option, Some, None}
 use Prelude.{is_some, eq-eqb, if◌then◌else◌, page_number, slot_number, start_number, same-true, ne_eqb, Read, Write}
-use Prelude.{table_at, Slot, Cell, at_page, slot_at, FramesStay, WaysAgree, none_goes, WalksAgree, StandsFor, image_of}
+use Prelude.{table_at, Slot, Cell, at_page, slot_at, FramesStay, none_goes}
 use Prelude.{memory_of, State, View, IsWellFormed, IsCore, gone_by, answer, after, next, completes, TablesMap, TablesStay}
 use Prelude.{is_ended, ended_by, FlagsStay, Ends, Translation, IsGiven, Kept, IsRead, AreRead, ends_in_region}
 use Prelude.{is_invalidated, left_by, Keeps, change, walk, Keeping, nothing, onward, KeptAreGiven, KeptThroughRuns}
@@ -16,10 +16,6 @@ use Rattle.page_words.specs.FiniteMap as map
 use Rattle.kernel_calls.specs.declared.calls.Call.TheVariants as call
 use Rattle.kernel_calls.specs.declared.translations.Ended.TheVariants as end
 use Rattle.kernel_calls.proofs.Untouched.{caller_live}
-
--- what `Core::stands` says of a core
-pub is_core : {v : View} → StandsFor (image_of v) v.state → WalksAgree (memory_of v) v.state.spaces → WaysAgree (memory_of v) → IsWellFormed v.state → IsCore v
-is_core image walks ways well_formed = record { image = image; walks = walks; ways = ways; well_formed = well_formed }
 
 -- ---- Flags
 
@@ -53,13 +49,13 @@ flags_stay s t e well state slot c d was is =
 
 pub event_ends : (v w : View) (e : Event) → IsCore v → IsCore w → w.state ≡ next v.state e → FramesStay (gone_by v.state e) (memory_of v) (memory_of w) → Ends (ended_by v e) v w
 event_ends v w e now later state stay = record {
-  translations = translations_stay v w e now.image now.walks now.ways now.well_formed later.image later.walks later.ways state stay;
-  no_more = ends_no_more v w e now.image now.walks now.ways now.well_formed later.image later.walks later.ways state;
-  found = found_by v now.image now.walks now.ways e;
+  translations = translations_stay v w e now later state stay;
+  no_more = ends_no_more v w e now later state;
+  found = found_by v now e;
   slots = slots_stay v w e now.well_formed state;
   flags = flags_stay v.state w.state e now.well_formed state;
   directories = directories_stay v w e stay;
-  tables = tables_stay v w e now.image now.walks now.ways stay;
+  tables = tables_stay v w e now stay;
   linked = tables_map v now.image;
 }
 

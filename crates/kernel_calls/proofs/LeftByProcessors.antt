@@ -1,35 +1,34 @@
 -- What processors leave of a core's memory is a core's.
 use Rattle.kernel_calls.proofs.Prelude
-use Prelude.{◌≡◌, ℕ, ◌+◌, ◌<◌, true, List, length, refl, sym, ap, subst, ◌∙◌, arith, Some, is_some}
-use Prelude.{if◌then◌else◌, unwrap_or, option_map, is_some-map, some_value, byte_count, touched, Read, Write}
-use Prelude.{directory_at, finds_live, at_page, slot_at, Spaces, all_accessed, all_stored, bytes_of, with_touched-same}
-use Prelude.{each_byte, FramesStay, none_goes, WalksAgree, stays_most, Member, quota_of, State, is_live, container_of}
-use Prelude.{as_account, View, memory_of, total-within, IsWellFormed, after_load, after_store, after, next}
+use Prelude.{◌≡◌, ℕ, ◌+◌, true, List, length, refl, sym, ap, subst, ◌∙◌, Some, is_some, if◌then◌else◌, some_value}
+use Prelude.{byte_count, touched, slot_number, Read, Write, directory_at, finds_live, at_page, slot_at, Spaces}
+use Prelude.{all_accessed, all_stored, bytes_of, with_touched-same, each_byte, FramesStay, none_goes, stays_most}
+use Prelude.{quota_of, State, container_of, View, memory_of, IsWellFormed, after_load, after_store, after, next}
 use Prelude.{completes, takes_no_frame, plan_of_call, plan_of_event, finds_call, finds_event, reply_found, Call, Event}
-use Prelude.{IsCore, Ends, Ended, ServesCall, IsStore, StoresMarked}
+use Prelude.{IsCore, Ends, Ended, ServesCall, IsStore, StoresMarked, Directory, arith}
 use Rattle.kernel_calls.specs.Kept.{bytes_kept}
 use Rattle.kernel_calls.specs.Walked.{bytes_accessed}
-use Rattle.kernel_calls.specs.Processors.{IsSized, IsLeft, with_bytes, WalksLeaveCores, StoresLeaveCores}
+use Rattle.kernel_calls.specs.Processors.{IsLeft, with_bytes, WalksLeaveCores, StoresLeaveCores, MarksLeaveCores}
 use Rattle.kernel_calls.specs.Processors.{WalksTakeNoFrame, WalksKeepContainers}
+use Rattle.phys_memory.specs.Bytes.{word_at, word_place}
+use Rattle.phys_memory.proofs.Words.{length-with_word}
+use Rattle.address_space.specs.ByWalk.{with_walked, walked_word}
 use Rattle.address_space.specs.Kept.{is_marked}
 use Rattle.address_space.specs.Changes.{Touched}
-use Rattle.address_space.specs.Restored.{HasRoom}
 use Rattle.address_space.specs.Sound.{IsSpaces}
-use Rattle.address_space.specs.View.{directory_of, spaces_in, total_cost}
 use Rattle.address_space.specs.Image as memory
 use Rattle.address_space.proofs.standing.FramesStand.{frames_stay}
-use Rattle.address_space.proofs.standing.Restored.{from_map, kept, stands}
-use Rattle.address_space.proofs.standing.Standing.{image_stands, stands_for_one}
-use Rattle.address_space.proofs.standing.WaysStand.{walks_agree, ways_agree}
+use Rattle.address_space.proofs.standing.Standing.{image_stands}
+use Rattle.address_space.proofs.steps.DirWords.{dir_word_walked}
+use Rattle.address_space.proofs.steps.Steps.{inside}
 use Rattle.address_space.proofs.steps.Touches.{spaces_touched}
 use Rattle.address_space.proofs.steps.WalkedPages.{load_walked, store_walked, store_kept}
-use Rattle.process_table.specs.WellFormed.{total}
 use Rattle.process_table.proofs.ImageStanding as states
 use Rattle.process_table.proofs.Keeping.{container-access}
-use Rattle.process_table.proofs.Ranges.{total-book}
+use Rattle.kernel_calls.proofs.CoreMemory.{live_is, root_quota, spaces_is, spaces}
 use Rattle.kernel_calls.proofs.Decided.{next-goes}
 use Rattle.kernel_calls.proofs.KeptAccesses.{all_lead, kept_find, kept_stores}
-use Rattle.kernel_calls.proofs.Leaving.{event_ends}
+use Rattle.kernel_calls.proofs.Leaving.{event_ends, nothing_ends}
 use Rattle.kernel_calls.proofs.Runs.{kept-next}
 use Rattle.kernel_calls.proofs.Translated.{accessed_ends_none}
 use Rattle.kernel_calls.proofs.WalkedReplies.{answered, all_mapped, frameless, lives}
@@ -38,70 +37,36 @@ use Rattle.process_table.specs.declared.causes.Cause.TheVariants as cause
 use Rattle.fault_handler.specs.declared.plans.Plan.TheVariants as plan
 use Rattle.kernel_calls.specs.declared.calls.Call.TheVariants as call
 
--- ---- A core's memory, by its words
+-- ---- With other bytes
 
-module _ (v : View) (core : IsCore v) (sized : IsSized v) where
-  live_is : (p : ℕ) → is_some (directory_of v.directories p) ≡ is_live v.state p
-  live_is p = sym (core.image.sound.live p) ∙ is_some-map (as_account v.state p) (map.get v.state.book p)
-
-  root_quota : 1 + quota_of v.state.book 0 ≡ length v.roles
-  root_quota =
-      let root = core.image.sound.root in
-      let m = from_map (as_account v.state 0) (map.get v.state.book 0) root.0 root.1 in
-      let same : quota_of v.state.book 0 ≡ root.0.quota =
-      ap (λ o. unwrap_or (option_map (λ (m : Member). m.quota) o) 0) m.1 ∙ ap (λ a. a.quota) m.2 in
-      ap (λ n. 1 + n) same ∙ root.2
-
-  some_frames : 0 < length v.roles
-  some_frames = let q = root_quota in omega (arith, q)
-
-  small : (p : ℕ) → is_live v.state p ≡ true → p < 64
-  small p there = let m = some_value (map.get v.state.book p) there in (core.well_formed.processes p m.0 m.1).0
-
-  spaces_is : spaces_in v.directories v.bytes ≡ v.state.spaces
-  spaces_is = stands_for_one (memory_of v) _ _ (stands v.directories v.bytes v.roles sized.pids some_frames sized.few core.image.sound.memory) core.image.memory
-
-  room : HasRoom v.directories v.bytes v.roles
-  room =
-      let costs : total_cost v.directories (spaces_in v.directories v.bytes) ≡ total v.state =
-      ap (total_cost v.directories) spaces_is ∙ total-book v.directories v.state live_is small in
-      let within = total-within v.state core.well_formed in
-      let quota = root_quota in
-      omega (arith, costs, within, quota)
-
-  spaces : IsSpaces v.directories v.bytes v.roles
-  spaces = kept v.directories v.bytes v.roles sized.pids some_frames sized.few core.image.sound.memory room
-
-  -- ---- With other bytes
-
+module _ (v : View) (core : IsCore v) where
   module _ (s : State) (bytes : List ℕ) (touched : Touched v.directories s.spaces v.bytes v.roles bytes) (book : s.book ≡ v.state.book) (well : IsWellFormed s) where
     abbrev w : View
     w = with_bytes v s bytes
 
     later : IsSpaces v.directories bytes v.roles
-    later = spaces_touched v.directories v.bytes bytes v.roles s.spaces spaces touched
+    later = spaces_touched v.directories v.bytes bytes v.roles s.spaces (spaces v core) touched
 
     is_left : IsCore w
     is_left = record {
       image = states.image_stands w
           (subst (memory.StandsFor (memory_of w)) touched.spaces (image_stands v.directories bytes v.roles later))
-          (λ p. live_is p ∙ ap (λ b. map.contains_key b p) (sym book))
-          (ap (λ b. 1 + quota_of b 0) book ∙ root_quota) well.root well.processes well.rooms;
-      walks = subst (WalksAgree (memory_of w)) touched.spaces (walks_agree v.directories bytes v.roles later);
-      ways = ways_agree v.directories bytes v.roles later.sound;
+          (λ p. live_is v core p ∙ ap (λ b. map.contains_key b p) (sym book))
+          (ap (λ b. 1 + quota_of b 0) book ∙ root_quota v core) well.root well.processes well.rooms;
       well_formed = well;
+      sized = record { few = core.sized.few; pids = core.sized.pids };
     }
 
     all_stay : FramesStay none_goes (memory_of v) (memory_of w)
-    all_stay = frames_stay none_goes v.directories v.bytes bytes v.roles v.roles spaces.sound later.sound touched.stay
+    all_stay = frames_stay none_goes v.directories v.bytes bytes v.roles v.roles (spaces v core).sound later.sound touched.stay
+
+    -- by no event
+    none_left : s ≡ v.state → IsLeft v w
+    none_left is = record { ends = nothing_ends v w core is_left is all_stay; core = is_left }
 
     -- by an event that ends none
-    pub event_left : (e : Event) → s ≡ next v.state e → finds_event v e ≡ true → takes_no_frame (plan_of_event v e) ≡ true → IsLeft v s bytes w
+    event_left : (e : Event) → s ≡ next v.state e → finds_event v e ≡ true → takes_no_frame (plan_of_event v e) ≡ true → IsLeft v w
     event_left e is found frame = record {
-      bytes = refl;
-      directories = refl;
-      roles = refl;
-      state = refl;
       ends = subst (λ (x : Ended). Ends x v w) (accessed_ends_none v e found frame) (event_ends v w e core is_left is (stays_most all_stay));
       core = is_left;
     }
@@ -113,12 +78,12 @@ module _ (v : View) (core : IsCore v) (sized : IsSized v) where
     walked_call : (c : Call) → finds_call v p c ≡ true → Touched v.directories (after v.state p c).spaces v.bytes v.roles (bytes_accessed v.bytes d c)
     walked_call (call.Load addr size) h =
         subst (λ (S : Spaces). Touched v.directories (all_accessed S p (touched addr size)) v.bytes v.roles (bytes_accessed v.bytes d (call.Load addr size)))
-        (spaces_is ∙ sym (with_touched-same v.state.spaces p addr size (all_mapped v core p d live addr size Read h)))
-        (load_walked v.directories v.roles p d live v.bytes addr size spaces.sound h)
+        (spaces_is v core ∙ sym (with_touched-same v.state.spaces p addr size (all_mapped v core p d live addr size Read h)))
+        (load_walked v.directories v.roles p d live v.bytes addr size (spaces v core).sound h)
     walked_call (call.Store addr size value) h =
         subst (λ (S : Spaces). Touched v.directories (all_stored S p addr (bytes_of (byte_count size) value)) v.bytes v.roles (bytes_accessed v.bytes d (call.Store addr size value)))
-        (spaces_is ∙ sym (with_touched-same v.state.spaces p addr size (all_mapped v core p d live addr size Write h)))
-        (store_walked v.directories v.roles p d live v.bytes addr size value spaces.sound h)
+        (spaces_is v core ∙ sym (with_touched-same v.state.spaces p addr size (all_mapped v core p d live addr size Write h)))
+        (store_walked v.directories v.roles p d live v.bytes addr size value (spaces v core).sound h)
     walked_call _ h = cc
 
     -- by translations that were kept
@@ -126,9 +91,9 @@ module _ (v : View) (core : IsCore v) (sized : IsSized v) where
         → Touched v.directories (after v.state p c).spaces v.bytes v.roles (bytes_kept frames v.bytes c)
     kept_call frames (call.Store addr size value) store h served marks =
         subst (λ (S : Spaces). Touched v.directories (all_stored S p addr (bytes_of (byte_count size) value)) v.bytes v.roles (bytes_kept frames v.bytes (call.Store addr size value)))
-        (spaces_is ∙ sym (with_touched-same v.state.spaces p addr size (all_mapped v core p d live addr size Write h)))
-        (store_kept v.directories v.roles p d live frames v.bytes addr size value spaces.sound h (all_lead v p frames addr d size Write served live)
-        (λ i l. ap (λ (S : Spaces). is_marked S (slot_at p (addr + i))) spaces_is
+        (spaces_is v core ∙ sym (with_touched-same v.state.spaces p addr size (all_mapped v core p d live addr size Write h)))
+        (store_kept v.directories v.roles p d live frames v.bytes addr size value (spaces v core).sound h (all_lead v p frames addr d size Write served live)
+        (λ i l. ap (λ (S : Spaces). is_marked S (slot_at p (addr + i))) (spaces_is v core)
         ∙ each_byte addr size (λ page. is_marked v.state.spaces (at_page p page) ≡ true) marks i l))
     kept_call frames _ store h served marks = absurd store
 
@@ -174,10 +139,10 @@ module _ (v : View) (core : IsCore v) (e : Event) (found : finds_event v e ≡ t
   book_stays : (next v.state e).book ≡ v.state.book
   book_stays = ap (λ (s : State). s.book) next_is ∙ same_book v core e.pid home.0 home.1 e.call found
 
-  left : (sized : IsSized v) (bytes : List ℕ) → Touched v.directories (after v.state e.pid e.call).spaces v.bytes v.roles bytes
-      → IsLeft v (next v.state e) bytes (with_bytes v (next v.state e) bytes)
-  left sized bytes touched =
-      event_left v core sized (next v.state e) bytes
+  left : (bytes : List ℕ) → Touched v.directories (after v.state e.pid e.call).spaces v.bytes v.roles bytes
+      → IsLeft v (with_bytes v (next v.state e) bytes)
+  left bytes touched =
+      event_left v core (next v.state e) bytes
       (subst (λ (s : State). Touched v.directories s.spaces v.bytes v.roles bytes) (sym next_is) touched)
       book_stays (kept-next v.state e core.well_formed).0 e refl found frame_taken
 
@@ -192,17 +157,28 @@ walks_keep_containers v e core found q =
     ap (λ (s : State). container_of s q) (next_is v core e found) ∙ same_containers v core e.pid d.0 d.1 e.call found q
 
 pub walks_leave_cores : WalksLeaveCores
-walks_leave_cores v e d core sized found live = record {
-  finds = found;
-  directory = d;
-  live = live;
-  found = answered v e d core found live;
-  left = left v core e found sized (bytes_accessed v.bytes d e.call) (walked_call v core sized e.pid d live e.call found);
-}
+walks_leave_cores v w e r core k = (
+  k.found ∙ sym (answered v e k.directory core k.finds k.live),
+  subst (IsLeft v) (sym k.left)
+      (left v core e k.finds (bytes_accessed v.bytes k.directory e.call) (walked_call v core e.pid k.directory k.live e.call k.finds)),
+)
 
 pub stores_leave_cores : StoresLeaveCores
-stores_leave_cores v e frames core sized served store =
+stores_leave_cores v e frames core served store =
     let found = kept_find v frames e served in
     let d = home v core e found in
-    left v core e found sized (bytes_kept frames v.bytes e.call)
-    (kept_call v core sized e.pid d.0 d.1 frames e.call store found served (kept_stores v frames e served store))
+    left v core e found (bytes_kept frames v.bytes e.call)
+    (kept_call v core e.pid d.0 d.1 frames e.call store found served (kept_stores v frames e served store))
+
+pub marks_leave_cores : MarksLeaveCores
+marks_leave_cores v w core k =
+    let user = k.user in
+    let high = user.1 in
+    let sound = (spaces v core).sound in
+    let bytes : List ℕ = with_walked v.bytes k.directory k.page k.walked in
+    let long : length bytes ≡ length v.bytes =
+    length-with_word v.bytes (word_place k.directory (slot_number k.page)) (walked_word k.walked (word_at v.bytes (word_place k.directory (slot_number k.page))))
+    (let fits = (inside v.directories v.bytes v.roles k.directory (Directory k.pid) sound (sound.tables.directory k.pid k.directory k.live)).fits in omega (arith, fits, high)) in
+    let touched = dir_word_walked v.directories v.bytes bytes v.roles k.pid k.directory k.page k.walked sound k.live high refl long in
+    subst (IsLeft v) (sym k.left)
+    (none_left v core v.state bytes (subst (λ (S : Spaces). Touched v.directories S v.bytes v.roles bytes) (spaces_is v core) touched) refl core.well_formed refl)

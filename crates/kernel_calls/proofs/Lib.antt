@@ -7,6 +7,7 @@ pub mod Commuting
 pub mod CommutingGone
 pub mod Confined
 pub mod Consent
+pub mod CoreMemory
 pub mod Decided
 pub mod Effects
 pub mod Ends

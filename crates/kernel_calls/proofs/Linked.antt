@@ -3,7 +3,7 @@ use Rattle.kernel_calls.proofs.Prelude
 use Prelude.{◌≡◌, ℕ, ◌*◌, ◌+◌, ◌<◌, Bool, true, false, ◌&&◌, length, refl, ap, ◌∙◌, arith, Option, Some, None, is_some}
 use Prelude.{eq-eqb, if◌then◌else◌, nat_lt, option_map, option_and_then, slice_get_within, ne_eqb, nat_tests}
 use Prelude.{slot_number, index_number, frame_number, is_present, same_or_not, Table, directory_at, table_at, word_of}
-use Prelude.{present_word, page_word, SlotStands, Slot, Cell, at_page, way_of, FramesStay, WaysAgree, WalksAgree}
+use Prelude.{present_word, page_word, SlotStands, Slot, Cell, at_page, way_of, FramesStay, IsCore}
 use Prelude.{way_whole, StandsFor, image_of, memory_of, View, gone_of_call, gone_by, answer, completes, is_all_of}
 use Prelude.{of_call, ended_by, DirectoriesStay, TablesStay, TablesMap, Call, Event}
 use Rattle.kernel_calls.proofs.Translated.{event_spared}
@@ -88,9 +88,8 @@ module _ (v : View) (stands : StandsFor (image_of v) v.state) where
         mapped = present_mapped (at_page p page) (word_of (memory_of v) table (index_number page)) there;
       }
 
-pub tables_stay : (v w : View) (e : Event) → StandsFor (image_of v) v.state → WalksAgree (memory_of v) v.state.spaces
-    → WaysAgree (memory_of v) → FramesStay (gone_by v.state e) (memory_of v) (memory_of w)
+pub tables_stay : (v w : View) (e : Event) → IsCore v → FramesStay (gone_by v.state e) (memory_of v) (memory_of w)
     → TablesStay (ended_by v e) v w
-tables_stay v w e stands walks ways stay slot t spared there linked =
-    let way = mapped_way v stands slot there in
-    stay.tables slot way.0 way.1 t (event_spared v stands walks ways e slot way.0 way.1 way.2 spared) way.2 linked
+tables_stay v w e core stay slot t spared there linked =
+    let way = mapped_way v core.image slot there in
+    stay.tables slot way.0 way.1 t (event_spared v core e slot way.0 way.1 way.2 spared) way.2 linked

@@ -5,10 +5,11 @@ use Rattle.kernel_calls.proofs.Prelude.{next, end_of, IsCore, Processors, all_le
 use Rattle.kernel_calls.proofs.Prelude.{first, Kept, translation, directory_entry, IsRead, AreRead, Ends, ended_by}
 use Rattle.kernel_calls.proofs.Prelude.{left_by, Call, Event, Reply, Serves, ServesCall, ServesEvent, reply_kept}
 use Rattle.kernel_calls.specs.Processors.{with_kept, AllAreRead, AreAmong, LetsThrough, LetCall, carried, loaded}
-use Rattle.kernel_calls.specs.Processors.{stored, refilled, forgotten, Steps, AreTheEvents, ProcessorsMakeEvents}
-use Rattle.kernel_calls.proofs.KeptAccesses.{live, kept_find, kept_reply, kept_loads, kept_stores}
+use Rattle.kernel_calls.specs.Processors.{IsLeft, stored, refilled, forgotten, Steps, AreTheEvents, ProcessorsMakeEvents}
+use Rattle.kernel_calls.proofs.KeptAccesses.{live, kept_find, kept_reply, kept_loads}
 use Rattle.kernel_calls.proofs.Leaving.{left_read}
-use Rattle.kernel_calls.proofs.WalkedReplies.{answered, lives}
+use Rattle.kernel_calls.proofs.LeftByProcessors.{walks_leave_cores, stores_leave_cores, marks_leave_cores}
+use Rattle.kernel_calls.proofs.WalkedReplies.{answered}
 use Rattle.kernel_calls.specs.declared.translations.Ended.TheVariants as end
 
 -- ---- What is kept
@@ -96,20 +97,20 @@ one (carried {v = v} {w = w} {keeps = keeps} {e = e} {r = r} c) core all =
     is_event v w e r (all_left_by (ended_by v e) keeps) c.reply c.state c.core
     (λ i. left_read (ended_by v e) v w (keeps i) c.ends (all i))
 one (walked {v = v} {w = w} {keeps = keeps} {e = e} {r = r} c) core all =
-    is_event v w e r keeps (c.found ∙ sym (answered v e c.directory core c.finds c.live)) c.left.state c.left.core
-    (all_stay v w keeps c.left.ends all)
+    let left = walks_leave_cores v w e r core c in
+    is_event v w e r keeps left.0 (ap (λ (u : View). u.state) c.left) left.1.core (all_stay v w keeps left.1.ends all)
 one (loaded {v = v} {keeps = keeps} {e = e} {r = r} i c) core all =
     let served = serves_call v (keeps i) e.pid c.frames e.call (all i) c.through in
     is_event v v e r keeps (c.found ∙ sym (kept_answered v c.frames e core served))
     (sym (kept_loads v c.frames e served c.load)) core all
 one (stored {v = v} {w = w} {keeps = keeps} {e = e} {r = r} i c) core all =
     let served = serves_call v (keeps i) e.pid c.frames e.call (all i) c.through in
-    let left = c.left (kept_find v c.frames e served) (kept_stores v c.frames e served c.store) in
-    is_event v w e r keeps (c.found ∙ sym (kept_answered v c.frames e core served)) left.state left.core
+    let left : IsLeft v w = subst (IsLeft v) (sym c.left) (stores_leave_cores v e c.frames core served c.store) in
+    is_event v w e r keeps (c.found ∙ sym (kept_answered v c.frames e core served)) (ap (λ (u : View). u.state) c.left) left.core
     (all_stay v w keeps left.ends all)
 one (marked {v = v} {w = w} {keeps = keeps} c) core all =
-    let left = c.left (lives v core c.pid c.directory c.live) in
-    is_none v w keeps left.state left.core (all_stay v w keeps left.ends all)
+    let left = marks_leave_cores v w core c in
+    is_none v w keeps (ap (λ (u : View). u.state) c.left) left.core (all_stay v w keeps left.ends all)
 one (refilled {v = v} {keeps = keeps} i k read) core all =
     is_none v v (with_kept keeps i (k ∷ keeps i)) refl core (read_with v keeps i (k ∷ keeps i) all (read, all i))
 one (forgotten {v = v} {keeps = keeps} i left among) core all =

@@ -5,11 +5,12 @@ use Prelude.{None, is_some, arith, eqb-true, eq-eqb, ◌⊎◌, if◌then◌else
 use Prelude.{page_number, slot_number, index_number, second_page, Size, same-true, same_itself, frame_number, Access}
 use Prelude.{Read, Write, walk_of, is_write, not_allowed, directory_at, word_of, named_by, present_word, page_word}
 use Prelude.{is_lazy_at, takes_stores, SlotStands, Slot, slot_order, Cell, at_page, slot_at, is_slot, way_of}
-use Prelude.{FramesStay, WaysAgree, of_lazy, FindsBytes, WalkEndsBy, WalksAgree, way_parts, StandsFor, image_of}
-use Prelude.{memory_of, State, is_mapped, View, IsWellFormed, goes_on, plan_at, step_at, takes_no_frame, lazy_second}
+use Prelude.{FramesStay, of_lazy, FindsBytes, WalkEndsBy, way_parts}
+use Prelude.{memory_of, State, is_mapped, View, IsWellFormed, IsCore, goes_on, plan_at, step_at, takes_no_frame, lazy_second}
 use Prelude.{lazy_touched, ready, answer, answer_of, next, completes, plan_of_call, plan_of_event, may_unmap}
 use Prelude.{finds_event, is_ended, is_all_of, page_filled, second_filled, of_pages, of_plan, of_call, ended_by}
 use Prelude.{TranslationsStay, FindsFrame, EndsFound, SlotsStay, gone_of_call, gone_by, Call, Event}
+use Rattle.kernel_calls.proofs.CoreMemory.{walks_of, ways_of}
 use Rattle.kernel_calls.proofs.Decided.{goes-event, next-stays, next-goes}
 use Rattle.kernel_calls.proofs.Flags.{IsFlag, has, own, right_is_flag, Spared, keeps_call}
 use Rattle.page_words.specs.FiniteMap as map
@@ -21,17 +22,14 @@ use Rattle.kernel_calls.specs.declared.translations.Ended.TheVariants as end
 use Rattle.kernel_calls.proofs.Runs.{not-refused}
 use Rattle.kernel_calls.proofs.Untouched.{caller_live}
 
--- ---- Tests
-
 -- ---- A slot that has a way
 
-module _ (v : View) (stands : StandsFor (image_of v) v.state) (walks : WalksAgree (memory_of v) v.state.spaces)
-    (ways : WaysAgree (memory_of v)) where
+module _ (v : View) (core : IsCore v) where
   -- is mapped
   pub way_mapped : (slot : Slot) (d f : ℕ) → way_of (memory_of v) slot ≡ Some (d, f)
       → (c : Cell) × (map.get v.state.spaces slot ≡ Some c)
   way_mapped slot d f way = by (page_word (memory_of v) slot) (map.get v.state.spaces slot) refl
-      (way_parts (memory_of v) slot d f way).names (stands.memory.cells slot)
+      (way_parts (memory_of v) slot d f way).names (core.image.memory.cells slot)
     where
       by : (x : Option ℕ) (y : Option Cell) → map.get v.state.spaces slot ≡ y → option_map frame_number x ≡ Some f
           → SlotStands (memory_of v) slot x y → (c : Cell) × (map.get v.state.spaces slot ≡ Some c)
@@ -42,7 +40,7 @@ module _ (v : View) (stands : StandsFor (image_of v) v.state) (walks : WalksAgre
   -- where the walk of a write finds a frame, the slot takes stores
   pub walk_takes : (p d a f : ℕ) → directory_at (memory_of v) p ≡ Some d → a < 2 ^ 32 → walk_of v.bytes d a Write ≡ Ok f
       → takes_stores v.state.spaces (memory_of v) (slot_at p a) ≡ true
-  walk_takes p d a f live small walk = by (map.get v.state.spaces (slot_at p a)) refl (walks p d a Write live small)
+  walk_takes p d a f live small walk = by (map.get v.state.spaces (slot_at p a)) refl (walks_of core p d a Write live small)
     where
       lazy : Bool
       lazy = is_lazy_at (memory_of v) (slot_at p a)
@@ -62,7 +60,7 @@ module _ (v : View) (stands : StandsFor (image_of v) v.state) (walks : WalksAgre
       × (is_lazy_at (memory_of v) (slot_at p a) ≡ false))
       → walk_of v.bytes d a access ≡ Ok f
   walk_finds p d a f access small way right = at (map.get v.state.spaces (slot_at p a)) cell.1
-      (walks p d a access live small) right
+      (walks_of core p d a access live small) right
     where
       live : directory_at (memory_of v) p ≡ Some d
       live = (way_parts (memory_of v) (slot_at p a) d f way).live
@@ -75,7 +73,7 @@ module _ (v : View) (stands : StandsFor (image_of v) v.state) (walks : WalksAgre
 
       same : (x : ℕ) → walk_of v.bytes d a access ≡ Ok x → walk_of v.bytes d a access ≡ Ok f
       same x found =
-          let k : ◌≡◌ {A = Option (ℕ × ℕ)} (Some (d, x)) (Some (d, f)) = sym (ways.lead p d a x access live small found)
+          let k : ◌≡◌ {A = Option (ℕ × ℕ)} (Some (d, x)) (Some (d, f)) = sym ((ways_of core).lead p d a x access live small found)
           ∙ way in
           let e : ◌≡◌ {A = Option ℕ} (Some x) (Some f) = ap (option_map (λ (q : ℕ × ℕ). q.1)) k in
           let is : x ≡ f = cc in
@@ -113,7 +111,7 @@ module _ (v : View) (stands : StandsFor (image_of v) v.state) (walks : WalksAgre
           let mapped : is_mapped v.state (at_page p page) ≡ true = ap (λ s. is_some (map.get v.state.spaces s)) here
           ∙ ap is_some (way_mapped slot d f way).1 in
           let lazy : is_lazy_at (memory_of v) (at_page p page) ≡ true = ap (is_lazy_at (memory_of v)) here
-          ∙ ways.lazy slot d f way ∙ zero in
+          ∙ (ways_of core).lazy slot d f way ∙ zero in
           let fills : step_at v p Write page ≡ step.Fill =
           (λ i. if not (mapped i) then step.MapZero else if lazy i then step.Fill else step.Complete) in
           let k : false ≡ true = sym stays ∙ ap (λ h. named p (page_filled page h) slot) fills ∙ is in
@@ -148,7 +146,7 @@ module _ (v : View) (stands : StandsFor (image_of v) v.state) (walks : WalksAgre
       by true is true zero = absurd (
           let here : at_page giver giver_page ≡ slot = same-true slot_order (at_page giver giver_page) slot is in
           let lazy : is_lazy_at (memory_of v) (at_page giver giver_page) ≡ true = ap (is_lazy_at (memory_of v)) here
-          ∙ ways.lazy slot d f way ∙ zero in
+          ∙ (ways_of core).lazy slot d f way ∙ zero in
           let k : false ≡ true = sym stays ∙ ap (λ b. is_ended (if b then end.Page giver giver_page else end.Nothing)
           slot) lazy ∙ is in
           cc)
@@ -197,9 +195,9 @@ module _ (v : View) (stands : StandsFor (image_of v) v.state) (walks : WalksAgre
       → (has (λ c. c.write) (map.get v.state.spaces slot) ≡ true) × (is_lazy_at (memory_of v) slot ≡ false)
   has_right slot takes = grind (arith, has)
 
-  right_stays : (e : Event) (slot : Slot) → IsWellFormed v.state → takes_stores v.state.spaces (memory_of v) slot ≡ true
+  right_stays : (e : Event) (slot : Slot) → takes_stores v.state.spaces (memory_of v) slot ≡ true
       → is_ended (ended_by v e) slot ≡ false → has (λ c. c.write) (map.get (next v.state e).spaces slot) ≡ true
-  right_stays e slot w takes stays = by (completes (answer v.state e)) refl stays
+  right_stays e slot takes stays = by (completes (answer v.state e)) refl stays
     where
       by : (b : Bool) → completes (answer v.state e) ≡ b
           → is_ended (if b then of_call v e.pid e.call else end.Nothing) slot ≡ false
@@ -207,32 +205,29 @@ module _ (v : View) (stands : StandsFor (image_of v) v.state) (walks : WalksAgre
       by false is h = grind (arith, has, next-stays, has_right)
       by true is h =
           ap (λ (t : State). has (λ c. c.write) (map.get t.spaces slot)) (next-goes v.state e is)
-          ∙ keeps_call (λ c. c.write) right_is_flag v.state e.pid e.call slot w (caller_live v.state e is).1
+          ∙ keeps_call (λ c. c.write) right_is_flag v.state e.pid e.call slot core.well_formed (caller_live v.state e is).1
           (right_spared e.pid e.call slot takes h) (has_right slot takes).0
 
 -- each walk that finds a frame and isn't ended finds it afterwards
-pub translations_stay : (v w : View) (e : Event) → StandsFor (image_of v) v.state
-    → WalksAgree (memory_of v) v.state.spaces → WaysAgree (memory_of v) → IsWellFormed v.state
-    → StandsFor (image_of w) w.state → WalksAgree (memory_of w) w.state.spaces → WaysAgree (memory_of w)
+pub translations_stay : (v w : View) (e : Event) → IsCore v → IsCore w
     → w.state ≡ next v.state e → FramesStay (gone_by v.state e) (memory_of v) (memory_of w)
     → TranslationsStay (ended_by v e) (memory_of v) (memory_of w)
-translations_stay v w e stands walks ways well stands' walks' ways' state stay p d a f access small stays gives =
+translations_stay v w e now later state stay p d a f access small stays gives =
     let slot = slot_at p a in
     let live = gives.0 in
     let walk = gives.1 in
-    let way : way_of (memory_of v) slot ≡ Some (d, f) = ways.lead p d a f access live small walk in
-    let way' : way_of (memory_of w) slot ≡ Some (d, f) =
-    stay.ways slot d f (event_spared v stands walks ways e slot d f way stays) way in
-    let lazy : is_lazy_at (memory_of w) slot ≡ is_lazy_at (memory_of v) slot = ways'.lazy slot d f way'
-    ∙ sym (ways.lazy slot d f way) in (
+    let way : way_of (memory_of v) slot ≡ Some (d, f) = (ways_of now).lead p d a f access live small walk in
+    let way' : way_of (memory_of w) slot ≡ Some (d, f) = stay.ways slot d f (event_spared v now e slot d f way stays) way in
+    let lazy : is_lazy_at (memory_of w) slot ≡ is_lazy_at (memory_of v) slot = (ways_of later).lazy slot d f way'
+    ∙ sym ((ways_of now).lazy slot d f way) in (
       (way_parts (memory_of w) slot d f way').live,
-      walk_finds w stands' walks' ways' p d a f access small way'
+      walk_finds w later p d a f access small way'
           (λ is.
-          let takes = walk_takes v stands walks ways p d a f live small (ap (walk_of v.bytes d a) (sym is) ∙ walk) in (
+          let takes = walk_takes v now p d a f live small (ap (walk_of v.bytes d a) (sym is) ∙ walk) in (
             ap (λ (t : State). has (λ c. c.write) (map.get t.spaces slot)) state
-                ∙ right_stays v stands walks ways e slot well takes stays,
+                ∙ right_stays v now e slot takes stays,
             lazy
-                ∙ (has_right v stands walks ways slot takes).1,
+                ∙ (has_right v now slot takes).1,
           )),
     )
 
@@ -278,7 +273,7 @@ accessed_ends_none v e found h = grind (arith, caller_live)
 
 -- ---- What is ended had a walk
 
-module _ (v : View) (stands : StandsFor (image_of v) v.state) (walks : WalksAgree (memory_of v) v.state.spaces) (ways : WaysAgree (memory_of v)) where
+module _ (v : View) (core : IsCore v) where
   -- a mapped slot has a walk that finds a frame
   mapped_found : (p a : ℕ) → a < 2 ^ 32 → is_some (page_word (memory_of v) (slot_at p a)) ≡ true → FindsFrame (memory_of v) p a
   mapped_found p a small there = by (directory_at (memory_of v) p) refl
@@ -288,7 +283,7 @@ module _ (v : View) (stands : StandsFor (image_of v) v.state) (walks : WalksAgre
 
       by : (x : Option ℕ) → directory_at (memory_of v) p ≡ x → FindsFrame (memory_of v) p a
       by None live = absurd (let k : false ≡ true = sym (ap is_some (none live)) ∙ there in cc)
-      by (Some d) live = at (page_word (memory_of v) (slot_at p a)) (map.get v.state.spaces (slot_at p a)) there (stands.memory.cells (slot_at p a)) (walks p d a Read live small)
+      by (Some d) live = at (page_word (memory_of v) (slot_at p a)) (map.get v.state.spaces (slot_at p a)) there (core.image.memory.cells (slot_at p a)) (walks_of core p d a Read live small)
         where
           at : (x : Option ℕ) (y : Option Cell) → is_some x ≡ true → SlotStands (memory_of v) (slot_at p a) x y → WalkEndsBy v.bytes d a Read (is_lazy_at (memory_of v) (slot_at p a)) y → FindsFrame (memory_of v) p a
           at x y h s e = grind arith
@@ -302,15 +297,15 @@ module _ (v : View) (stands : StandsFor (image_of v) v.state) (walks : WalksAgre
   lazy_word slot h = grind arith
 
   -- a page that a store fills is lazy
-  filled_lazy : (q page : ℕ) (slot : Slot) → named v stands walks ways q (page_filled page (step_at v q Write page)) slot ≡ true → is_lazy_at (memory_of v) slot ≡ true
+  filled_lazy : (q page : ℕ) (slot : Slot) → named v core q (page_filled page (step_at v q Write page)) slot ≡ true → is_lazy_at (memory_of v) slot ≡ true
   filled_lazy q page slot h = by (is_mapped v.state (at_page q page)) (is_lazy_at (memory_of v) (at_page q page)) refl h
     where
-      by : (x y : Bool) → is_lazy_at (memory_of v) (at_page q page) ≡ y → named v stands walks ways q (page_filled page (if not x then step.MapZero else if y then step.Fill else step.Complete)) slot ≡ true → is_lazy_at (memory_of v) slot ≡ true
+      by : (x y : Bool) → is_lazy_at (memory_of v) (at_page q page) ≡ y → named v core q (page_filled page (if not x then step.MapZero else if y then step.Fill else step.Complete)) slot ≡ true → is_lazy_at (memory_of v) slot ≡ true
       by false y lazy k = cc
       by true false lazy k = cc
       by true true lazy k = sym (ap (is_lazy_at (memory_of v)) (same-true slot_order (at_page q page) slot k)) ∙ lazy
 
-  filled_pages : (q : ℕ) (x y : Option ℕ) (slot : Slot) → is_ended (of_pages q x y) slot ≡ true → (named v stands walks ways q x slot ≡ true) ⊎ (named v stands walks ways q y slot ≡ true)
+  filled_pages : (q : ℕ) (x y : Option ℕ) (slot : Slot) → is_ended (of_pages q x y) slot ≡ true → (named v core q x slot ≡ true) ⊎ (named v core q y slot ≡ true)
   filled_pages q x y slot h = grind arith
 
   -- a slot that a call which completes ends has a word, or its process goes
@@ -325,7 +320,7 @@ module _ (v : View) (stands : StandsFor (image_of v) v.state) (walks : WalksAgre
         | inr second ↦ by (second_page addr size) second
       ]
     where
-      by : (x : Option ℕ) → named v stands walks ways q (second_filled x (option_map (step_at v q Write) x)) slot ≡ true → (is_all_of (of_call v q (call.Store addr size value)) slot.pid ≡ true) ⊎ (is_some (page_word (memory_of v) slot) ≡ true)
+      by : (x : Option ℕ) → named v core q (second_filled x (option_map (step_at v q Write) x)) slot ≡ true → (is_all_of (of_call v q (call.Store addr size value)) slot.pid ≡ true) ⊎ (is_some (page_word (memory_of v) slot) ≡ true)
       by x k = grind (arith, lazy_word, filled_lazy)
   ended_word q (call.Unmap page) slot done goes h =
       let here = same-true slot_order (at_page q page) slot h in

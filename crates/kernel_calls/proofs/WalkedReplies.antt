@@ -9,6 +9,7 @@ use Prelude.{Plan, plan_of_call, answer, answer_of, completes, planned_or, IsCor
 use Prelude.{Call, Event, Reply, finds_at, finds, byte_place, number_found, found_at, same_each}
 use Rattle.address_space.proofs.steps.WalkedPages.{finds_first, finds_second}
 use Rattle.fault_handler.proofs.Walked.{walk_completes}
+use Rattle.kernel_calls.proofs.CoreMemory.{walks_of, ways_of}
 use Rattle.kernel_calls.proofs.Decided.{goes-event}
 use Rattle.kernel_calls.proofs.Translated.{way_mapped, walk_takes}
 use Rattle.page_words.specs.FiniteMap as map
@@ -40,15 +41,15 @@ module _ (v : View) (core : IsCore v) (p d : ℕ) (live : directory_at (memory_o
       → is_some (map.get v.state.spaces (slot_at p a)) ≡ true
   page_mapped access a h =
       let f = frame_found access a h in
-      ap is_some (way_mapped v core.image core.walks core.ways (slot_at p a) d f.1.0
-      (core.ways.lead p d a f.1.0 access live f.0 f.1.1)).1
+      ap is_some (way_mapped v core (slot_at p a) d f.1.0
+      ((ways_of core).lead p d a f.1.0 access live f.0 f.1.1)).1
 
   -- and takes stores, where it is found for one
   pub page_takes : (a : ℕ) → finds_at (memory_of v) p Write a ≡ true
       → takes_stores v.state.spaces (memory_of v) (slot_at p a) ≡ true
   page_takes a h =
       let f = frame_found Write a h in
-      walk_takes v core.image core.walks core.ways p d a f.1.0 live f.0 f.1.1
+      walk_takes v core p d a f.1.0 live f.0 f.1.1
 
   -- what holds of the page of each address whose walk finds a frame holds of each page of an access
   pub each_found : (access : Access) (address : ℕ) (size : Size) (P : ℕ → Type 0)
@@ -72,7 +73,7 @@ module _ (v : View) (core : IsCore v) (p d : ℕ) (live : directory_at (memory_o
     -- the byte of each of its addresses stands where the walk leads
     byte_there : (a : ℕ) → a < 2 ^ 32 → is_some (map.get v.state.spaces (slot_at p a)) ≡ true
         → slice_index v.bytes (byte_place v.bytes d a) ≡ byte_at v.state.spaces p a
-    byte_there a small there = by (map.get v.state.spaces (slot_at p a)) refl there (core.walks p d a Read live small)
+    byte_there a small there = by (map.get v.state.spaces (slot_at p a)) refl there (walks_of core p d a Read live small)
       where
         by : (x : Option Cell) → map.get v.state.spaces (slot_at p a) ≡ x → is_some x ≡ true
             → WalkEndsBy v.bytes d a Read (is_lazy_at (memory_of v) (slot_at p a)) x

@@ -15,6 +15,7 @@ use Rattle.std.specs.FinMap.Entries.{find}
 use Rattle.kernel_calls.specs.Written.{HasNone, TakesLazy, IsSameButAccessed, StandsAsBefore, WritesItsOwn}
 use Rattle.kernel_calls.specs.Written.{EventsWriteTheirOwn}
 use Rattle.kernel_calls.proofs.Births.{child_dead}
+use Rattle.kernel_calls.proofs.CoreMemory.{walks_of, ways_of}
 use Rattle.kernel_calls.proofs.Effects.{slots_come}
 use Rattle.kernel_calls.proofs.RightfulChanges.{changes_are_rightful}
 use Rattle.kernel_calls.proofs.Leaving.{region_spared, entry_stays}
@@ -74,7 +75,7 @@ present_is a b x word is h = grind arith
 table_word : (x word : ℕ) → IsTableWord 2 x → is_present x ≡ true → x ≡ word → NamesPage word
 table_word x word h present same = grind arith
 
-word_at_slot : (v : View) → IsCore v → (slot : Slot) (word : ℕ) → page_word (memory_of v) slot ≡ Some word → WordAt v slot word
+pub word_at_slot : (v : View) → IsCore v → (slot : Slot) (word : ℕ) → page_word (memory_of v) slot ≡ Some word → WordAt v slot word
 word_at_slot v core slot word is =
     let t = from_then (λ t. present_word (memory_of v) t (word_of (memory_of v) t (index_number slot.page)))
     (table_at (memory_of v) slot.pid (slot_number slot.page)) word is in
@@ -178,7 +179,7 @@ module _ (v w : View) (e : Event) (before : IsCore v) (later : IsCore w) (state 
     found : (f : ℕ) × (walk_of v.bytes directory address Read ≡ Ok f)
     found = by (map.get v.state.spaces (slot_at slot.pid address))
         (ap (λ k. map.get v.state.spaces (at_page slot.pid k)) page ∙ m.mapped)
-        (before.walks slot.pid directory address Read home small)
+        (walks_of before slot.pid directory address Read home small)
       where
         by : (x : Option Cell) → x ≡ Some m.cell
             → WalkEndsBy v.bytes directory address Read (is_lazy_at (memory_of v) (slot_at slot.pid address)) x
@@ -192,7 +193,7 @@ module _ (v w : View) (e : Event) (before : IsCore v) (later : IsCore w) (state 
     -- and the same frame
     way : way_of (memory_of v) slot ≡ Some (directory, f)
     way = sym (ap (λ k. way_of (memory_of v) (at_page slot.pid k)) page)
-        ∙ before.ways.lead slot.pid directory address f Read home small found.1
+        ∙ (ways_of before).lead slot.pid directory address f Read home small found.1
 
     stays : (directory_at (memory_of w) slot.pid ≡ Some directory) × (walk_of w.bytes directory address Read ≡ Ok f)
     stays = ends.translations slot.pid directory address f Read small
@@ -200,7 +201,7 @@ module _ (v w : View) (e : Event) (before : IsCore v) (later : IsCore w) (state 
 
     way_later : way_of (memory_of w) slot ≡ Some (directory, f)
     way_later = sym (ap (λ k. way_of (memory_of w) (at_page slot.pid k)) page)
-        ∙ later.ways.lead slot.pid directory address f Read stays.0 small stays.1
+        ∙ (ways_of later).lead slot.pid directory address f Read stays.0 small stays.1
 
     frame_is : (u : View) (word : ℕ) → page_word (memory_of u) slot ≡ Some word → way_of (memory_of u) slot ≡ Some (directory, f)
         → frame_number word ≡ f
@@ -212,7 +213,7 @@ module _ (v w : View) (e : Event) (before : IsCore v) (later : IsCore w) (state 
     lazy_is : (u : View) → IsCore u → (word : ℕ) → page_word (memory_of u) slot ≡ Some word
         → way_of (memory_of u) slot ≡ Some (directory, f) → is_lazy word ≡ (f == 0)
     lazy_is u core word there is =
-        sym (ap (λ (x : Option ℕ). unwrap_or (option_map is_lazy x) false) there) ∙ core.ways.lazy slot directory f is
+        sym (ap (λ (x : Option ℕ). unwrap_or (option_map is_lazy x) false) there) ∙ (ways_of core).lazy slot directory f is
 
     -- so it has the same word
     same_word : n.word ≡ m.word

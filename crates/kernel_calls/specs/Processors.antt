@@ -14,12 +14,12 @@ use Rattle.address_space.specs.Spaces.{at_page}
 use Rattle.address_space.specs.Stays.{WaysAgree}
 use Rattle.address_space.specs.Walks.{WalksAgree}
 use Rattle.process_table.specs.Image.{StandsFor, image_of, memory_of}
-use Rattle.process_table.specs.State.{State, container_of, is_live}
+use Rattle.process_table.specs.State.{State, container_of}
 use Rattle.process_table.specs.View.{View}
 use Rattle.process_table.specs.WellFormed.{IsWellFormed}
 use Rattle.fault_handler.specs.Plans.{takes_no_frame}
 use Rattle.kernel_calls.specs.Decisions.{plan_of_event}
-use Rattle.kernel_calls.specs.Kept.{reply_kept, bytes_kept, ServesEvent, StoresMarked, IsLoad, IsStore}
+use Rattle.kernel_calls.specs.Kept.{reply_kept, bytes_kept, ServesEvent, IsLoad, IsStore}
 use Rattle.kernel_calls.specs.Machine.{answer, answers, next, end_of}
 use Rattle.kernel_calls.specs.Translations.{Kept, translation, DirectoryEntry, directory_entry, IsRead, AreRead, Ends, ended_by, left_by}
 use Rattle.kernel_calls.specs.Walked.{finds_event, reply_found, bytes_accessed}
@@ -30,17 +30,20 @@ use Rattle.kernel_calls.specs.declared.calls.Reply.{Reply}
 use Rattle.kernel_calls.specs.declared.translations.Ended.{Ended}
 use Rattle.kernel_calls.specs.declared.translations.Ended.TheVariants as end
 
--- memory represents the state, and each walk ends as the state says, as in each core (`Core::stands`)
-pub record IsCore (v : View) : Type 0 where
-  pub image : StandsFor (image_of v) v.state
-  pub walks : WalksAgree (memory_of v) v.state.spaces
-  pub ways : WaysAgree (memory_of v)
-  pub well_formed : IsWellFormed v.state
-
--- at most 1,048,576 frames, and a place for each process, as in each core (`Core::stands`)
+-- at most 1,048,576 frames, and a place for each process
 pub record IsSized (v : View) : Type 0 where
   pub few : length v.roles ≤ 1048576
   pub pids : length v.directories ≡ 64
+
+-- memory represents the state, as in each core (`Core::stands`)
+pub record IsCore (v : View) : Type 0 where
+  pub image : StandsFor (image_of v) v.state
+  pub well_formed : IsWellFormed v.state
+  pub sized : IsSized v
+
+-- so each walk ends as the state says
+abbrev pub CoresAreWalked : Type 0
+CoresAreWalked = (v : View) → IsCore v → WalksAgree (memory_of v) v.state.spaces × WaysAgree (memory_of v)
 
 -- ---- What each processor keeps
 
@@ -89,22 +92,17 @@ pub record IsCarried (v : View) (e : Event) (r : Reply) (w : View) : Type 0 wher
   pub ends : Ends (ended_by v e) v w
   pub core : IsCore w
 
--- a processor left these bytes, and memory is a core's in this state, as the law says that is named below
-pub record IsLeft (v : View) (s : State) (written : List ℕ) (w : View) : Type 0 where
-  pub bytes : w.bytes ≡ written
-  pub directories : w.directories ≡ v.directories
-  pub roles : w.roles ≡ v.roles
-  pub state : w.state ≡ s
-  pub ends : Ends end.Nothing v w
-  pub core : IsCore w
+-- these directories and roles, with this state and these bytes
+abbrev pub with_bytes : View → State → List ℕ → View
+with_bytes v s bytes = record { state = s; directories = v.directories; bytes = bytes; roles = v.roles }
 
--- a processor makes an access by its walk, which finds a frame for each page (`WalksLeaveCores`)
+-- a processor makes an access by its walk, which finds a frame for each page
 pub record IsWalked (v : View) (e : Event) (r : Reply) (w : View) : Type 0 where
   pub finds : finds_event v e ≡ true
   pub directory : ℕ
   pub live : directory_at (memory_of v) e.pid ≡ Some directory
   pub found : r ≡ reply_found v.bytes directory e.call
-  pub left : IsLeft v (next v.state e) (bytes_accessed v.bytes directory e.call) w
+  pub left : w ≡ with_bytes v (next v.state e) (bytes_accessed v.bytes directory e.call)
 
 -- a processor loads by what it keeps, from the frames there; nothing changes
 pub record IsLoaded (kept : List Kept) (v : View) (e : Event) (r : Reply) : Type 0 where
@@ -113,16 +111,15 @@ pub record IsLoaded (kept : List Kept) (v : View) (e : Event) (r : Reply) : Type
   pub through : LetCall kept e.pid frames e.call
   pub found : r ≡ reply_kept frames v.bytes e.call
 
--- a processor stores by what it keeps, into the frames there (`StoresLeaveCores`, which assumes what `left` does)
+-- a processor stores by what it keeps, into the frames there
 pub record IsStored (kept : List Kept) (v : View) (e : Event) (r : Reply) (w : View) : Type 0 where
   pub store : IsStore e.call
   pub frames : ℕ → ℕ
   pub through : LetCall kept e.pid frames e.call
   pub found : r ≡ reply_kept frames v.bytes e.call
-  pub left : finds_event v e ≡ true → StoresMarked v.state e.pid e.call
-      → IsLeft v (next v.state e) (bytes_kept frames v.bytes e.call) w
+  pub left : w ≡ with_bytes v (next v.state e) (bytes_kept frames v.bytes e.call)
 
--- a processor sets or clears accessed in a word of a directory (`Core::set_walked`, in which memory is left so)
+-- a processor sets or clears accessed in a word of a directory (`Core::set_walked`)
 pub record IsMarked (v w : View) : Type 0 where
   pub pid : ℕ
   pub page : ℕ
@@ -130,24 +127,28 @@ pub record IsMarked (v w : View) : Type 0 where
   pub user : IsUserPage page
   pub directory : ℕ
   pub live : directory_at (memory_of v) pid ≡ Some directory
-  pub left : is_live v.state pid ≡ true → IsLeft v v.state (with_walked v.bytes directory page walked) w
+  pub left : w ≡ with_bytes v v.state (with_walked v.bytes directory page walked)
 
 -- ---- What processors leave is a core's
 
--- these directories and roles, with this state and these bytes
-abbrev pub with_bytes : View → State → List ℕ → View
-with_bytes v s bytes = record { state = s; directories = v.directories; bytes = bytes; roles = v.roles }
+-- memory is a core's afterwards, and no translation was ended
+pub record IsLeft (v w : View) : Type 0 where
+  pub ends : Ends end.Nothing v w
+  pub core : IsCore w
 
 -- an access by a walk that finds a frame for each page is the event, and leaves a core
 abbrev pub WalksLeaveCores : Type 0
-WalksLeaveCores = (v : View) (e : Event) (directory : ℕ) → IsCore v → IsSized v → finds_event v e ≡ true
-    → directory_at (memory_of v) e.pid ≡ Some directory
-    → IsWalked v e (answer v.state e) (with_bytes v (next v.state e) (bytes_accessed v.bytes directory e.call))
+WalksLeaveCores = (v w : View) (e : Event) (r : Reply) → IsCore v → IsWalked v e r w
+    → (r ≡ answer v.state e) × IsLeft v w
 
 -- so is a store by translations that the walks give and that have dirty
 abbrev pub StoresLeaveCores : Type 0
-StoresLeaveCores = (v : View) (e : Event) (frames : ℕ → ℕ) → IsCore v → IsSized v → ServesEvent v frames e → IsStore e.call
-    → IsLeft v (next v.state e) (bytes_kept frames v.bytes e.call) (with_bytes v (next v.state e) (bytes_kept frames v.bytes e.call))
+StoresLeaveCores = (v : View) (e : Event) (frames : ℕ → ℕ) → IsCore v → ServesEvent v frames e → IsStore e.call
+    → IsLeft v (with_bytes v (next v.state e) (bytes_kept frames v.bytes e.call))
+
+-- a mark of a directory's word is no event, and leaves a core
+abbrev pub MarksLeaveCores : Type 0
+MarksLeaveCores = (v w : View) → IsCore v → IsMarked v w → IsLeft v w
 
 -- the plan of such an access maps no page and fills none, and its containers stay
 abbrev pub WalksTakeNoFrame : Type 0

@@ -29,7 +29,7 @@ ghost use Rattle.kernel_calls.specs.Decisions.{decision_of, charge_in, charge_af
 ghost use Rattle.kernel_calls.specs.declared.translations.Ended.TheVariants as end;
 ghost use Rattle.kernel_calls.specs.Gone.{gone_by, gives_back};
 ghost use Rattle.kernel_calls.specs.Along.{EndsInOrder};
-ghost use Rattle.kernel_calls.specs.Processors.{IsSized};
+ghost use Rattle.kernel_calls.specs.Processors.{IsCore};
 ghost use Rattle.kernel_calls.specs.Translations.{ended_by, Ends};
 ghost use Rattle.kernel_calls.specs.Written.{WritesItsOwn};
 
@@ -377,7 +377,7 @@ impl Core {
         ensures used { LeavesRoom (memory_of self.now) (total self.now.state) }
         ensures zeros { frame_bytes self.now.bytes 0 ≡ zeros }
         ensures well_formed { IsWellFormed self.now.state }
-        ensures sized { IsSized self.now }
+        ensures core { IsCore self.now }
     {
         self.processes.stands();
     }

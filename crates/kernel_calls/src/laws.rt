@@ -3,7 +3,8 @@
 ghost use Rattle.kernel_calls.specs.Along.{KeptThroughRuns};
 ghost use Rattle.kernel_calls.specs.Laws.{RunsStayWellFormed};
 ghost use Rattle.kernel_calls.specs.Kept.{KeptFind, KeptReply, KeptLoads, KeptStores};
-ghost use Rattle.kernel_calls.specs.Processors.{ProcessorsMakeEvents, EntriesLeadThere, WalksLeaveCores, StoresLeaveCores};
+ghost use Rattle.kernel_calls.specs.Processors.{ProcessorsMakeEvents, EntriesLeadThere, CoresAreWalked};
+ghost use Rattle.kernel_calls.specs.Processors.{WalksLeaveCores, StoresLeaveCores, MarksLeaveCores};
 ghost use Rattle.kernel_calls.specs.Processors.{WalksTakeNoFrame, WalksKeepContainers};
 ghost use Rattle.kernel_calls.specs.Translations.{KeptAreGiven};
 
@@ -31,17 +32,20 @@ pub fn kept_translations_serve_accesses()
     ensures stores { KeptStores }
 {}
 
-/// States what processors leave of a core's memory, with the same directories and roles. Suppose that the walks of a
-/// process's directory find a frame for each page of a load or a store. A processor then makes the access by itself. It
-/// sets accessed (and dirty) in the words that lead to each page, and reads the value, or writes its bytes, where they
-/// lead. That is the event. The value is the reply, and memory is a core's in the event's next state. No translation
-/// becomes stale, no frame is taken, and containers stay. A store by translations that the walks give is the event too,
-/// and writes its bytes only. It computes nothing.
+/// States what processors find and leave of a core's memory, with the same directories and roles. Each walk ends as the
+/// state says. Suppose that the walks of a process's directory find a frame for each page of a load or a store. A
+/// processor then makes the access by itself. It sets accessed (and dirty) in the words that lead to each page, and reads
+/// the value, or writes its bytes, where they lead. That is the event. The value is the reply, and memory is a core's in
+/// the event's next state. No translation becomes stale, no frame is taken, and containers stay. A store by translations
+/// that the walks give is the event too, and writes its bytes only. A mark of accessed in a directory's word is no event,
+/// and leaves a core. It computes nothing.
 pub fn processors_leave_cores()
+    ensures cores { CoresAreWalked }
     ensures walks { WalksLeaveCores }
     ensures plan { WalksTakeNoFrame }
     ensures containers { WalksKeepContainers }
     ensures stores { StoresLeaveCores }
+    ensures marks { MarksLeaveCores }
 {}
 
 /// States what holds of a core and any number of processors that cache translations, whatever steps they make in

@@ -5,6 +5,7 @@ use Rattle.std.specs.Option.{option_map, option_and_then}
 use Rattle.std.proofs.lemmas.Option.{slice_get_within}
 use Rattle.page_words.specs.Addresses.{page_number, offset_number, slot_number, index_number, start_number, byte_count, EachTouched}
 use Rattle.page_words.specs.declared.addresses.Size.{Size}
+use Rattle.kernel_calls.proofs.CoreMemory.{ways_of}
 use Rattle.kernel_calls.proofs.WalkedReplies.{goes_frameless, told_planned}
 use Rattle.page_words.specs.FiniteMap as map
 use Rattle.page_words.specs.FiniteSet as set
@@ -98,7 +99,7 @@ pub lazy_zero : (v : View) → IsCore v → (r : Slot) (word : ℕ) → page_wor
 lazy_zero v core r word is lazy =
     let way = way_at v r word is in
     eqb-true (frame_number word) 0
-    (sym (core.ways.lazy r way.0 (frame_number word) way.1) ∙ ap (λ (y : Option ℕ). unwrap_or (option_map is_lazy y) false) is ∙ lazy)
+    (sym ((ways_of core).lazy r way.0 (frame_number word) way.1) ∙ ap (λ (y : Option ℕ). unwrap_or (option_map is_lazy y) false) is ∙ lazy)
 
 module _ (v : View) (core : IsCore v) (base : State) (alike : Alike v.state base) (well : IsWellFormed base) (p : ℕ) where
   abbrev vs : View
@@ -118,7 +119,7 @@ module _ (v : View) (core : IsCore v) (base : State) (alike : Alike v.state base
       let small : a < 2 ^ 32 = omega (arith, low) in
       let walk = leads vs p page frame a access s here in
       let way = way_parts (memory_of v) (slot_at p a) s.given.directory frame
-      (core.ways.lead p s.given.directory a frame access (live vs p page frame access s) small walk) in
+      ((ways_of core).lead p s.given.directory a frame access (live vs p page frame access s) small walk) in
       let word = from_map frame_number (page_word (memory_of v) (slot_at p a)) frame way.names in
       record { word = word.0; there = sym (ap (λ n. page_word (memory_of v) (at_page p n)) here) ∙ word.1; names = word.2 }
 
@@ -135,7 +136,7 @@ module _ (v : View) (core : IsCore v) (base : State) (alike : Alike v.state base
       let here : page_number a ≡ page = omega arith in
       let small : a < 2 ^ 32 = omega (arith, low) in
       sym (ap (λ n. takes_stores v.state.spaces (memory_of v) (at_page p n)) here)
-      ∙ walk_takes v core.image core.walks core.ways p s.given.directory a frame (live vs p page frame Write s) small
+      ∙ walk_takes v core p s.given.directory a frame (live vs p page frame Write s) small
       (leads vs p page frame a Write s here)
 
   real_served : (page frame : ℕ) (s : Serves vs p page frame Write) → is_lazy (on_frame page frame Write s).word ≡ false

@@ -43,7 +43,8 @@ use Rattle.fault_handler.proofs.Settled.{each_page}
 use Rattle.fault_handler.proofs.Walked.{walk_completes}
 use Rattle.kernel_calls.proofs.Decided.{goes-call, next-goes}
 use Rattle.shootdowns.proofs.DirtyCells.{dirt, dirt_bytes, dirty_in, dirty_at, right_taken, get_dirty, grows_dirty, well_dirty, answer_dirty, next_dirty, after_store_dirty, HasDirty, own_dirty, still_dirty, right_keeps}
-use Rattle.shootdowns.proofs.Dirtied.{frame_apart, other_frame, long, dirtied, names_before, linked_before, all_same}
+use Rattle.shootdowns.proofs.Dirtied.{frame_apart, other_frame, dirtied}
+use Rattle.shootdowns.proofs.Remade.{Remade, remade, names_before, linked_before, all_same}
 use Rattle.shootdowns.proofs.Standing.{Taken, Going, Good, IsOne, is_event}
 use Rattle.shootdowns.proofs.StaleAccesses.{one_served}
 use Rattle.page_words.specs.FiniteMap as map
@@ -153,8 +154,11 @@ module _ (x : Ended) (done : Acknowledged) (e : Event) (r : Reply) (keeps : Proc
     abbrev byte_list : List ℕ
     byte_list = with_word w.bytes (word_place table.0 (index_number page)) (with_flag (word_at w.bytes (word_place table.0 (index_number page))) 6 true)
 
+    dirtied_now : Remade w (frame_at w) (same slot_order (at_page p page)) (next (dirty_at (at_page p page) s) e) byte_list
+    dirtied_now = dirtied w g.stands.0 size p page table.0 word.0 (next (dirty_at (at_page p page) s) e) table.1 word.1 real touched book well_after cells
+
     core : IsCore (record w { bytes = byte_list; state = next (dirty_at (at_page p page) s) e })
-    core = dirtied w g.stands.0 size p page table.0 word.0 (next (dirty_at (at_page p page) s) e) table.1 word.1 real touched book well_after cells
+    core = remade w g.stands.0 (frame_at w) (same slot_order (at_page p page)) (next (dirty_at (at_page p page) s) e) byte_list dirtied_now
 
     -- the frame of a cell of the order isn't that of the table
     apart : (slot : Slot) (c : Cell) → map.get s.spaces slot ≡ Some c → frame_at v slot ≢ table.0
@@ -193,31 +197,33 @@ module _ (x : Ended) (done : Acknowledged) (e : Event) (r : Reply) (keeps : Proc
 
     names : (slot : Slot) (n : ℕ) → page_word (memory_of (record w { bytes = byte_list; state = next (dirty_at (at_page p page) s) e })) slot ≡ Some n
         → (m : ℕ) × (page_word (memory_of w) slot ≡ Some m) × (frame_number m ≡ frame_number n)
-    names = names_before w g.stands.0 size p page table.0 word.0 (next (dirty_at (at_page p page) s) e) table.1 word.1 real touched book well_after cells
+    names = names_before w g.stands.0 (frame_at w) (same slot_order (at_page p page)) (next (dirty_at (at_page p page) s) e) byte_list dirtied_now
 
     long_now : length byte_list ≡ length w.bytes
-    long_now = long w g.stands.0 size p page table.0 word.0 (next (dirty_at (at_page p page) s) e) table.1 word.1 real touched book well_after cells
+    long_now = dirtied_now.long
 
     taken : Taken v e (dirty_at (at_page p page) s) (record w { bytes = byte_list; state = next (dirty_at (at_page p page) s) e }) keeps
     taken = record {
-      before = k.before;
-      well = well_now;
-      alike = alike;
+      behind = record {
+        before = k.before;
+        well = well_now;
+        alike = alike;
+        state = full;
+        names = λ slot n is. (let m = names slot n is in k.names slot m.0 m.1 ∙ m.2);
+        homes = λ slot n d is live. (let m = names slot n is in k.homes slot m.0 d m.1 live);
+        tables = λ q region f is. k.tables q region f
+            (linked_before w g.stands.0 (frame_at w) (same slot_order (at_page p page)) (next (dirty_at (at_page p page) s) e) byte_list dirtied_now q region f is);
+        pages = k.pages;
+        long = long_now ∙ k.long;
+      };
       read = read;
-      state = full;
-      names = λ slot n is. (let m = names slot n is in k.names slot m.0 m.1 ∙ m.2);
-      homes = λ slot n d is live. (let m = names slot n is in k.homes slot m.0 d m.1 live);
-      tables = λ q region f is. k.tables q region f
-          (linked_before w g.stands.0 size p page table.0 word.0 (next (dirty_at (at_page p page) s) e) table.1 word.1 real touched book well_after cells q region f is);
-      pages = k.pages;
-      long = long_now ∙ k.long;
     }
 
     going_so : Going x done e r (dirty_at (at_page p page) s) (record w { bytes = byte_list; state = next (dirty_at (at_page p page) s) e }) keeps v
     going_so = record {
       stands = (
         core,
-        λ j. all_same w g.stands.0 size p page table.0 word.0 (next (dirty_at (at_page p page) s) e) table.1 word.1 real touched book well_after cells (usable x done keeps j) (g.stands.1 j),
+        λ j. all_same w g.stands.0 (frame_at w) (same slot_order (at_page p page)) (next (dirty_at (at_page p page) s) e) byte_list dirtied_now (usable x done keeps j) (g.stands.1 j),
         refl,
         g.stands.3 ∙ sym (answer_dirty (at_page p page) s e right),
       );

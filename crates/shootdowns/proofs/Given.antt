@@ -15,6 +15,7 @@ use Rattle.process_table.specs.Image.{memory_of}
 use Rattle.process_table.specs.View.{View}
 use Rattle.kernel_calls.specs.Processors.{IsCore}
 use Rattle.kernel_calls.specs.Translations.{IsGiven}
+use Rattle.kernel_calls.proofs.CoreMemory.{ways_of}
 use Rattle.kernel_calls.proofs.Flags.{has}
 use Rattle.kernel_calls.proofs.Translated.{walk_finds}
 use Rattle.shootdowns.proofs.Accesses.{word_mapped, way_at}
@@ -35,7 +36,7 @@ module _ (v : View) (core : IsCore v) (p page : ℕ) (c : Cell) (there : map.get
       by : (b : Bool) → is_lazy word.0 ≡ b → is_lazy word.0 ≡ false
       by false is = is
       by true is = absurd (
-          let clean : is_dirty word.0 ≡ false = core.ways.clean (at_page p page) word.0 word.1 is in
+          let clean : is_dirty word.0 ≡ false = (ways_of core).clean (at_page p page) word.0 word.1 is in
           let k : true ≡ false = sym dirty ∙ (stands_at v core (at_page p page) c word.0 there word.1).dirty ∙ clean in
           cc)
 
@@ -46,7 +47,7 @@ module _ (v : View) (core : IsCore v) (p page : ℕ) (c : Cell) (there : map.get
   given_frame = frame_number word.0
 
   found : (access : Access) (a : ℕ) → a < 2 ^ 32 → page_number a ≡ page → walk_of v.bytes way.0 a access ≡ Ok (frame_number word.0)
-  found access a small here = walk_finds v core.image core.walks core.ways p way.0 a (frame_number word.0) access small
+  found access a small here = walk_finds v core p way.0 a (frame_number word.0) access small
       (ap (λ n. way_of (memory_of v) (at_page p n)) here ∙ way.1)
       (λ _. (
         ap (λ n. has (λ (k : Cell). k.write) (map.get v.state.spaces (at_page p n))) here ∙ ap (has (λ (k : Cell). k.write)) there ∙ write,

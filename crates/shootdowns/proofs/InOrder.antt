@@ -10,7 +10,7 @@ use Rattle.phys_memory.specs.Bytes.{frame_bytes, word_at, word_place, with_word_
 use Rattle.phys_memory.proofs.Frames.{frames-with_word, with_frame-other}
 use Rattle.alloc_table.specs.declared.Role.{Role}
 use Rattle.alloc_table.specs.declared.Role.TheVariants.{Free, Directory, Page}
-use Rattle.address_space.specs.ByWalk.{with_walked, walked_word}
+use Rattle.address_space.specs.ByWalk.{walked_word}
 use Rattle.address_space.specs.Image.{page_word}
 use Rattle.address_space.specs.View.{directory_of}
 use Rattle.address_space.specs.Spaces.{Slot, Cell, Spaces, with_bytes}
@@ -25,9 +25,9 @@ use Rattle.kernel_calls.specs.declared.calls.Event.{Event}
 use Rattle.kernel_calls.specs.declared.calls.Reply.{Reply}
 use Rattle.kernel_calls.specs.declared.translations.Ended.{Ended}
 use Rattle.kernel_calls.proofs.Leaving.{left_read}
+use Rattle.kernel_calls.proofs.LeftByProcessors.{walks_leave_cores, marks_leave_cores}
 use Rattle.kernel_calls.proofs.MixedRuns.{among_read, read_with, one}
 use Rattle.kernel_calls.proofs.Runs.{kept-next}
-use Rattle.kernel_calls.proofs.WalkedReplies.{answered, lives}
 use Rattle.shootdowns.specs.Windows.{only_takes, Acknowledged, nobody, usable, Moment, acknowledged, ended_in, settled, under_way, LeavesFree, Step, begun, loaded, stored, walked, marked, ordered, usual, refilled, forgotten, invalidated, told, Steps, none, first, memory_in, state_of, Stands, ShootdownsMakeEvents, stored_clean}
 use Rattle.shootdowns.proofs.Accesses.{frame_at}
 use Rattle.shootdowns.proofs.Alike.{Alike, with_state, FlagsGrow, flags_read, alike_same, alike_then}
@@ -53,8 +53,8 @@ stay_read : (w u : View) → Ends end.Nothing w u → (kept : List Kept) → Are
 stay_read w u ends kept all = subst (AreRead u) (none_left kept) (left_read end.Nothing w u kept ends all)
 
 -- a mark writes in a directory
-mark_leaves : (w : View) → IsCore w → (u : View) → (k : IsMarked w u) → u.bytes ≡ with_walked w.bytes k.directory k.page k.walked → LeavesFree w u
-mark_leaves w core u k is f free =
+mark_leaves : (w : View) → IsCore w → (u : View) → IsMarked w u → LeavesFree w u
+mark_leaves w core u k f free =
     let role = (core.image.memory.sound.directories k.directory k.pid).1 k.live in
     let within = slice_get_within w.roles k.directory (Directory k.pid) role in
     let size = core.image.memory.sound.size in
@@ -63,7 +63,7 @@ mark_leaves w core u k is f free =
     let apart : f ≢ k.directory = λ same. (
     let n : ◌≡◌ {A = Option Role} (Some Free) (Some (Directory k.pid)) = sym free ∙ ap (slice_get w.roles) same ∙ role in
     cc) in
-    ap (λ b. frame_bytes b f) is
+    ap (λ (z : View). frame_bytes z.bytes f) k.left
     ∙ ap (λ (m : ℕ → List ℕ). m f) (frames-with_word w.bytes k.directory (slot_number k.page) (walked_word k.walked (word_at w.bytes (word_place k.directory (slot_number k.page)))) (omega (arith, high)) (omega (arith, within, size)))
     ∙ with_frame-other (frame_bytes w.bytes) k.directory f (with_word_in (frame_bytes w.bytes k.directory) (slot_number k.page) (walked_word k.walked (word_at w.bytes (word_place k.directory (slot_number k.page))))) apart
 
@@ -75,18 +75,20 @@ onward : (x : Ended) (done : Acknowledged) (e : Event) (r : Reply) (s t : State)
     → ((b : Slot) (k : Cell) → is_some (map.get w.state.spaces b) ≡ true → map.get s.spaces b ≡ Some k → set.contains k.holders slot ≡ false) → d.bytes ≡ c.bytes)
     → Taken v e t u keeps
 onward x done e r s t w u keeps takes v k core later state_w state_u dirs roles ends free well book grows keys beside = record {
-  before = k.before;
-  well = well;
-  alike = alike;
+  behind = record {
+    before = k.before;
+    well = well;
+    alike = alike;
+    state = ap (λ (S : Spaces). record t { spaces = S }) (same_map _ _ (λ slot. full slot (map.get t.spaces slot) refl ∙ sym (get_filled (frame_at v) u.bytes t.spaces slot)));
+    names = names_u;
+    homes = λ slot word d is live.
+        let old = names_onward w u core later ends (λ q h. sym (keys q) ∙ h) slot word is in
+        k.homes slot old.0 d old.1 (ap (λ (l : List (Option ℕ)). directory_of l slot.pid) (sym dirs) ∙ live);
+    tables = λ p region f is. k.tables p region f (tables_onward w u core later ends (λ q h. sym (keys q) ∙ h) p region f is);
+    pages = λ f c is. subst (λ (l : List Role). (slice_get l f ≡ Some Free) ⊎ ((d : ℕ) × (slice_get l f ≡ Some (Page d)))) (sym roles) (k.pages f c is);
+    long = later.image.memory.sound.size ∙ ap (λ (l : List Role). 4096 * length l) roles ∙ sym core.image.memory.sound.size ∙ k.long;
+  };
   read = λ j. flags_read v s t flags (keeps j) (k.read j);
-  state = ap (λ (S : Spaces). record t { spaces = S }) (same_map _ _ (λ slot. full slot (map.get t.spaces slot) refl ∙ sym (get_filled (frame_at v) u.bytes t.spaces slot)));
-  names = names_u;
-  homes = λ slot word d is live.
-      let old = names_onward w u core later ends (λ q h. sym (keys q) ∙ h) slot word is in
-      k.homes slot old.0 d old.1 (ap (λ (l : List (Option ℕ)). directory_of l slot.pid) (sym dirs) ∙ live);
-  tables = λ p region f is. k.tables p region f (tables_onward w u core later ends (λ q h. sym (keys q) ∙ h) p region f is);
-  pages = λ f c is. subst (λ (l : List Role). (slice_get l f ≡ Some Free) ⊎ ((d : ℕ) × (slice_get l f ≡ Some (Page d)))) (sym roles) (k.pages f c is);
-  long = later.image.memory.sound.size ∙ ap (λ (l : List Role). 4096 * length l) roles ∙ sym core.image.memory.sound.size ∙ k.long;
 }
   where
     names_u : (slot : Slot) (word : ℕ) → page_word (memory_of u) slot ≡ Some word → frame_at v slot ≡ frame_number word
@@ -118,26 +120,28 @@ one_walked x done e r s w u keeps takes good a q k free =
     let goes = done_in s t.1.well e takes w core state a k.directory k.live k.finds in
     let later = done_after s t.1.well e takes w core state a k.directory k.live k.finds in
     let mapped = mapped_before s e a.pid a.call pages in
-    let now : u.state ≡ next (next s a) e = k.left.state ∙ ap (λ (z : State). next z a) state ∙ turned s e a takes pages goes later in
+    let left = walks_leave_cores w u a q core k in
+    let state_u : u.state ≡ next w.state a = ap (λ (z : View). z.state) k.left in
+    let now : u.state ≡ next (next s a) e = state_u ∙ ap (λ (z : State). next z a) state ∙ turned s e a takes pages goes later in
     let grows = next_grows s a goes mapped in
     let book = next_book s a goes mapped in
     let keys : (slot : Slot) → map.contains_key u.state.spaces slot ≡ map.contains_key w.state.spaces slot = λ slot.
-    ap (λ (z : State). map.contains_key z.spaces slot) (k.left.state ∙ ap (λ (z : State). next z a) state)
+    ap (λ (z : State). map.contains_key z.spaces slot) (state_u ∙ ap (λ (z : State). next z a) state)
     ∙ keys_of (next s e).spaces (next (next s e) a).spaces (next_grows (next s e) a later (mapped_after s e a.pid a.call (next s e) refl pages)) slot
     ∙ sym (ap (λ (z : State). map.contains_key z.spaces slot) state) in
     is_event (under_way x done e r s w) (under_way x done e r (next s a) u) a q keeps
-    (k.found ∙ sym (answered w a k.directory core k.finds k.live) ∙ same_answer s t.1.well e takes w core state a k.directory k.live k.finds)
+    (left.0 ∙ same_answer s t.1.well e takes w core state a k.directory k.live k.finds)
     refl
     (record {
       stands = (
-        k.left.core,
-        λ j. stay_read w u k.left.ends (usable x done keeps j) (good.stands.1 j),
+        left.1.core,
+        λ j. stay_read w u left.1.ends (usable x done keeps j) (good.stands.1 j),
         now,
         good.stands.3 ∙ sym (answer_alike s (next s a) e takes book grows),
       );
       taken = λ _. (
         t.0,
-        onward x done e r s (next s a) w u keeps takes t.0 t.1 core k.left.core state now k.left.directories k.left.roles k.left.ends free (kept-next s a t.1.well).0 book grows keys
+        onward x done e r s (next s a) w u keeps takes t.0 t.1 core left.1.core state now (ap (λ (z : View). z.directories) k.left) (ap (λ (z : View). z.roles) k.left) left.1.ends free (kept-next s a t.1.well).0 book grows keys
             (bytes_beside s t.1.well e takes w core state a k.directory k.live k.finds),
       );
     })
@@ -147,14 +151,15 @@ one_marked : (x : Ended) (done : Acknowledged) (e : Event) (r : Reply) (s : Stat
 one_marked x done e r s w u keeps takes good k =
     let core = good.stands.0 in
     let t = good.taken takes in
-    let left = k.left (lives w core k.pid k.directory k.live) in
+    let left = marks_leave_cores w u core k in
+    let same : u.state ≡ w.state = ap (λ (z : View). z.state) k.left in
     is_none (under_way x done e r s w) (under_way x done e r s u) keeps refl
     (record {
-      stands = (left.core, λ j. stay_read w u left.ends (usable x done keeps j) (good.stands.1 j), left.state ∙ good.stands.2, good.stands.3);
+      stands = (left.core, λ j. stay_read w u left.ends (usable x done keeps j) (good.stands.1 j), same ∙ good.stands.2, good.stands.3);
       taken = λ _. (
         t.0,
-        onward x done e r s s w u keeps takes t.0 t.1 core left.core good.stands.2 (left.state ∙ good.stands.2) left.directories left.roles left.ends (mark_leaves w core u k left.bytes) t.1.well refl (grows_same s.spaces)
-            (λ slot. ap (λ (z : State). map.contains_key z.spaces slot) left.state)
+        onward x done e r s s w u keeps takes t.0 t.1 core left.core good.stands.2 (same ∙ good.stands.2) (ap (λ (z : View). z.directories) k.left) (ap (λ (z : View). z.roles) k.left) left.ends (mark_leaves w core u k) t.1.well refl (grows_same s.spaces)
+            (λ slot. ap (λ (z : State). map.contains_key z.spaces slot) same)
             (λ slot c d at now gone out. (let e : Some d ≡ Some c = sym now ∙ at in let q : d ≡ c = cc in ap (λ (z : Cell). z.bytes) q)),
       );
     })
@@ -170,19 +175,7 @@ more_kept (under_way x done e r s w) keeps i k read good = record {
   taken = λ takes.
       let t = good.taken takes in (
         t.0,
-        record {
-          before = t.1.before;
-          well = t.1.well;
-          alike = t.1.alike;
-          read = read_with (with_state t.0 s) keeps i (k ∷ keeps i) t.1.read
-              (read_before t.0 t.1.before s t.1.alike e takes w good.stands.0 good.stands.2 t.1.names t.1.homes t.1.tables k read, t.1.read i);
-          state = t.1.state;
-          names = t.1.names;
-          homes = t.1.homes;
-          tables = t.1.tables;
-          pages = t.1.pages;
-          long = t.1.long;
-        },
+        record { behind = t.1.behind; read = read_with (with_state t.0 s) keeps i (k ∷ keeps i) t.1.read (read_before t.0 t.1.before s t.1.alike e takes w good.stands.0 good.stands.2 t.1.names t.1.homes t.1.tables k read, t.1.read i) },
       );
 }
 
@@ -201,18 +194,7 @@ done_kept (under_way x done e r s w) keeps i good = record {
   taken = λ takes.
       let t = good.taken takes in (
         t.0,
-        record {
-          before = t.1.before;
-          well = t.1.well;
-          alike = t.1.alike;
-          read = read_with (with_state t.0 s) keeps i (left_by x (keeps i)) t.1.read (left_all x (with_state t.0 s) (keeps i) (t.1.read i));
-          state = t.1.state;
-          names = t.1.names;
-          homes = t.1.homes;
-          tables = t.1.tables;
-          pages = t.1.pages;
-          long = t.1.long;
-        },
+        record { behind = t.1.behind; read = read_with (with_state t.0 s) keeps i (left_by x (keeps i)) t.1.read (left_all x (with_state t.0 s) (keeps i) (t.1.read i)) },
       );
 }
 
@@ -228,18 +210,7 @@ fewer_kept (under_way x done e r s w) keeps i left among good = record {
   taken = λ takes.
       let t = good.taken takes in (
         t.0,
-        record {
-          before = t.1.before;
-          well = t.1.well;
-          alike = t.1.alike;
-          read = read_with (with_state t.0 s) keeps i left t.1.read (among_read (with_state t.0 s) left (keeps i) among (t.1.read i));
-          state = t.1.state;
-          names = t.1.names;
-          homes = t.1.homes;
-          tables = t.1.tables;
-          pages = t.1.pages;
-          long = t.1.long;
-        },
+        record { behind = t.1.behind; read = read_with (with_state t.0 s) keeps i left t.1.read (among_read (with_state t.0 s) left (keeps i) among (t.1.read i)) },
       );
 }
 
@@ -254,16 +225,18 @@ step (begun {v = v} {w = w} {done = done} {keeps = keeps} {e = e} {r = r} b) goo
           let stand = pages_stand v w good.stands.0 b.carried.core e b.carried.state b.stay b.loose takes in (
             v,
             record {
-              before = good.stands.0;
-              well = good.stands.0.well_formed;
-              alike = alike_same v.state;
+              behind = record {
+                before = good.stands.0;
+                well = good.stands.0.well_formed;
+                alike = alike_same v.state;
+                state = filled_first v w good.stands.0 b.carried.core e takes b.carried.state b.stay stand;
+                names = names_stay v w good.stands.0 b.carried.core e takes b.carried.state b.stay stand;
+                homes = homes_stay v w good.stands.0 b.carried.core e takes b.carried.state b.stay stand;
+                tables = tables_stay v w good.stands.0 b.carried.core e takes b.carried.state b.stay stand;
+                pages = λ f c is. (stand.each f c is).1;
+                long = long_stays v w good.stands.0 b.carried.core e takes b.carried.state b.stay stand;
+              };
               read = read;
-              state = filled_first v w good.stands.0 b.carried.core e takes b.carried.state b.stay stand;
-              names = names_stay v w good.stands.0 b.carried.core e takes b.carried.state b.stay stand;
-              homes = homes_stay v w good.stands.0 b.carried.core e takes b.carried.state b.stay stand;
-              tables = tables_stay v w good.stands.0 b.carried.core e takes b.carried.state b.stay stand;
-              pages = λ f c is. (stand.each f c is).1;
-              long = long_stays v w good.stands.0 b.carried.core e takes b.carried.state b.stay stand;
             },
           );
     })

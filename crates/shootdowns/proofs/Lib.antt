@@ -9,6 +9,7 @@ pub mod InOrder
 pub mod Kept
 pub mod Onward
 pub mod Refilled
+pub mod Remade
 pub mod Rewritten
 pub mod Rows
 pub mod Shadowed

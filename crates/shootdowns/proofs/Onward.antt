@@ -30,6 +30,7 @@ use Rattle.kernel_calls.specs.Processors.{IsCore}
 use Rattle.kernel_calls.specs.Translations.{Ends, WalkGives}
 use Rattle.kernel_calls.specs.declared.calls.Event.{Event}
 use Rattle.kernel_calls.specs.declared.translations.Ended.TheVariants as end
+use Rattle.kernel_calls.proofs.CoreMemory.{walks_of, ways_of}
 use Rattle.kernel_calls.proofs.Linked.{tables_map}
 use Rattle.shootdowns.specs.Windows.{only_takes}
 use Rattle.shootdowns.proofs.Accesses.{frame_at, frame_is, word_mapped, way_at, table_of_word, lazy_zero}
@@ -83,11 +84,11 @@ names_onward w x core later ends back slot word is =
     let there : map.get w.state.spaces (slot_at slot.pid a) ≡ Some cell.0 = ap (λ n. map.get w.state.spaces (at_page slot.pid n)) here ∙ cell.1 in
     let found = walk way.0 a small parts.live cell.0 there in
     let lead : way_of (memory_of w) slot ≡ Some (way.0, found.0) =
-    sym (ap (λ n. way_of (memory_of w) (at_page slot.pid n)) here) ∙ core.ways.lead slot.pid way.0 a found.0 Read parts.live small found.1 in
+    sym (ap (λ n. way_of (memory_of w) (at_page slot.pid n)) here) ∙ (ways_of core).lead slot.pid way.0 a found.0 Read parts.live small found.1 in
     let one = way_parts (memory_of w) slot way.0 found.0 lead in
     let gives : WalkGives (memory_of x) slot.pid way.0 a Read found.0 = ends.translations slot.pid way.0 a found.0 Read small refl (parts.live, found.1) in
     let now : way_of (memory_of x) slot ≡ Some (way.0, found.0) =
-    sym (ap (λ n. way_of (memory_of x) (at_page slot.pid n)) here) ∙ later.ways.lead slot.pid way.0 a found.0 Read gives.0 small gives.1 in
+    sym (ap (λ n. way_of (memory_of x) (at_page slot.pid n)) here) ∙ (ways_of later).lead slot.pid way.0 a found.0 Read gives.0 small gives.1 in
     let two = way_parts (memory_of x) slot way.0 found.0 now in
     let e : Some (frame_number old.0) ≡ Some found.0 = sym (ap (option_map frame_number) old.1) ∙ one.names in
     let f : Some (frame_number word) ≡ Some found.0 = sym (ap (option_map frame_number) is) ∙ two.names in
@@ -96,7 +97,7 @@ names_onward w x core later ends back slot word is =
   where
     walk : (d a : ℕ) → a < 2 ^ 32 → directory_at (memory_of w) slot.pid ≡ Some d → (c : Cell) → map.get w.state.spaces (slot_at slot.pid a) ≡ Some c
         → (f : ℕ) × (walk_of w.bytes d a Read ≡ Ok f)
-    walk d a small live c there = by (map.get w.state.spaces (slot_at slot.pid a)) there (core.walks slot.pid d a Read live small)
+    walk d a small live c there = by (map.get w.state.spaces (slot_at slot.pid a)) there (walks_of core slot.pid d a Read live small)
       where
         by : (z : Option Cell) → z ≡ Some c → WalkEndsBy w.bytes d a Read (is_lazy_at (memory_of w) (slot_at slot.pid a)) z → (f : ℕ) × (walk_of w.bytes d a Read ≡ Ok f)
         by None k h = cc

@@ -20,6 +20,7 @@ use Rattle.kernel_calls.specs.Machine.{next}
 use Rattle.kernel_calls.specs.Processors.{IsCore}
 use Rattle.kernel_calls.specs.Translations.{Kept, Translation, IsGiven, translation, directory_entry, IsRead}
 use Rattle.kernel_calls.specs.declared.calls.Event.{Event}
+use Rattle.kernel_calls.proofs.CoreMemory.{walks_of, ways_of}
 use Rattle.kernel_calls.proofs.Translated.{walk_takes}
 use Rattle.shootdowns.specs.Windows.{only_takes}
 use Rattle.shootdowns.proofs.Accesses.{frame_at, frame_is, word_mapped, both, real_by}
@@ -47,7 +48,7 @@ module _ (v : View) (before : IsCore v) (s : State) (alike : Alike v.state s) (e
     leads : (a f : ℕ) (access : Access) → a < 2 ^ 32 → page_number a ≡ k.slot.page → walk_of w.bytes given.directory a access ≡ Ok f → frame_at v k.slot ≡ f
     leads a f access small here found =
         let way : way_of (memory_of w) k.slot ≡ Some (given.directory, f) =
-        sym (ap (λ n. way_of (memory_of w) (at_page k.slot.pid n)) here) ∙ core.ways.lead k.slot.pid given.directory a f access given.live small found in
+        sym (ap (λ n. way_of (memory_of w) (at_page k.slot.pid n)) here) ∙ (ways_of core).lead k.slot.pid given.directory a f access given.live small found in
         let parts = way_parts (memory_of w) k.slot given.directory f way in
         let n = from_map frame_number (page_word (memory_of w) k.slot) f parts.names in
         names k.slot n.0 n.1 ∙ n.2
@@ -56,7 +57,7 @@ module _ (v : View) (before : IsCore v) (s : State) (alike : Alike v.state s) (e
     led : (a f : ℕ) (access : Access) → a < 2 ^ 32 → page_number a ≡ k.slot.page → walk_of v.bytes given.directory a access ≡ Ok f → f ≡ frame_at v k.slot
     led a f access small here found =
         let way : way_of (memory_of v) k.slot ≡ Some (given.directory, f) =
-        sym (ap (λ n. way_of (memory_of v) (at_page k.slot.pid n)) here) ∙ before.ways.lead k.slot.pid given.directory a f access live small found in
+        sym (ap (λ n. way_of (memory_of v) (at_page k.slot.pid n)) here) ∙ (ways_of before).lead k.slot.pid given.directory a f access live small found in
         let parts = way_parts (memory_of v) k.slot given.directory f way in
         let n = from_map frame_number (page_word (memory_of v) k.slot) f parts.names in
         sym (frame_is v k.slot n.0 n.1 ∙ n.2)
@@ -65,7 +66,7 @@ module _ (v : View) (before : IsCore v) (s : State) (alike : Alike v.state s) (e
     there a here = ap (λ n. map.get v.state.spaces (at_page k.slot.pid n)) here ∙ first.1
 
     read : (a : ℕ) → a < 2 ^ 32 → page_number a ≡ k.slot.page → walk_of v.bytes given.directory a Read ≡ Ok k.frame
-    read a small here = by (map.get v.state.spaces (slot_at k.slot.pid a)) (there a here) (before.walks k.slot.pid given.directory a Read live small)
+    read a small here = by (map.get v.state.spaces (slot_at k.slot.pid a)) (there a here) (walks_of before k.slot.pid given.directory a Read live small)
       where
         by : (z : Option Cell) → z ≡ Some first.0 → WalkEndsBy v.bytes given.directory a Read (is_lazy_at (memory_of v) (slot_at k.slot.pid a)) z → walk_of v.bytes given.directory a Read ≡ Ok k.frame
         by None l h = cc
@@ -74,24 +75,24 @@ module _ (v : View) (before : IsCore v) (s : State) (alike : Alike v.state s) (e
     -- a lazy page is lazy on both sides
     lazies : (a : ℕ) → a < 2 ^ 32 → page_number a ≡ k.slot.page → is_lazy_at (memory_of v) (slot_at k.slot.pid a) ≡ is_lazy_at (memory_of w) (slot_at k.slot.pid a)
     lazies a small here =
-        before.ways.lazy (slot_at k.slot.pid a) given.directory k.frame (before.ways.lead k.slot.pid given.directory a k.frame Read live small (read a small here))
-        ∙ sym (core.ways.lazy (slot_at k.slot.pid a) given.directory k.frame (core.ways.lead k.slot.pid given.directory a k.frame Read given.live small (given.read a small here)))
+        (ways_of before).lazy (slot_at k.slot.pid a) given.directory k.frame ((ways_of before).lead k.slot.pid given.directory a k.frame Read live small (read a small here))
+        ∙ sym ((ways_of core).lazy (slot_at k.slot.pid a) given.directory k.frame ((ways_of core).lead k.slot.pid given.directory a k.frame Read given.live small (given.read a small here)))
 
     written : k.write ≡ true → (a : ℕ) → a < 2 ^ 32 → page_number a ≡ k.slot.page → walk_of v.bytes given.directory a Write ≡ Ok k.frame
     written writes a small here =
-        by (map.get v.state.spaces (slot_at k.slot.pid a)) (there a here) (before.walks k.slot.pid given.directory a Write live small)
+        by (map.get v.state.spaces (slot_at k.slot.pid a)) (there a here) (walks_of before k.slot.pid given.directory a Write live small)
       where
         may : takes_stores w.state.spaces (memory_of w) (slot_at k.slot.pid a) ≡ true
-        may = walk_takes w core.image core.walks core.ways k.slot.pid given.directory a k.frame given.live small (given.written writes a small here)
+        may = walk_takes w core k.slot.pid given.directory a k.frame given.live small (given.written writes a small here)
 
         right : ((cell_or_fresh w.state.spaces (slot_at k.slot.pid a)).write ≡ true) × (not (is_lazy_at (memory_of w) (slot_at k.slot.pid a)) ≡ true)
         right = both (cell_or_fresh w.state.spaces (slot_at k.slot.pid a)).write (not (is_lazy_at (memory_of w) (slot_at k.slot.pid a)))
-            (both (map.contains_key w.state.spaces (slot_at k.slot.pid a)) _ (walk_takes w core.image core.walks core.ways k.slot.pid given.directory a k.frame given.live small (given.written writes a small here))).1
+            (both (map.contains_key w.state.spaces (slot_at k.slot.pid a)) _ (walk_takes w core k.slot.pid given.directory a k.frame given.live small (given.written writes a small here))).1
 
         cell_writes : given.cell.write ≡ true
         cell_writes =
             let r = both (cell_or_fresh w.state.spaces (slot_at k.slot.pid a)).write (not (is_lazy_at (memory_of w) (slot_at k.slot.pid a)))
-            (both (map.contains_key w.state.spaces (slot_at k.slot.pid a)) _ (walk_takes w core.image core.walks core.ways k.slot.pid given.directory a k.frame given.live small (given.written writes a small here))).1 in
+            (both (map.contains_key w.state.spaces (slot_at k.slot.pid a)) _ (walk_takes w core k.slot.pid given.directory a k.frame given.live small (given.written writes a small here))).1 in
             sym (ap (λ (z : Option Cell). (unwrap_or z (fresh (slot_at k.slot.pid a) true)).write) (ap (λ n. map.get w.state.spaces (at_page k.slot.pid n)) here ∙ given.mapped)) ∙ r.0
 
         before_writes : first.0.write ≡ true
@@ -100,7 +101,7 @@ module _ (v : View) (before : IsCore v) (s : State) (alike : Alike v.state s) (e
         real : is_lazy_at (memory_of v) (slot_at k.slot.pid a) ≡ false
         real =
             let r = both (cell_or_fresh w.state.spaces (slot_at k.slot.pid a)).write (not (is_lazy_at (memory_of w) (slot_at k.slot.pid a)))
-            (both (map.contains_key w.state.spaces (slot_at k.slot.pid a)) _ (walk_takes w core.image core.walks core.ways k.slot.pid given.directory a k.frame given.live small (given.written writes a small here))).1 in
+            (both (map.contains_key w.state.spaces (slot_at k.slot.pid a)) _ (walk_takes w core k.slot.pid given.directory a k.frame given.live small (given.written writes a small here))).1 in
             lazies a small here ∙ real_by (is_lazy_at (memory_of w) (slot_at k.slot.pid a)) r.1
 
         by : (z : Option Cell) → z ≡ Some first.0 → WalkEndsBy v.bytes given.directory a Write (is_lazy_at (memory_of v) (slot_at k.slot.pid a)) z → walk_of v.bytes given.directory a Write ≡ Ok k.frame

@@ -32,7 +32,8 @@ use Rattle.shootdowns.specs.Shadows.{StoresZeros, Uses, none, loaded, stored, Co
 use Rattle.shootdowns.proofs.Accesses.{frame_at, frame_is, word_mapped, kept_answer, kept_next, kept_beside, kept_long}
 use Rattle.shootdowns.proofs.Alike.{Alike, with_state, FlagsGrow, flags_read, alike_then, alike_filled, again}
 use Rattle.shootdowns.proofs.Filled.{fill, filled_state, get_filled}
-use Rattle.shootdowns.proofs.Rewritten.{is_fixed, rewritten, word_same}
+use Rattle.shootdowns.proofs.Remade.{Remade, remade, names_before}
+use Rattle.shootdowns.proofs.Rewritten.{is_fixed, no_slot, rewritten}
 use Rattle.shootdowns.proofs.StaleAccesses.{load_leaves}
 use Rattle.shootdowns.proofs.Taking.{cell_bytes}
 use Rattle.shootdowns.proofs.Zeros.{NoPage, grows, same_book, alike, full_bytes, split, still_page}
@@ -130,14 +131,16 @@ module _ (v : View) (before : IsCore v) (keeps : Processors) where
       store_flags : FlagsGrow u.state (next u.state a)
       store_flags slot c at = (fill (frame_at v) bytes slot c, store_get slot ∙ ap (option_map (fill (frame_at v) bytes slot)) at, λ h. h, λ h. h)
 
+      store_remade : Remade u (frame_at u) no_slot (next u.state a) bytes
+      store_remade = rewritten u t.core (frame_at u) (next u.state a) bytes store_long store_fixed (frame_is u) store_book store_well store_cells
+
       store_after : After v keeps store_view
       store_after = record {
-        core = rewritten u t.core bytes (next u.state a) (frame_at u) store_long store_fixed store_book store_well (λ slot n is. frame_is u slot n is) store_cells;
+        core = remade u t.core (frame_at u) no_slot (next u.state a) bytes store_remade;
         like = alike_then v.state u.state (next u.state a) t.like (alike_filled u.state (next u.state a) (frame_at v) bytes store_book store_get);
         full = again (frame_at v) bytes u.state (next u.state a) store_state;
         read = λ j. flags_read v u.state (next u.state a) store_flags (keeps j) (t.read j);
-        parted = λ slot m is. t.parted slot m
-            (word_same u t.core bytes (next u.state a) (frame_at u) store_long store_fixed store_book store_well (λ slot n is. frame_is u slot n is) store_cells slot m is);
+        parted = λ slot m is. (let n = names_before u t.core (frame_at u) no_slot (next u.state a) bytes store_remade slot m is in subst (λ f. (frame_at v slot ≡ f) ⊎ (NoPage v (frame_at v slot) × NoPage v f)) n.2 (t.parted slot n.0 n.1));
         pages = t.pages;
         long = store_long ∙ t.long;
       }

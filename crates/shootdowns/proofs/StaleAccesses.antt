@@ -23,7 +23,8 @@ use Rattle.shootdowns.specs.Windows.{only_takes, Acknowledged, usable, under_way
 use Rattle.shootdowns.proofs.Accesses.{frame_at, kept_answer, kept_next, kept_beside, kept_long}
 use Rattle.shootdowns.proofs.Alike.{Alike, with_state, FlagsGrow, flags_read, alike_then, alike_filled, again}
 use Rattle.shootdowns.proofs.Filled.{fill, filled_state, get_filled, answer_filled, next_filled}
-use Rattle.shootdowns.proofs.Rewritten.{is_fixed, rewritten, names_same, word_same, linked_same, read_same}
+use Rattle.shootdowns.proofs.Remade.{Remade, remade, names_before, linked_before, all_same}
+use Rattle.shootdowns.proofs.Rewritten.{is_fixed, no_slot, rewritten}
 use Rattle.shootdowns.proofs.Standing.{Taken, Going, IsOne, is_event}
 use Rattle.page_words.specs.FiniteMap as map
 use Rattle.kernel_calls.specs.declared.calls.Call.TheVariants as call
@@ -101,15 +102,17 @@ module _ (x : Ended) (done : Acknowledged) (e : Event) (r : Reply) (s : State) (
         by (Some c) = refl
 
     -- so that it is a core's
+    remade_now : Remade w (frame_at v) no_slot (next (next s a) e) bytes
+    remade_now = rewritten w g.stands.0 (frame_at v) (next (next s a) e) bytes long_now fixed_now t.names book_now (kept-next (next s a) e well_now).0 cells_now
+
     core_now : IsCore later
-    core_now = rewritten w g.stands.0 bytes (next (next s a) e) (frame_at v) long_now fixed_now book_now (kept-next (next s a) e well_now).0 t.names cells_now
+    core_now = remade w g.stands.0 (frame_at v) no_slot (next (next s a) e) bytes remade_now
 
     read_now : (kept : List Kept) → AreRead w kept → AreRead later kept
-    read_now [] all = tt
-    read_now (k ∷ kept) all = (
-      read_same w g.stands.0 bytes (next (next s a) e) (frame_at v) long_now fixed_now book_now (kept-next (next s a) e well_now).0 t.names cells_now k all.0,
-      read_now kept all.1,
-    )
+    read_now = all_same w g.stands.0 (frame_at v) no_slot (next (next s a) e) bytes remade_now
+
+    before_now : (slot : Slot) (n : ℕ) → page_word (memory_of later) slot ≡ Some n → (m : ℕ) × (page_word (memory_of w) slot ≡ Some m) × (frame_number m ≡ frame_number n)
+    before_now = names_before w g.stands.0 (frame_at v) no_slot (next (next s a) e) bytes remade_now
 
     get_now : (slot : Slot) → map.get (next s a).spaces slot ≡ option_map (fill (frame_at v) bytes slot) (map.get s.spaces slot)
     get_now slot = ap (λ (z : State). map.get z.spaces slot) state_now ∙ get_filled (frame_at v) bytes s.spaces slot
@@ -122,16 +125,18 @@ module _ (x : Ended) (done : Acknowledged) (e : Event) (r : Reply) (s : State) (
 
     taken_now : Taken v e (next s a) later keeps
     taken_now = record {
-      before = t.before;
-      well = well_now;
-      alike = alike_now;
+      behind = record {
+        before = t.before;
+        well = well_now;
+        alike = alike_now;
+        state = again (frame_at v) bytes s (next s a) state_now;
+        names = λ slot n is. (let m = before_now slot n is in t.names slot m.0 m.1 ∙ m.2);
+        homes = λ slot n d is live. (let m = before_now slot n is in t.homes slot m.0 d m.1 live);
+        tables = λ p region f is. t.tables p region f (linked_before w g.stands.0 (frame_at v) no_slot (next (next s a) e) bytes remade_now p region f is);
+        pages = t.pages;
+        long = long_now ∙ t.long;
+      };
       read = λ j. flags_read v s (next s a) flags_now (keeps j) (t.read j);
-      state = again (frame_at v) bytes s (next s a) state_now;
-      names = names_same w g.stands.0 bytes (next (next s a) e) (frame_at v) long_now fixed_now book_now (kept-next (next s a) e well_now).0 t.names cells_now;
-      homes = λ slot word d is live. t.homes slot word d (word_same w g.stands.0 bytes (next (next s a) e) (frame_at v) long_now fixed_now book_now (kept-next (next s a) e well_now).0 t.names cells_now slot word is) live;
-      tables = λ p region f is. t.tables p region f (linked_same w g.stands.0 bytes (next (next s a) e) (frame_at v) long_now fixed_now book_now (kept-next (next s a) e well_now).0 t.names cells_now p region f is);
-      pages = t.pages;
-      long = long_now ∙ t.long;
     }
 
     pub one_served : IsOne (under_way x done e r s w) (a ∷ []) (q ∷ []) (under_way x done e r (next s a) later) keeps

@@ -20,18 +20,23 @@ use Rattle.shootdowns.proofs.Alike.{Alike, with_state}
 use Rattle.shootdowns.proofs.Filled.{filled_state}
 
 -- An event under way only takes away. The order's state is that when it began but for bytes and flags, and its cells
--- have the bytes that memory has now in their frames then. All that is kept was read then, with the flags of now.
-pub record Taken (v : View) (e : Event) (s : State) (w : View) (keeps : Processors) : Type 0 where
+-- have the bytes that memory has now in their frames then.
+pub record Behind (v : View) (e : Event) (s : State) (w : View) : Type 0 where
   pub before : IsCore v
   pub well : IsWellFormed s
   pub alike : Alike v.state s
-  pub read : AllAreRead (with_state v s) keeps
   pub state : s ≡ filled_state (frame_at v) w.bytes s
   pub names : (slot : Slot) (word : ℕ) → page_word (memory_of w) slot ≡ Some word → frame_at v slot ≡ frame_number word
   pub homes : (slot : Slot) (word d : ℕ) → page_word (memory_of w) slot ≡ Some word → directory_at (memory_of w) slot.pid ≡ Some d → directory_at (memory_of v) slot.pid ≡ Some d
   pub tables : (p region t : ℕ) → table_at (memory_of w) p region ≡ Some t → table_at (memory_of v) p region ≡ Some t
   pub pages : (f c : ℕ) → slice_get v.roles f ≡ Some (Page c) → (slice_get w.roles f ≡ Some Free) ⊎ ((d : ℕ) × (slice_get w.roles f ≡ Some (Page d)))
   pub long : length w.bytes ≡ length v.bytes
+
+-- and all that is kept was read then, with the flags of now
+pub record Taken (v : View) (e : Event) (s : State) (w : View) (keeps : Processors) : Type 0 where
+  pub behind : Behind v e s w
+  pub open behind use *
+  pub read : AllAreRead (with_state v s) keeps
 
 -- and so it stands
 pub record Going (x : Ended) (done : Acknowledged) (e : Event) (r : Reply) (s : State) (w : View) (keeps : Processors) (v : View) : Type 0 where

@@ -135,11 +135,9 @@ pub record Called (o v w x : View) (p : ℕ) (r : Reply) (y : Ended) : Type 0 wh
   pub loose : LooseStay (memory_of v) (memory_of w)
   pub later : IsCore w
   pub same : x.state ≡ w.state
-  pub none : Ends end.Nothing w x
   pub directories : x.directories ≡ w.directories
   pub roles : x.roles ≡ w.roles
   pub bytes : (directory : ℕ) → directory_at (memory_of w) p ≡ Some directory → x.bytes ≡ with_walked w.bytes directory 0x40000 true
-  pub last : IsCore x
 
 -- a live process has a directory
 home_live : (v : View) → IsCore v → (p : ℕ) → is_live v.state p ≡ true → (d : ℕ) × (directory_at (memory_of v) p ≡ Some d)
@@ -163,14 +161,7 @@ by_zero o v w x r y k =
       user = (omega arith, omega arith);
       directory = d.0;
       live = d.1;
-      left = λ _. record {
-        bytes = k.bytes d.0 d.1;
-        directories = k.directories;
-        roles = k.roles;
-        state = k.same;
-        ends = k.none;
-        core = k.last;
-      };
+      left = (λ i. record { state = k.same i; directories = k.directories i; bytes = k.bytes d.0 d.1 i; roles = k.roles i });
     })
 
 pub worked_by : (o v w x : View) (p : ℕ) (r : Reply) (y : Ended) → p ≡ 0 → Called o v w x p r y → WorkedWindow x

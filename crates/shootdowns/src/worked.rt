@@ -37,7 +37,6 @@ pub fn worked_window(alloc: Global) -> Result<Core, BootFault>
     let begun = core.step_ending(&unmap);
     core.stands();
     core.set_walked(pid, page, true);
-    core.stands();
     let _ = begun;
     Ok(core)
 }

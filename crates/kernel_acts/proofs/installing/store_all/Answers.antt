@@ -1,7 +1,6 @@
 use Rattle.kernel_acts.proofs.Prelude.{◌∙◌, ℕ, ap, sym, subst, length, FramesStay, memory_of, State, end_of, AreStored}
 use Rattle.kernel_acts.proofs.Prelude.{of_lazy_pages}
 use Rattle.kernel_acts.proofs.Installs.{all_stored_there}
-use Rattle.kernel_calls.proofs.Leaving.{is_core}
 use Rattle.kernel_acts.proofs.TransferLemmas.{length-stores}
 use Rattle.kernel_acts.proofs.StoresEnd.{stores_end}
 use Rattle.kernel_acts.proofs.installing.store_all.Goals as goal
@@ -30,6 +29,6 @@ returns-clause-marks c =
     let after = c.write_bytes.ensures.state ∙ ap (end_of s) r.all ∙ r.after in
     let count = c.write_bytes.ensures.count ∙ ap length r.all ∙ length-stores p a part in
     stores_end c.args.core.now c.write_bytes.new.core p a part
-    (is_core now.image now.walks now.ways now.well_formed) (is_core later.image later.walks later.ways later.well_formed)
+    now.core later.core
     c.requires.within c.requires.some (ap (λ (t : State). t.spaces) after)
     (subst (λ (n : ℕ). FramesStay (of_lazy_pages p a n) (memory_of c.args.core.now) (memory_of c.write_bytes.new.core)) count c.write_bytes.ensures.stay)

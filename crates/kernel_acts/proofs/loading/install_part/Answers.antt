@@ -1,6 +1,5 @@
 use Rattle.kernel_acts.proofs.Prelude.{arith, page_number}
 use Rattle.kernel_acts.proofs.LoadedPages.{part_goes}
-use Rattle.kernel_calls.proofs.Leaving.{is_core}
 use Rattle.kernel_acts.proofs.loading.install_part.Goals as goal
 
 pub returns-clause-installed : goal.returns-clause-installed
@@ -13,4 +12,4 @@ returns-clause-state c = grind (arith, part_goes, c.install.ensures.state, c.req
 pub returns-clause-core : goal.returns-clause-core
 returns-clause-core c =
     let now = c.stands-2.ensures in
-    is_core now.image now.walks now.ways now.well_formed
+    now.core

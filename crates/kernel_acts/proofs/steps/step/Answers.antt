@@ -1,4 +1,3 @@
-use Rattle.kernel_calls.proofs.Leaving.{is_core}
 use Rattle.kernel_acts.proofs.steps.step.Goals as goal
 
 pub returns-clause-carried : goal.returns-clause-carried
@@ -8,6 +7,6 @@ returns-clause-carried c =
     record {
       state = told.state;
       ends = told.ends;
-      core = is_core now.image now.walks now.ways now.well_formed;
+      core = now.core;
       writes = told.writes;
     }

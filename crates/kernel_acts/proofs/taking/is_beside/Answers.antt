@@ -11,5 +11,5 @@ returns c =
     let one = c.in-Some.ensures.way in
     let two = c.in-Some-frame_at.ensures.way in
     c.are_one.ensures
-    ∙ sym (beside_ways c.args.core.now c.stands.ensures.image c.stands.ensures.walks c.stands.ensures.ways (at_page c.args.pid c.args.page) (at_page c.args.other c.args.other_page)
+    ∙ sym (beside_ways c.args.core.now c.stands.ensures.core (at_page c.args.pid c.args.page) (at_page c.args.other c.args.other_page)
     one.0 c.in-Some.frame two.0 c.in-Some-frame_at.found (sym c.is_slot.ensures ∙ c.if-is_slot.false) one.1 two.1)

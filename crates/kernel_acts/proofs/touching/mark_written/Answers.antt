@@ -1,4 +1,3 @@
-use Rattle.kernel_calls.proofs.Leaving.{is_core}
 use Rattle.kernel_acts.proofs.Touches.{marks_touch}
 use Rattle.kernel_acts.proofs.touching.mark_written.Goals as goal
 
@@ -8,5 +7,5 @@ returns-clause-marked c = λ is.
     let later = c.stands-2.ensures in
     let m = c.store_taken-marked.ensures in
     marks_touch c.args.core.now c.store_taken-marked.new.self c.args.pid c.args.address
-    (is_core now.image now.walks now.ways now.well_formed) (is_core later.image later.walks later.ways later.well_formed)
+    now.core later.core
     (m.live is) (m.user is) (m.takes is) (m.state is) m.stay

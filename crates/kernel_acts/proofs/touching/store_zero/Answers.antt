@@ -1,5 +1,4 @@
 use Rattle.std.proofs.Common.{ap, ◌∙◌}
-use Rattle.kernel_calls.proofs.Leaving.{is_core}
 use Rattle.kernel_calls.specs.Machine.{answer, next}
 use Rattle.kernel_calls.specs.Translations.{ended_by}
 use Rattle.kernel_acts.proofs.Touches.{zero_touches}
@@ -13,5 +12,5 @@ returns c =
     let made = c.step_ending-told.ensures in
     let is = c.store_of_zero.ensures in
     zero_touches v c.step_ending-told.new.self c.args.pid c.args.address c.step_ending-told.result.0 c.step_ending-told.result.1
-    (is_core now.image now.walks now.ways now.well_formed) (is_core later.image later.walks later.ways later.well_formed)
+    now.core later.core
     now.zeros c.requires (made.reply ∙ ap (answer v.state) is) (made.ended ∙ ap (ended_by v) is) (made.state ∙ ap (next v.state) is) made.ends made.kept

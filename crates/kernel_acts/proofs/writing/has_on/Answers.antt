@@ -6,7 +6,7 @@ pub loop-page-preserved : goal.loop-page-preserved
 loop-page-preserved c =
     let v = c.args.core.now in
     let s = c.stands.ensures in
-    let core : IsCore v = record { image = s.image; walks = s.walks; ways = s.ways; well_formed = s.well_formed } in
+    let core : IsCore v = s.core in
     let found : ℕ = c.in-Some.page in
     let view = c.page.view_is in
     let next : found + 1 ≡ c.page.inside.0 + 1 = omega (arith, view) in

@@ -1,5 +1,4 @@
 use Rattle.std.proofs.Common.{ap, ◌∙◌}
-use Rattle.kernel_calls.proofs.Leaving.{is_core}
 use Rattle.kernel_calls.specs.Translations.{is_all_of}
 use Rattle.shadow_core.proofs.Pairing.{still_ends, shadowed_after, roots_then, touch_keeps_roots}
 use Rattle.shadow_core.proofs.pairs.handle_fault.Goals as goal
@@ -7,7 +6,7 @@ use Rattle.shadow_core.proofs.pairs.handle_fault.Goals as goal
 pub returns-then-free_count-lt-LEAST_FREE-clause-ends : goal.returns-then-free_count-lt-LEAST_FREE-clause-ends
 returns-then-free_count-lt-LEAST_FREE-clause-ends c =
     let now = c.stands.ensures in
-    still_ends c.args.core.now (is_core now.image now.walks now.ways now.well_formed)
+    still_ends c.args.core.now now.core
 
 pub fill-requires-clause-shadowed : goal.fill-requires-clause-shadowed
 fill-requires-clause-shadowed c =

@@ -1,5 +1,4 @@
 use Rattle.std.proofs.Common.{rules, ◌≡◌, refl}
-use Rattle.kernel_calls.proofs.Leaving.{is_core}
 use Rattle.shootdowns.proofs.WorkedSteps.{worked_by}
 use Rattle.shootdowns.proofs.worked.worked_window.Goals as goal
 
@@ -8,7 +7,6 @@ returns c =
     let root : c.unwrap-pid.result ≡ 0 = search rules in
     let first = c.stands.ensures in
     let second = c.stands-2.ensures in
-    let third = c.stands-3.ensures in
     let stored = c.step.ensures in
     let made = c.step_ending-begun.ensures in
     let marked = c.set_walked.ensures in
@@ -17,18 +15,16 @@ returns c =
     (record {
       opening = c.in_ok-core.ensures.opening;
       stored = stored.state;
-      before = is_core first.image first.walks first.ways first.well_formed;
+      before = first.core;
       reply = made.reply;
       ended = made.ended;
       state = made.state;
       ends = made.ends;
       stay = made.stay;
       loose = made.loose refl;
-      later = is_core second.image second.walks second.ways second.well_formed;
+      later = second.core;
       same = marked.state;
-      none = marked.ends;
       directories = marked.directories;
       roles = marked.roles;
       bytes = marked.bytes;
-      last = is_core third.image third.walks third.ways third.well_formed;
     })

@@ -1,5 +1,4 @@
 use Rattle.std.proofs.Common.{subst, Option}
-use Rattle.kernel_calls.proofs.Leaving.{is_core}
 use Rattle.kernel_calls.specs.Translations.{Ends}
 use Rattle.kernel_calls.specs.declared.calls.Event.{Event}
 use Rattle.tower_c.specs.Border.{ends_in}
@@ -11,4 +10,4 @@ pub returns-in_default-clause-ends : goal.returns-in_default-clause-ends
 returns-in_default-clause-ends c =
     let v = c.args.core.now in
     let now = c.stands.ensures in
-    subst (λ (x : Option Event). Ends (ends_in v x) v v) c.in_default.ensures (still_ends v (is_core now.image now.walks now.ways now.well_formed))
+    subst (λ (x : Option Event). Ends (ends_in v x) v v) c.in_default.ensures (still_ends v now.core)

@@ -1,4 +1,3 @@
-use Rattle.kernel_calls.proofs.Leaving.{is_core}
 use Rattle.tower_c.specs.Border.{pid_of}
 use Rattle.tower_c.proofs.TouchLemmas.{touched_none_as, touched_some_as, not_carried_as}
 use Rattle.tower_c.proofs.touching.touch.Goals as goal
@@ -7,7 +6,7 @@ pub returns-in_default-clause-touched : goal.returns-in_default-clause-touched
 returns-in_default-clause-touched c =
     let now = c.stands.ensures in
     touched_none_as c.args.core.now (pid_of c.args.pid) c.args.address c.args.write c.no_event.result c.ended_from.result
-    (is_core now.image now.walks now.ways now.well_formed) c.in_default.ensures c.no_event.ensures c.ended_from.ensures
+    now.core c.in_default.ensures c.no_event.ensures c.ended_from.ensures
 
 pub returns-clause-touched : goal.returns-clause-touched
 returns-clause-touched c =

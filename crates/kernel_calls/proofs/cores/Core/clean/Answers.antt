@@ -1,6 +1,5 @@
 use Rattle.kernel_calls.proofs.Prelude.{◌≡◌, subst, at_page, FramesStay, none_goes, memory_of, View, cleaned}
 use Rattle.kernel_calls.proofs.Cleanings.{cleaning_ends}
-use Rattle.kernel_calls.proofs.Leaving.{is_core}
 use Rattle.kernel_calls.proofs.cores.Core.clean.Goals as goal
 
 pub returns-clause-marks : goal.returns-clause-marks
@@ -9,6 +8,6 @@ returns-clause-marks c =
     let later = c.stands-2.ensures in
     let new = c.clean.new.self in
     cleaning_ends c.args.self.now new c.args.pid c.args.page
-    (is_core now.image now.walks now.ways now.well_formed) (is_core later.image later.walks later.ways later.well_formed) c.requires.mapped
+    now.core later.core c.requires.mapped
     (subst (λ (v : View). new.state ≡ cleaned v.state (at_page c.args.pid c.args.page)) c.self.view_is c.clean.ensures.state)
     (subst (λ (v : View). FramesStay none_goes (memory_of v) (memory_of new)) c.self.view_is c.clean.ensures.stay)

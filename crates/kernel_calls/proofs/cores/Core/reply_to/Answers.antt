@@ -1,5 +1,5 @@
 use Rattle.kernel_calls.proofs.Prelude.{◌≡◌, subst, arith, FramesStay, memory_of, View, gone_by, next}
-use Rattle.kernel_calls.proofs.Leaving.{event_ends, is_core}
+use Rattle.kernel_calls.proofs.Leaving.{event_ends}
 use Rattle.kernel_calls.proofs.cores.Core.reply_to.Goals as goal
 
 pub returns-clause-ends : goal.returns-clause-ends
@@ -9,7 +9,7 @@ returns-clause-ends c =
     let new = c.reply_once-reply.new.processes in
     let e = c.args.event.now in
     event_ends c.args.self.now new e
-    (is_core now.image now.walks now.ways now.well_formed) (is_core later.image later.walks later.ways later.well_formed)
+    now.core later.core
     (subst (λ (v : View). new.state ≡ next v.state e) c.self.view_is c.reply_once-reply.ensures.made.state)
     (subst (λ (v : View). FramesStay (gone_by v.state e) (memory_of v) (memory_of new)) c.self.view_is c.reply_once-reply.ensures.made.stay)
 

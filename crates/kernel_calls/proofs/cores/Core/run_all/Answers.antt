@@ -2,7 +2,6 @@ use Rattle.kernel_calls.proofs.Prelude.{rules, ◌≡◌, ◌+◌, ◌<◌, ◌+
 use Rattle.kernel_calls.proofs.Prelude.{subst, get_or, append_assoc, arith, and_parts, not-true, take_more_set}
 use Rattle.kernel_calls.proofs.Prelude.{drop_more, drop_all, State, View, answers, end_of, EndsInOrder, Event, Reply}
 use Rattle.kernel_calls.specs.Along.{CarriesOut}
-use Rattle.kernel_calls.proofs.Leaving.{is_core}
 use Rattle.kernel_calls.proofs.cores.Core.run_all.Goals as goal
 
 pub loop-i-preserved : goal.loop-i-preserved
@@ -25,7 +24,7 @@ loop-i-preserved c =
     let carried : CarriesOut v e c.step.new.self = record {
       state = step.state;
       ends = step.ends;
-      core = is_core now.image now.walks now.ways now.well_formed;
+      core = now.core;
       writes = step.writes;
     } in
     record {

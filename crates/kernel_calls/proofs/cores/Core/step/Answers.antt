@@ -1,4 +1,3 @@
-use Rattle.kernel_calls.proofs.Leaving.{is_core}
 use Rattle.kernel_calls.proofs.Writings.{events_write_their_own}
 use Rattle.kernel_calls.proofs.cores.Core.step.Goals as goal
 
@@ -8,5 +7,5 @@ returns-clause-writes c =
     let later = c.stands-2.ensures in
     let told = c.reply_to-reply.ensures in
     events_write_their_own c.args.self.now c.reply_to-reply.new.self c.args.event.now
-    (is_core now.image now.walks now.ways now.well_formed) (is_core later.image later.walks later.ways later.well_formed)
+    now.core later.core
     told.state told.ends

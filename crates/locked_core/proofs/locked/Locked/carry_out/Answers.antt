@@ -11,7 +11,6 @@ use Rattle.locked_core.proofs.Moments.{core_push, entries_append, follows_more}
 use Rattle.locked_core.specs.Held.{UnderLock}
 use Rattle.locked_core.specs.Moments.{Follows, core_after, entries_in, moment}
 use Rattle.locked_core.specs.declared.moment.Moment.{Moment}
-use Rattle.kernel_calls.proofs.Leaving.{is_core}
 use Rattle.shootdowns.specs.Windows.{Begins}
 use Rattle.process_table.specs.View.{View}
 use Rattle.locked_core.specs.Pages.{LagsBehind, Page, page}
@@ -68,7 +67,7 @@ invariant_of-self-2 g c =
         reply = replied;
         state = done.state;
         ends = done.ends;
-        core = is_core later.image later.walks later.ways later.well_formed;
+        core = later.core;
       };
       stay = done.stay;
       loose = done.loose;
@@ -205,7 +204,7 @@ returns-clause-follows g c =
         reply = replied;
         state = done.state;
         ends = done.ends;
-        core = is_core later.image later.walks later.ways later.well_formed;
+        core = later.core;
       };
       stay = done.stay;
       loose = done.loose;

@@ -1,5 +1,4 @@
 use Rattle.std.proofs.Common.{[], length, refl, sym, ap, ◌∙◌, subst, arith}
-use Rattle.kernel_calls.proofs.Leaving.{is_core}
 use Rattle.kernel_calls.specs.Processors.{IsCore}
 use Rattle.locked_core.proofs.Entries.{legal_opening}
 use Rattle.locked_core.proofs.Counting.{counted_none}
@@ -16,7 +15,7 @@ invariant_of-result g c =
     let w = c.requires.writer in
     let stands = c.stands.ensures in
     let core : IsCore g.N.Name.book.opening =
-    subst IsCore c.requires.opening (is_core stands.image stands.walks stands.ways stands.well_formed) in
+    subst IsCore c.requires.opening stands.core in
     let whole : Page = page g.N.Name.frames g.N.Name.book.history c.args.log.entries in
     let empty : LagsBehind (page g.N.Name.frames g.N.Name.book.history []) whole = record { frames = refl; book = refl; begins = (c.args.log.entries, refl) } in record {
       legal = begun.0;
