@@ -47,7 +47,7 @@ mark_flag : (b : Bool) (word j : ℕ) → j ≢ 6 → flag (mark b word) j ≡ f
 mark_flag true word j apart = set_flag_other word 6 j apart
 mark_flag false word j apart = refl
 
-mark_frame : (b : Bool) (word : ℕ) → frame_number (mark b word) ≡ frame_number word
+pub mark_frame : (b : Bool) (word : ℕ) → frame_number (mark b word) ≡ frame_number word
 mark_frame true word = set_flag_frame word 6 (omega arith)
 mark_frame false word = refl
 

@@ -1,5 +1,5 @@
 -- Uses of what was kept come after a store of zeros to lazy pages.
-use Rattle.std.proofs.Common.{◌≡◌, ℕ, ◌*◌, true, false, List, ◌∷◌, length, refl, ap, sym, ◌∙◌, arith, inl, inr, Option, Some, None}
+use Rattle.std.proofs.Common.{◌≡◌, ℕ, ◌*◌, true, false, List, ◌∷◌, length, refl, ap, sym, ◌∙◌, arith, inl, inr, Option, Some, None, subst}
 use Rattle.std.specs.Prelude.{◌⊎◌, slice_get}
 use Rattle.std.specs.Option.{option_map}
 use Rattle.page_words.specs.FiniteMap as map

@@ -5,7 +5,10 @@ use Rattle.std.specs.Option.{option_map}
 use Rattle.phys_memory.specs.Bytes.{frame_bytes}
 use Rattle.alloc_table.specs.declared.Role.{Role}
 use Rattle.alloc_table.specs.declared.Role.TheVariants.{Free, Page}
+use Rattle.address_space.specs.Image.{page_word}
 use Rattle.address_space.specs.Spaces.{Slot, Cell}
+use Rattle.page_words.specs.Words.{frame_number}
+use Rattle.process_table.specs.Image.{memory_of}
 use Rattle.process_table.specs.State.{State}
 use Rattle.process_table.specs.View.{View}
 use Rattle.process_table.specs.WellFormed.{IsWellFormed}
