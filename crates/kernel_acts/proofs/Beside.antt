@@ -78,7 +78,15 @@ module _ (v : View) (core : IsCore v) where
       framed = ap (option_and_then (own_frame 2)) b.there
 
       real_by : (f == 0) ≡ false → (k h : Bool) → (f == g) ≡ k → set.contains a.cell.holders other ≡ h → h ≡ k
-      real_by real k h one is = grind (arith, eqb-true, b, a, framed, own_is, group, owned, eq-eqb)
+      real_by real true h one is =
+          let same : f ≡ g = eqb-true f g one in
+          let real' : is_lazy b.word ≡ false = b.lazy ∙ ap (λ n. n == 0) (sym same) ∙ real in
+          sym is ∙ (group (a.lazy ∙ real)).1 (framed ∙ own_is b.word real' ∙ ap (λ n. Some n) (b.names ∙ sym same ∙ sym a.names))
+      real_by real false false one is = refl
+      real_by real false true one is = absurd (
+          let on = (owned b.word (frame_number a.word) (sym framed ∙ (group (a.lazy ∙ real)).0 is)).1 in
+          let k : true ≡ false = sym (eq-eqb f g (sym a.names ∙ sym on ∙ b.names)) ∙ one in
+          cc)
 
       by : (z : Bool) → (f == 0) ≡ z → set.contains a.cell.holders other ≡ (not (f == 0) && (f == g))
       by true zero = alone (a.lazy ∙ zero) (set.contains a.cell.holders other) refl ∙ sym (ap (λ b. not b && (f == g)) zero)

@@ -35,7 +35,7 @@ use Rattle.kernel_calls.proofs.CoreMemory.{walks_of, ways_of}
 use Rattle.kernel_calls.proofs.Linked.{mapped_way}
 use Rattle.kernel_calls.proofs.Runs.{went-on}
 use Rattle.kernel_calls.proofs.Translated.{walk_finds, has_right}
-use Rattle.kernel_calls.specs.Translations.{of_plan}
+use Rattle.kernel_calls.specs.Translations.{of_call}
 use Rattle.process_table.specs.declared.causes.Cause.TheVariants as cause
 use Rattle.kernel_calls.specs.declared.calls.Reply.TheVariants as reply
 use Rattle.kernel_calls.specs.declared.translations.Ended.TheVariants as end
@@ -206,22 +206,12 @@ marks_only s p a w =
     ap (λ xs. record s { spaces = store_in s.spaces slot (cell_or_fresh s.spaces slot) xs })
     (write_at-nothing (bytes_in s.spaces slot) (offset_number a) ∙ sym (own_same s p a w))
 
--- a plan that maps and fills no page ends nothing
-ends_none : (steps : ℕ → PageStep) (s : State) (p a : ℕ) → steps (page_number a) ≡ step.Complete → of_plan p a One (planned_by steps s p a One Write) ≡ end.Nothing
-ends_none steps s p a complete = grind (arith, one_page)
-
-completes_where : (v : View) (p a : ℕ) → takes_stores v.state.spaces (memory_of v) (slot_at p a) ≡ true → step_at v p Write (page_number a) ≡ step.Complete
-completes_where v p a taken = grind arith
-
 marked_ends : (v : View) (p a b : ℕ) → takes_stores v.state.spaces (memory_of v) (slot_at p a) ≡ true → end.Nothing ≡ ended_by v (store_byte p a b)
 marked_ends v p a b taken = by (completes (answer v.state (store_byte p a b)))
   where
-    none : of_plan p a One (plan_at v p a One Write) ≡ end.Nothing
-    none = ends_none (step_at v p Write) v.state p a (completes_where v p a taken)
-
-    by : (done : Bool) → end.Nothing ≡ (if done then of_plan p a One (plan_at v p a One Write) else end.Nothing)
+    by : (done : Bool) → end.Nothing ≡ (if done then of_call v p (call.Store a One b) else end.Nothing)
     by false = refl
-    by true = sym none
+    by true = grind (arith, one_page)
 
 pub marks_touch : (v w : View) (p a : ℕ) → IsCore v → IsCore w → is_live v.state p ≡ true → IsUserPage (page_number a) → takes_stores v.state.spaces (memory_of v) (slot_at p a) ≡ true
     → w.state ≡ after_stores v.state p a [] → FramesStay none_goes (memory_of v) (memory_of w) → Touches v (access_of_byte v.state p a Write) p a Write reply.Done end.Nothing w

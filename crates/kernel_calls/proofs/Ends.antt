@@ -2,14 +2,14 @@
 use Rattle.kernel_calls.proofs.Prelude
 use Prelude.{◌≡◌, ◌≢◌, ◌<◌, ◌^◌, ℕ, zero, suc, ◌+◌, Bool, true, false, not, ◌&&◌, ◌||◌, ◌==◌, List, [], ◌∷◌, length}
 use Prelude.{refl, ap, sym, ◌∙◌, arith, inl, inr, Option, Some, None, is_some, unwrap_or, ◌⊎◌, if◌then◌else◌, Ok}
-use Prelude.{option_map, page_number, offset_number, second_page, byte_count, touched, Size, crosses, some_bytes}
+use Prelude.{option_and_then, option_map, page_number, offset_number, second_page, byte_count, touched, Size, crosses, some_bytes}
 use Prelude.{same-true, same_itself, get-map_values, contains-insert, Access, Read, Write, walk_of, directory_at}
 use Prelude.{is_lazy_at, takes_stores, Slot, slot_order, Cell, Spaces, at_page, slot_at, is_slot, cell_or_fresh, fresh}
 use Prelude.{with_pages, with_holders, set_bytes, set_holders, write_at, stored, all_stored, bytes_of, joined, without}
 use Prelude.{way_of, length-bytes_of, memory_of, offered, is_mapped, View}
 use Prelude.{IsCore, get-inserted, get-inserted_other, without-was, may_accept, giver_mapped, goes_on, plan_at}
-use Prelude.{step_at, ready, plan_of_call, answer, answer_of, after, next, completes, is_ended, page_filled}
-use Prelude.{second_filled, of_pages, of_plan, of_call, ended_by, EndsNoMore, Call, Event}
+use Prelude.{step_at, ready, plan_of_call, answer, answer_of, after, next, completes, is_ended, if_lazy}
+use Prelude.{of_pages, of_call, ended_by, EndsNoMore, Call, Event}
 use Rattle.kernel_calls.proofs.CoreMemory.{ways_of}
 use Rattle.kernel_calls.proofs.Decided.{goes-event, next-goes}
 use Rattle.kernel_calls.proofs.Flags.{has, dirty_is_flag, keeps_all_stored}
@@ -179,29 +179,21 @@ module _ (v w : View) (now : IsCore v) (later : IsCore w) (p d a f : ℕ) (live 
   some_page : (q : ℕ) (x y : Option ℕ) → is_ended (of_pages q x y) slot ≡ true → (named q x ≡ true) ⊎ (named q y ≡ true)
   some_page q x y h = grind arith
 
-  -- a page that is filled is lazy
-  filled : (q page : ℕ) → named q (page_filled page (step_at v q Write page)) ≡ true
+  -- a page that is ended as lazy is lazy
+  filled : (q page : ℕ) → named q (if_lazy (memory_of v) q page) ≡ true
       → (at_page q page ≡ slot) × (is_lazy_at (memory_of v) slot ≡ true)
-  filled q page h = by (is_mapped v.state (at_page q page)) (is_lazy_at (memory_of v) (at_page q page)) refl h
+  filled q page h = by (is_lazy_at (memory_of v) (at_page q page)) refl h
     where
-      by : (x y : Bool) → is_lazy_at (memory_of v) (at_page q page) ≡ y
-          → named q (page_filled page (if not x then step.MapZero else if y then step.Fill else step.Complete)) ≡ true
+      by : (y : Bool) → is_lazy_at (memory_of v) (at_page q page) ≡ y → named q (if y then Some page else None) ≡ true
           → (at_page q page ≡ slot) × (is_lazy_at (memory_of v) slot ≡ true)
-      by false y lazy k = cc
-      by true false lazy k = cc
-      by true true lazy k = let here = same-true slot_order (at_page q page) slot k in
+      by false lazy k = cc
+      by true lazy k = let here = same-true slot_order (at_page q page) slot k in
           (here, sym (ap (is_lazy_at (memory_of v)) here) ∙ lazy)
 
   lost_call : (q : ℕ) (c : Call) → completes (answer_of v.state q c) ≡ true
-      → ((addr : ℕ) (size : Size) (value : ℕ) → c ≡ call.Store addr size value
-      → goes_on (plan_at v q addr size Write) ≡ true)
       → w.state ≡ after v.state q c → is_ended (of_call v q c) slot ≡ true → Lost
-  lost_call q (call.Store addr size value) done goes state h =
-      let is = (ready (step_at v q Write) v.state q addr size Write (goes addr size value refl)).is in
-      let pages = some_page q (page_filled (page_number addr) (step_at v q Write (page_number addr)))
-      (second_filled (second_page addr size) (option_map (step_at v q Write) (second_page addr size)))
-      (sym (ap (λ x. is_ended (of_plan q addr size x) slot) is) ∙ h) in
-      elim pages [
+  lost_call q (call.Store addr size value) done state h =
+      elim (some_page q (if_lazy (memory_of v) q (page_number addr)) (option_and_then (if_lazy (memory_of v) q) (second_page addr size)) h) [
         | inl first ↦
             let there = filled q (page_number addr) first in
             lost_filled there.1 (dirty_real w later slot
@@ -212,15 +204,14 @@ module _ (v w : View) (now : IsCore v) (later : IsCore w) (p d a f : ℕ) (live 
       S : Spaces
       S = with_pages v.state.spaces q (touched addr size)
 
-      by : (x : Option ℕ) → second_page addr size ≡ x
-          → named q (second_filled x (option_map (step_at v q Write) x)) ≡ true → Lost
+      by : (x : Option ℕ) → second_page addr size ≡ x → named q (option_and_then (if_lazy (memory_of v) q) x) ≡ true → Lost
       by None none k = cc
       by (Some page) is k =
           let there = filled q page k in
           lost_filled there.1 (dirty_real w later slot
           (grind (arith, dirty_second)))
-  lost_call q (call.Unmap page) done goes state h = grind (arith, lost_gone, without_gone)
-  lost_call q (call.Protect page write) done goes state h = by write _ refl refl h
+  lost_call q (call.Unmap page) done state h = grind (arith, lost_gone, without_gone)
+  lost_call q (call.Protect page write) done state h = by write _ refl refl h
     where
       by : (x y : Bool) → write ≡ x → takes_stores v.state.spaces (memory_of v) (at_page q page) ≡ y
           → is_ended (if not x && y then end.Page q page else end.Nothing) slot ≡ true → Lost
@@ -230,22 +221,21 @@ module _ (v w : View) (now : IsCore v) (later : IsCore w) (p d a f : ℕ) (live 
           let here = same-true slot_order (at_page q page) slot k in
           lost_right (sym (ap (takes_stores v.state.spaces (memory_of v)) here) ∙ takes)
           (grind (arith, get-inserted))
-  lost_call q (call.Accept giver giver_page page) done goes state h = by _ refl h
-    where
-      by : (x : Bool) → is_lazy_at (memory_of v) (at_page giver giver_page) ≡ x
-          → is_ended (if x then end.Page giver giver_page else end.Nothing) slot ≡ true → Lost
-      by false lazy k = cc
-      by true lazy k =
-          let here = same-true slot_order (at_page giver giver_page) slot k in
-          let may = may_accept v.state q giver giver_page page (not-refused _ _ done) in
-          let g = giver_mapped v.state q giver giver_page now.well_formed may.there in
-          let differ : at_page giver giver_page ≢ at_page q page =
-          (λ e. let n : Some g.0 ≡ None = sym g.1 ∙ ap (map.get v.state.spaces) e ∙ may.none in cc) in
-          let j = giver_joined v.state.spaces (at_page giver giver_page) (at_page q page)
-          (offered v.state giver giver_page q) g.0 g.1 (now.well_formed.cells (at_page giver giver_page) g.0 g.1).own differ in
-          lost_filled (sym (ap (is_lazy_at (memory_of v)) here) ∙ lazy)
-          (grind arith)
-  lost_call q _ done goes state h = grind (arith, lost_gone, without_gone)
+  lost_call q (call.Accept giver giver_page page) done state h =
+      elim (some_page giver (if_lazy (memory_of v) giver giver_page) None h) [
+        | inl first ↦
+            let there = filled giver giver_page first in
+            let may = may_accept v.state q giver giver_page page (not-refused _ _ done) in
+            let g = giver_mapped v.state q giver giver_page now.well_formed may.there in
+            let differ : at_page giver giver_page ≢ at_page q page =
+            (λ e. let n : Some g.0 ≡ None = sym g.1 ∙ ap (map.get v.state.spaces) e ∙ may.none in cc) in
+            let j = giver_joined v.state.spaces (at_page giver giver_page) (at_page q page)
+            (offered v.state giver giver_page q) g.0 g.1 (now.well_formed.cells (at_page giver giver_page) g.0 g.1).own differ in
+            let here : at_page giver giver_page ≡ slot = there.0 in
+            lost_filled there.1 (grind arith)
+        | inr none ↦ absurd (cc)
+      ]
+  lost_call q _ done state h = grind (arith, lost_gone, without_gone)
 
   pub lost : (e : Event) → w.state ≡ next v.state e → is_ended (ended_by v e) slot ≡ true → Lost
   lost e state h = by (completes (answer v.state e)) refl h
@@ -255,9 +245,6 @@ module _ (v w : View) (now : IsCore v) (later : IsCore w) (p d a f : ℕ) (live 
       by false is k = cc
       by true is k =
           lost_call e.pid e.call (caller_live v.state e is).1
-          (λ addr size value store.
-          sym (ap (λ c. goes_on (plan_of_call v e.pid c)) store)
-          ∙ sym (grind arith) ∙ goes-event v e ∙ is)
           (state ∙ next-goes v.state e is) k
 
 pub ends_no_more : (v w : View) (e : Event) → IsCore v → IsCore w → w.state ≡ next v.state e

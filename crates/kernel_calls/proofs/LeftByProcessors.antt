@@ -1,11 +1,12 @@
 -- What processors leave of a core's memory is a core's.
 use Rattle.kernel_calls.proofs.Prelude
-use Prelude.{◌≡◌, ℕ, ◌+◌, true, List, length, refl, sym, ap, subst, ◌∙◌, Some, is_some, if◌then◌else◌, some_value}
+use Prelude.{◌≡◌, ℕ, ◌+◌, true, false, List, length, refl, sym, ap, subst, ◌∙◌, Some, is_some, if◌then◌else◌, some_value}
 use Prelude.{byte_count, touched, slot_number, Read, Write, directory_at, finds_live, at_page, slot_at, Spaces}
 use Prelude.{all_accessed, all_stored, bytes_of, with_touched-same, each_byte, FramesStay, none_goes, stays_most}
 use Prelude.{quota_of, State, container_of, View, memory_of, IsWellFormed, after_load, after_store, after, next}
 use Prelude.{completes, takes_no_frame, plan_of_call, plan_of_event, finds_call, finds_event, reply_found, Call, Event}
-use Prelude.{IsCore, Ends, Ended, ServesCall, IsStore, StoresMarked, Directory, arith}
+use Prelude.{IsCore, Ends, Ended, ServesCall, IsStore, StoresMarked, Directory, arith, Bool, Option, None, option_and_then}
+use Prelude.{page_number, second_page, takes_stores, answer, if_lazy, of_call, of_pages, ended_by, IfSome}
 use Rattle.kernel_calls.specs.Kept.{bytes_kept}
 use Rattle.kernel_calls.specs.Walked.{bytes_accessed}
 use Rattle.kernel_calls.specs.Processors.{IsLeft, with_bytes, WalksLeaveCores, StoresLeaveCores, MarksLeaveCores}
@@ -30,12 +31,13 @@ use Rattle.kernel_calls.proofs.Decided.{next-goes}
 use Rattle.kernel_calls.proofs.KeptAccesses.{all_lead, kept_find, kept_stores}
 use Rattle.kernel_calls.proofs.Leaving.{event_ends, nothing_ends}
 use Rattle.kernel_calls.proofs.Runs.{kept-next}
-use Rattle.kernel_calls.proofs.Translated.{accessed_ends_none}
-use Rattle.kernel_calls.proofs.WalkedReplies.{answered, all_mapped, frameless, lives}
+use Rattle.kernel_calls.proofs.Translated.{has_right}
+use Rattle.kernel_calls.proofs.WalkedReplies.{answered, all_mapped, each_found, frameless, lives, page_takes}
 use Rattle.page_words.specs.FiniteMap as map
 use Rattle.process_table.specs.declared.causes.Cause.TheVariants as cause
 use Rattle.fault_handler.specs.declared.plans.Plan.TheVariants as plan
 use Rattle.kernel_calls.specs.declared.calls.Call.TheVariants as call
+use Rattle.kernel_calls.specs.declared.translations.Ended.TheVariants as end
 
 -- ---- With other bytes
 
@@ -65,9 +67,9 @@ module _ (v : View) (core : IsCore v) where
     none_left is = record { ends = nothing_ends v w core is_left is all_stay; core = is_left }
 
     -- by an event that ends none
-    event_left : (e : Event) → s ≡ next v.state e → finds_event v e ≡ true → takes_no_frame (plan_of_event v e) ≡ true → IsLeft v w
-    event_left e is found frame = record {
-      ends = subst (λ (x : Ended). Ends x v w) (accessed_ends_none v e found frame) (event_ends v w e core is_left is (stays_most all_stay));
+    event_left : (e : Event) → s ≡ next v.state e → ended_by v e ≡ end.Nothing → IsLeft v w
+    event_left e is none = record {
+      ends = subst (λ (x : Ended). Ends x v w) none (event_ends v w e core is_left is (stays_most all_stay));
       core = is_left;
     }
 
@@ -105,6 +107,22 @@ module _ (v : View) (core : IsCore v) (p d : ℕ) (live : directory_at (memory_o
   frameless_call (call.Store addr size value) h = frameless v core p d live addr size Write h
   frameless_call _ h = cc
 
+  -- a page that such a store finds isn't lazy
+  page_real : (page : ℕ) → takes_stores v.state.spaces (memory_of v) (at_page p page) ≡ true → if_lazy (memory_of v) p page ≡ None
+  page_real page takes = ap (λ b. if b then Some page else None) (has_right v core (at_page p page) takes).1
+
+  ends_none_call : (c : Call) → finds_call v p c ≡ true → of_call v p c ≡ end.Nothing
+  ends_none_call (call.Load addr size) h = refl
+  ends_none_call (call.Store addr size value) h =
+      let takes = each_found v core p d live Write addr size (λ page. takes_stores v.state.spaces (memory_of v) (at_page p page) ≡ true) (page_takes v core p d live) h in
+      (λ i. of_pages p (page_real (page_number addr) takes.0 i) (second (second_page addr size) takes.1 i))
+    where
+      second : (x : Option ℕ) → IfSome x (λ page. takes_stores v.state.spaces (memory_of v) (at_page p page) ≡ true)
+          → option_and_then (if_lazy (memory_of v) p) x ≡ None
+      second None h = refl
+      second (Some page) h = page_real page h
+  ends_none_call _ h = cc
+
   told : (c : Call) → finds_call v p c ≡ true → completes (reply_found v.bytes d c) ≡ true
   told (call.Load addr size) h = refl
   told (call.Store addr size value) h = refl
@@ -133,6 +151,13 @@ module _ (v : View) (core : IsCore v) (e : Event) (found : finds_event v e ≡ t
       ap (λ b. takes_no_frame (if b then plan_of_call v e.pid e.call else plan.Refused cause.NoProcess)) (lives v core e.pid home.0 home.1)
       ∙ frameless_call v core e.pid home.0 home.1 e.call found
 
+  ends_none : ended_by v e ≡ end.Nothing
+  ends_none = by (completes (answer v.state e))
+    where
+      by : (b : Bool) → (if b then of_call v e.pid e.call else end.Nothing) ≡ end.Nothing
+      by true = ends_none_call v core e.pid home.0 home.1 e.call found
+      by false = refl
+
   pub next_is : next v.state e ≡ after v.state e.pid e.call
   next_is = next-goes v.state e (ap completes (answered v e home.0 core found home.1) ∙ told v core e.pid home.0 home.1 e.call found)
 
@@ -144,7 +169,7 @@ module _ (v : View) (core : IsCore v) (e : Event) (found : finds_event v e ≡ t
   left bytes touched =
       event_left v core (next v.state e) bytes
       (subst (λ (s : State). Touched v.directories s.spaces v.bytes v.roles bytes) (sym next_is) touched)
-      book_stays (kept-next v.state e core.well_formed).0 e refl found frame_taken
+      book_stays (kept-next v.state e core.well_formed).0 e refl ends_none
 
 -- ---- The laws
 

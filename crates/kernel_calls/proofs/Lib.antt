@@ -1,4 +1,3 @@
-pub mod Allowed
 pub mod Availability
 pub mod Births
 pub mod Charges
@@ -23,6 +22,7 @@ pub mod Lazies
 pub mod Leaving
 pub mod LeftByProcessors
 pub mod Linked
+pub mod MayEnd
 pub mod MixedRuns
 pub mod Outsiders
 pub mod Planned

@@ -76,9 +76,9 @@ pub use Rattle.kernel_calls.specs.Translations.{AreRead, DirectoriesStay, Ends, 
 pub use Rattle.kernel_calls.specs.Translations.{FindsFrame, FlagsStay, IsGiven, IsRead, Keeping, Keeps, Kept}
 pub use Rattle.kernel_calls.specs.Translations.{KeptAreGiven, MapsInRegion, SlotsStay, TablesMap}
 pub use Rattle.kernel_calls.specs.Translations.{TablesStay, Translation, TranslationsStay, change, directory_entry}
-pub use Rattle.kernel_calls.specs.Translations.{ended_by, ends_in_region, if_allowed, is_all_of, is_ended}
-pub use Rattle.kernel_calls.specs.Translations.{is_invalidated, left_by, nothing, of_call, of_pages, of_plan, onward}
-pub use Rattle.kernel_calls.specs.Translations.{page_filled, second_filled, translation, walk}
+pub use Rattle.kernel_calls.specs.Translations.{ended_by, ends_in_region, if_lazy, is_all_of, is_ended}
+pub use Rattle.kernel_calls.specs.Translations.{is_invalidated, left_by, nothing, of_call, of_pages, onward}
+pub use Rattle.kernel_calls.specs.Translations.{translation, walk}
 pub use Rattle.kernel_calls.specs.Walked.{finds_call, finds_event, reply_found}
 pub use Rattle.kernel_calls.specs.declared.calls.Call.{Call}
 pub use Rattle.kernel_calls.specs.declared.calls.Event.{Event}

@@ -8,7 +8,7 @@ use Prelude.{is_lazy_at, takes_stores, SlotStands, Slot, slot_order, Cell, at_pa
 use Prelude.{FramesStay, of_lazy, FindsBytes, WalkEndsBy, way_parts}
 use Prelude.{memory_of, State, is_mapped, View, IsWellFormed, IsCore, goes_on, plan_at, step_at, takes_no_frame, lazy_second}
 use Prelude.{lazy_touched, ready, answer, answer_of, next, completes, plan_of_call, plan_of_event, may_unmap}
-use Prelude.{finds_event, is_ended, is_all_of, page_filled, second_filled, of_pages, of_plan, of_call, ended_by}
+use Prelude.{finds_event, is_ended, is_all_of, if_lazy, of_pages, of_call, ended_by}
 use Prelude.{TranslationsStay, FindsFrame, EndsFound, SlotsStay, gone_of_call, gone_by, Call, Event}
 use Rattle.kernel_calls.proofs.CoreMemory.{walks_of, ways_of}
 use Rattle.kernel_calls.proofs.Decided.{goes-event, next-stays, next-goes}
@@ -98,9 +98,9 @@ module _ (v : View) (core : IsCore v) where
       → (named p x slot ≡ false) × (named p y slot ≡ false)
   ended_pages p x y slot h = grind arith
 
-  -- a lazy page of a store that isn't ended isn't there
+  -- a lazy page that isn't ended isn't there
   page_spared : (p page : ℕ) (slot : Slot) (d f : ℕ) → way_of (memory_of v) slot ≡ Some (d, f)
-      → named p (page_filled page (step_at v p Write page)) slot ≡ false → of_lazy p page slot f ≡ false
+      → named p (if_lazy (memory_of v) p page) slot ≡ false → of_lazy p page slot f ≡ false
   page_spared p page slot d f way stays = by (is_slot p page slot) refl (f == 0) refl
     where
       by : (a : Bool) → is_slot p page slot ≡ a → (b : Bool) → (f == 0) ≡ b → (a && b) ≡ false
@@ -108,59 +108,30 @@ module _ (v : View) (core : IsCore v) where
       by true is false zero = refl
       by true is true zero = absurd (
           let here : at_page p page ≡ slot = same-true slot_order (at_page p page) slot is in
-          let mapped : is_mapped v.state (at_page p page) ≡ true = ap (λ s. is_some (map.get v.state.spaces s)) here
-          ∙ ap is_some (way_mapped slot d f way).1 in
           let lazy : is_lazy_at (memory_of v) (at_page p page) ≡ true = ap (is_lazy_at (memory_of v)) here
           ∙ (ways_of core).lazy slot d f way ∙ zero in
-          let fills : step_at v p Write page ≡ step.Fill =
-          (λ i. if not (mapped i) then step.MapZero else if lazy i then step.Fill else step.Complete) in
-          let k : false ≡ true = sym stays ∙ ap (λ h. named p (page_filled page h) slot) fills ∙ is in
+          let k : false ≡ true = sym stays ∙ ap (λ b. named p (if b then Some page else None) slot) lazy ∙ is in
           cc)
 
-  store_spared : (p addr : ℕ) (size : Size) (slot : Slot) (d f : ℕ) → way_of (memory_of v) slot ≡ Some (d, f)
-      → goes_on (plan_at v p addr size Write) ≡ true
-      → is_ended (of_plan p addr size (plan_at v p addr size Write)) slot ≡ false
-      → lazy_touched p addr size slot f ≡ false
-  store_spared p addr size slot d f way goes stays =
-      let is = (ready (step_at v p Write) v.state p addr size Write goes).is in
-      let parts = ended_pages p (page_filled (page_number addr) (step_at v p Write (page_number addr)))
-      (second_filled (second_page addr size) (option_map (step_at v p Write) (second_page addr size))) slot
-      (sym (ap (λ x. is_ended (of_plan p addr size x) slot) is) ∙ stays) in
+  store_spared : (p addr : ℕ) (size : Size) (value : ℕ) (slot : Slot) (d f : ℕ) → way_of (memory_of v) slot ≡ Some (d, f)
+      → is_ended (of_call v p (call.Store addr size value)) slot ≡ false → lazy_touched p addr size slot f ≡ false
+  store_spared p addr size value slot d f way stays =
+      let parts = ended_pages p (if_lazy (memory_of v) p (page_number addr)) (option_and_then (if_lazy (memory_of v) p) (second_page addr size)) slot stays in
       let first = page_spared p (page_number addr) slot d f way parts.0 in
       let second = by (second_page addr size) parts.1 in
       (λ i. first i || second i)
     where
-      by : (x : Option ℕ) → named p (second_filled x (option_map (step_at v p Write) x)) slot ≡ false
-          → lazy_second p x slot f ≡ false
+      by : (x : Option ℕ) → named p (option_and_then (if_lazy (memory_of v) p) x) slot ≡ false → lazy_second p x slot f ≡ false
       by None h = refl
       by (Some page) h = page_spared p page slot d f way h
 
-  accept_spared : (giver giver_page : ℕ) (slot : Slot) (d f : ℕ) → way_of (memory_of v) slot ≡ Some (d, f)
-      → is_ended (if is_lazy_at (memory_of v) (at_page giver giver_page) then end.Page giver giver_page
-      else end.Nothing) slot ≡ false → of_lazy giver giver_page slot f ≡ false
-  accept_spared giver giver_page slot d f way stays = by (is_slot giver giver_page slot) refl (f == 0) refl
-    where
-      by : (a : Bool) → is_slot giver giver_page slot ≡ a → (b : Bool) → (f == 0) ≡ b → (a && b) ≡ false
-      by false is b zero = refl
-      by true is false zero = refl
-      by true is true zero = absurd (
-          let here : at_page giver giver_page ≡ slot = same-true slot_order (at_page giver giver_page) slot is in
-          let lazy : is_lazy_at (memory_of v) (at_page giver giver_page) ≡ true = ap (is_lazy_at (memory_of v)) here
-          ∙ (ways_of core).lazy slot d f way ∙ zero in
-          let k : false ≡ true = sym stays ∙ ap (λ b. is_ended (if b then end.Page giver giver_page else end.Nothing)
-          slot) lazy ∙ is in
-          cc)
-
-  -- a slot that a call that completes doesn't end keeps its way
+  -- a slot that a call doesn't end keeps its way
   call_spared : (p : ℕ) (c : Call) (slot : Slot) (d f : ℕ) → way_of (memory_of v) slot ≡ Some (d, f)
-      → ((addr : ℕ) (size : Size) (value : ℕ) → c ≡ call.Store addr size value
-      → goes_on (plan_at v p addr size Write) ≡ true)
       → is_ended (of_call v p c) slot ≡ false → gone_of_call p c slot f ≡ false
-  call_spared p (call.Store addr size value) slot d f way goes stays =
-      store_spared p addr size slot d f way (goes addr size value refl) stays
-  call_spared p (call.Accept giver giver_page page) slot d f way goes stays =
-      accept_spared giver giver_page slot d f way stays
-  call_spared p _ slot d f way goes stays = grind arith
+  call_spared p (call.Store addr size value) slot d f way stays = store_spared p addr size value slot d f way stays
+  call_spared p (call.Accept giver giver_page page) slot d f way stays =
+      page_spared giver giver_page slot d f way (ended_pages giver (if_lazy (memory_of v) giver giver_page) None slot stays).0
+  call_spared p _ slot d f way stays = grind arith
 
   pub event_spared : (e : Event) (slot : Slot) (d f : ℕ) → way_of (memory_of v) slot ≡ Some (d, f)
       → is_ended (ended_by v e) slot ≡ false → gone_by v.state e slot f ≡ false
@@ -170,13 +141,7 @@ module _ (v : View) (core : IsCore v) where
           → is_ended (if b then of_call v e.pid e.call else end.Nothing) slot ≡ false
           → (if b then gone_of_call e.pid e.call slot f else false) ≡ false
       by false is h = refl
-      by true is h =
-          call_spared e.pid e.call slot d f way
-          (λ addr size value store.
-          let live = (caller_live v.state e is).0 in
-          sym (ap (λ c. goes_on (plan_of_call v e.pid c)) store)
-          ∙ sym (ap (λ b. goes_on (if b then plan_of_call v e.pid e.call else plan.Refused cause.NoProcess)) live)
-          ∙ goes-event v e ∙ is) h
+      by true is h = call_spared e.pid e.call slot d f way h
 
   -- ---- Rights that an event leaves
 
@@ -264,13 +229,6 @@ slots_stay v w e well state slot stays there =
     mapped_has : (x : Option Cell) → has (λ _. true) x ≡ is_some x
     mapped_has x = grind arith
 
--- ---- An access that a processor makes by its walk
-
--- it ends no translation
-pub accessed_ends_none : (v : View) (e : Event) → finds_event v e ≡ true → takes_no_frame (plan_of_event v e) ≡ true
-    → ended_by v e ≡ end.Nothing
-accessed_ends_none v e found h = grind (arith, caller_live)
-
 -- ---- What is ended had a walk
 
 module _ (v : View) (core : IsCore v) where
@@ -296,36 +254,33 @@ module _ (v : View) (core : IsCore v) where
   lazy_word : (slot : Slot) → is_lazy_at (memory_of v) slot ≡ true → is_some (page_word (memory_of v) slot) ≡ true
   lazy_word slot h = grind arith
 
-  -- a page that a store fills is lazy
-  filled_lazy : (q page : ℕ) (slot : Slot) → named v core q (page_filled page (step_at v q Write page)) slot ≡ true → is_lazy_at (memory_of v) slot ≡ true
-  filled_lazy q page slot h = by (is_mapped v.state (at_page q page)) (is_lazy_at (memory_of v) (at_page q page)) refl h
+  -- a page that is ended as lazy is lazy
+  filled_lazy : (q page : ℕ) (slot : Slot) → named v core q (if_lazy (memory_of v) q page) slot ≡ true → is_lazy_at (memory_of v) slot ≡ true
+  filled_lazy q page slot h = by (is_lazy_at (memory_of v) (at_page q page)) refl h
     where
-      by : (x y : Bool) → is_lazy_at (memory_of v) (at_page q page) ≡ y → named v core q (page_filled page (if not x then step.MapZero else if y then step.Fill else step.Complete)) slot ≡ true → is_lazy_at (memory_of v) slot ≡ true
-      by false y lazy k = cc
-      by true false lazy k = cc
-      by true true lazy k = sym (ap (is_lazy_at (memory_of v)) (same-true slot_order (at_page q page) slot k)) ∙ lazy
+      by : (y : Bool) → is_lazy_at (memory_of v) (at_page q page) ≡ y → named v core q (if y then Some page else None) slot ≡ true → is_lazy_at (memory_of v) slot ≡ true
+      by false lazy k = cc
+      by true lazy k = sym (ap (is_lazy_at (memory_of v)) (same-true slot_order (at_page q page) slot k)) ∙ lazy
 
   filled_pages : (q : ℕ) (x y : Option ℕ) (slot : Slot) → is_ended (of_pages q x y) slot ≡ true → (named v core q x slot ≡ true) ⊎ (named v core q y slot ≡ true)
   filled_pages q x y slot h = grind arith
 
   -- a slot that a call which completes ends has a word, or its process goes
-  ended_word : (q : ℕ) (c : Call) (slot : Slot) → completes (answer_of v.state q c) ≡ true → ((addr : ℕ) (size : Size) (value : ℕ) → c ≡ call.Store addr size value → goes_on (plan_at v q addr size Write) ≡ true)
+  ended_word : (q : ℕ) (c : Call) (slot : Slot) → completes (answer_of v.state q c) ≡ true
       → is_ended (of_call v q c) slot ≡ true → (is_all_of (of_call v q c) slot.pid ≡ true) ⊎ (is_some (page_word (memory_of v) slot) ≡ true)
-  ended_word q (call.Store addr size value) slot done goes h =
-      let is = (ready (step_at v q Write) v.state q addr size Write (goes addr size value refl)).is in
-      let pages = filled_pages q (page_filled (page_number addr) (step_at v q Write (page_number addr))) (second_filled (second_page addr size) (option_map (step_at v q Write) (second_page addr size))) slot
-      (sym (ap (λ x. is_ended (of_plan q addr size x) slot) is) ∙ h) in
-      elim pages [
+  ended_word q (call.Store addr size value) slot done h =
+      elim (filled_pages q (if_lazy (memory_of v) q (page_number addr)) (option_and_then (if_lazy (memory_of v) q) (second_page addr size)) slot h) [
         | inl first ↦ inr (lazy_word slot (filled_lazy q (page_number addr) slot first))
         | inr second ↦ by (second_page addr size) second
       ]
     where
-      by : (x : Option ℕ) → named v core q (second_filled x (option_map (step_at v q Write) x)) slot ≡ true → (is_all_of (of_call v q (call.Store addr size value)) slot.pid ≡ true) ⊎ (is_some (page_word (memory_of v) slot) ≡ true)
-      by x k = grind (arith, lazy_word, filled_lazy)
-  ended_word q (call.Unmap page) slot done goes h =
+      by : (x : Option ℕ) → named v core q (option_and_then (if_lazy (memory_of v) q) x) slot ≡ true → (is_all_of (of_call v q (call.Store addr size value)) slot.pid ≡ true) ⊎ (is_some (page_word (memory_of v) slot) ≡ true)
+      by None k = cc
+      by (Some page) k = inr (lazy_word slot (filled_lazy q page slot k))
+  ended_word q (call.Unmap page) slot done h =
       let here = same-true slot_order (at_page q page) slot h in
       inr (cell_word slot (sym (ap (λ s. is_some (map.get v.state.spaces s)) here) ∙ may_unmap v.state q page (not-refused _ _ done)))
-  ended_word q (call.Protect page write) slot done goes h = by (not write) (takes_stores v.state.spaces (memory_of v) (at_page q page)) refl h
+  ended_word q (call.Protect page write) slot done h = by (not write) (takes_stores v.state.spaces (memory_of v) (at_page q page)) refl h
     where
       mapped : (x y : Bool) → (x && y) ≡ true → x ≡ true
       mapped x y k = grind arith
@@ -337,17 +292,16 @@ module _ (v : View) (core : IsCore v) where
       by true true takes k =
           let here = same-true slot_order (at_page q page) slot k in
           inr (cell_word slot (sym (ap (λ s. is_some (map.get v.state.spaces s)) here) ∙ mapped _ _ takes))
-  ended_word q (call.Accept giver giver_page page) slot done goes h = by (is_lazy_at (memory_of v) (at_page giver giver_page)) refl h
-    where
-      by : (x : Bool) → is_lazy_at (memory_of v) (at_page giver giver_page) ≡ x → is_ended (if x then end.Page giver giver_page else end.Nothing) slot ≡ true
-          → (is_all_of (of_call v q (call.Accept giver giver_page page)) slot.pid ≡ true) ⊎ (is_some (page_word (memory_of v) slot) ≡ true)
-      by false lazy k = cc
-      by true lazy k = inr (lazy_word slot (sym (ap (is_lazy_at (memory_of v)) (same-true slot_order (at_page giver giver_page) slot k)) ∙ lazy))
-  ended_word q call.Exit slot done goes h = inl (same_number slot.pid q h)
+  ended_word q (call.Accept giver giver_page page) slot done h =
+      elim (filled_pages giver (if_lazy (memory_of v) giver giver_page) None slot h) [
+        | inl first ↦ inr (lazy_word slot (filled_lazy giver giver_page slot first))
+        | inr none ↦ absurd (cc)
+      ]
+  ended_word q call.Exit slot done h = inl (same_number slot.pid q h)
     where
       same_number : (a b : ℕ) → (a == b) ≡ true → (b == a) ≡ true
       same_number a b k = let e : b ≡ a = sym (eqb-true a b k) in eq-eqb b a e
-  ended_word q _ slot done goes h = cc
+  ended_word q _ slot done h = cc
 
   -- each page that an event ends had a walk that found a frame
   pub found_by : (e : Event) → EndsFound (ended_by v e) (memory_of v)
@@ -357,9 +311,7 @@ module _ (v : View) (core : IsCore v) where
           → (is_all_of (if b then of_call v e.pid e.call else end.Nothing) p ≡ true) ⊎ FindsFrame (memory_of v) p a
       by false is k = cc
       by true is k =
-          elim (ended_word e.pid e.call (slot_at p a) (caller_live v.state e is).1
-          (λ addr size value store.
-          sym (ap (λ c. goes_on (plan_of_call v e.pid c)) store) ∙ sym (ap (λ b. goes_on (if b then plan_of_call v e.pid e.call else plan.Refused cause.NoProcess)) (caller_live v.state e is).0) ∙ goes-event v e ∙ is) k) [
+          elim (ended_word e.pid e.call (slot_at p a) (caller_live v.state e is).1 k) [
             | inl all ↦ inl all
             | inr word ↦ inr (mapped_found p a small word)
           ]

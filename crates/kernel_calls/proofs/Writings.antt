@@ -9,7 +9,7 @@ use Prelude.{frame_bytes, Role, Reserved, Free, Directory, Table, Page, Read, wa
 use Prelude.{named_by, is_user_slot, present_word, page_word, page_frame, is_lazy_at, SlotStands, CellStands, own_frame}
 use Prelude.{IsTableWord, Slot, Cell, at_page, slot_at, is_slot, way_of, WalkEndsBy, way_parts, from_then, owned}
 use Prelude.{own_is, memory_of, State, is_live, View, Plan, Flags, flags_of, flags_at, IsStoreInto, next, IsCore}
-use Prelude.{is_ended, is_all_of, of_plan, of_call, ended_by, Ends, ends_in_region, MapsInRegion, Call, Event, Ended}
+use Prelude.{is_ended, is_all_of, of_pages, of_call, ended_by, Ends, ends_in_region, MapsInRegion, Call, Event, Ended}
 use Rattle.page_words.proofs.Flags.{table_words_by_fields}
 use Rattle.std.specs.FinMap.Entries.{find}
 use Rattle.kernel_calls.specs.Written.{HasNone, TakesLazy, IsSameButAccessed, StandsAsBefore, WritesItsOwn}
@@ -31,14 +31,13 @@ use Rattle.page_words.specs.FiniteSet as set
 apart_slot : (p page : ℕ) (slot : Slot) → slot.pid ≢ p → is_slot p page slot ≡ false
 apart_slot p page slot differ = grind (arith, same-true)
 
-apart_plan : (p address : ℕ) (size : Size) (x : Plan) (slot : Slot) → slot.pid ≢ p
-    → is_ended (of_plan p address size x) slot ≡ false
-apart_plan p address size x slot differ = grind (arith, apart_slot)
+apart_pages : (p : ℕ) (x y : Option ℕ) (slot : Slot) → slot.pid ≢ p → is_ended (of_pages p x y) slot ≡ false
+apart_pages p x y slot differ = grind (arith, apart_slot)
 
 -- no slot of another is ended that isn't lazy
 call_spares : (v : View) (p : ℕ) (c : Call) (slot : Slot) → slot.pid ≢ p → is_lazy_at (memory_of v) slot ≡ false
     → is_ended (of_call v p c) slot ≡ false
-call_spares v p c slot differ real = grind (arith, apart_plan, apart_slot, same-true, ne_eqb)
+call_spares v p c slot differ real = grind (arith, apart_pages, apart_slot, same-true, ne_eqb)
 
 event_spares : (v : View) (e : Event) (slot : Slot) → slot.pid ≢ e.pid → is_lazy_at (memory_of v) slot ≡ false
     → is_ended (ended_by v e) slot ≡ false
@@ -48,13 +47,12 @@ event_spares v e slot differ real = grind (arith, call_spares)
 no_region : (p q : ℕ) (x : Bool) → q ≢ p → ((p == q) && x) ≡ true → ⊥
 no_region p q x differ h = grind (arith, eqb-true)
 
-regions_of_plan : (p address : ℕ) (size : Size) (x : Plan) (q region : ℕ) → q ≢ p
-    → ends_in_region (of_plan p address size x) q region ≡ true → ⊥
-regions_of_plan p address size x q region differ h = grind (arith, no_region)
+regions_of_pages : (p : ℕ) (x y : Option ℕ) (q region : ℕ) → q ≢ p → ends_in_region (of_pages p x y) q region ≡ true → ⊥
+regions_of_pages p x y q region differ h = grind (arith, no_region)
 
 ended_call : (v : View) (e : Event) (c : Call) (q region : ℕ) → e.call ≡ c → q ≢ e.pid
     → ends_in_region (of_call v e.pid c) q region ≡ true → TakesLazy v e q region
-ended_call v e c q region is differ h = grind (arith, regions_of_plan, no_region, and_parts, eqb-true)
+ended_call v e c q region is differ h = grind (arith, regions_of_pages, no_region, and_parts, eqb-true)
 
 pub ended_takes : (v : View) (e : Event) (q region : ℕ) → q ≢ e.pid → ends_in_region (ended_by v e) q region ≡ true
     → TakesLazy v e q region

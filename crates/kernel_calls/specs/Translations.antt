@@ -2,7 +2,8 @@
 -- keeps them has to invalidate them. A translation is what a walk gives for a page of a process: a frame, and whether
 -- it allows writes.
 use Rattle.std.specs.Prelude.{◌⊎◌}
-use Rattle.std.proofs.Common.{◌≡◌, ◌==◌, ◌<◌, ◌^◌, ℕ, Bool, true, false, not, ◌&&◌, ◌||◌, if◌then◌else◌, List, [], ◌∷◌, Option, Some, None, Result, Ok, Err}
+use Rattle.std.proofs.Common.{◌≡◌, ◌==◌, ◌<◌, ◌^◌, ℕ, Bool, true, false, not, ◌&&◌, ◌||◌, if◌then◌else◌, List, [], ◌∷◌, Option, Some, None, Ok}
+use Rattle.std.specs.Option.{option_and_then}
 use Rattle.page_words.specs.FiniteMap as map
 use Rattle.page_words.specs.Addresses.{page_number, slot_number, second_page}
 use Rattle.page_words.specs.declared.addresses.Size.{Size}
@@ -15,12 +16,6 @@ use Rattle.address_space.specs.Spaces.{Slot, Cell, at_page, slot_at, is_slot, is
 use Rattle.process_table.specs.Image.{memory_of, image_of, StandsFor}
 use Rattle.process_table.specs.State.{State}
 use Rattle.process_table.specs.View.{View}
-use Rattle.process_table.specs.declared.causes.Cause.{Cause}
-use Rattle.fault_handler.specs.Plans.{plan_at}
-use Rattle.fault_handler.specs.declared.plans.PageStep.{PageStep}
-use Rattle.fault_handler.specs.declared.plans.PageStep.TheVariants as step
-use Rattle.fault_handler.specs.declared.plans.Plan.{Plan}
-use Rattle.fault_handler.specs.declared.plans.Plan.TheVariants as plan
 use Rattle.kernel_calls.specs.Machine.{answer, next, completes}
 use Rattle.kernel_calls.specs.declared.calls.Call.{Call}
 use Rattle.kernel_calls.specs.declared.calls.Call.TheVariants as call
@@ -37,15 +32,9 @@ is_ended (end.Space p) slot = is_of p slot
 
 -- ---- By the event
 
--- a lazy page that gets a frame of its own for a store: it was read from frame 0
-abbrev pub page_filled : ℕ → PageStep → Option ℕ
-page_filled page step.Fill = Some page
-page_filled page _ = None
-
--- the second page of a plan, if the plan fills it
-abbrev pub second_filled : Option ℕ → Option PageStep → Option ℕ
-second_filled (Some page) (Some how) = page_filled page how
-second_filled _ _ = None
+-- a page of a process, if it is lazy
+abbrev pub if_lazy : memory.Image → ℕ → ℕ → Option ℕ
+if_lazy image p page = if is_lazy_at image (at_page p page) then Some page else None
 
 -- the end of the translations of at most two pages
 abbrev pub of_pages : ℕ → Option ℕ → Option ℕ → Ended
@@ -54,26 +43,17 @@ of_pages p (Some page) None = end.Page p page
 of_pages p None (Some page) = end.Page p page
 of_pages p (Some first) (Some second) = end.Pages p first second
 
--- what an access with this plan ends
-abbrev pub of_plan : ℕ → ℕ → Size → Plan → Ended
-of_plan p address size (plan.Ready first second) = of_pages p (page_filled (page_number address) first) (second_filled (second_page address size) second)
-of_plan p address size _ = end.Nothing
-
 -- What a call that completes ends: an Unmap its page's translation, a Protect one that allowed writes and no longer
--- does. A Store ends those of the lazy pages that it fills, an Accept that of a page that was lazy, and an Exit all of
--- its process.
+-- does. A Store ends those of its lazy pages, which were read from frame 0 and get frames of their own. An Accept ends
+-- that of a page that was lazy, and an Exit all of its process.
 abbrev pub of_call : View → ℕ → Call → Ended
-of_call v p (call.Store addr size value) = of_plan p addr size (plan_at v p addr size Write)
+of_call v p (call.Store addr size value) =
+    of_pages p (if_lazy (memory_of v) p (page_number addr)) (option_and_then (if_lazy (memory_of v) p) (second_page addr size))
 of_call v p (call.Unmap page) = end.Page p page
 of_call v p (call.Protect page write) = if not write && takes_stores v.state.spaces (memory_of v) (at_page p page) then end.Page p page else end.Nothing
-of_call v p (call.Accept giver giver_page page) = if is_lazy_at (memory_of v) (at_page giver giver_page) then end.Page giver giver_page else end.Nothing
+of_call v p (call.Accept giver giver_page page) = of_pages giver (if_lazy (memory_of v) giver giver_page) None
 of_call v p call.Exit = end.Space p
 of_call v p _ = end.Nothing
-
--- what a call ends whose test finds nothing against it
-abbrev pub if_allowed : Result ℕ Cause → Ended → Ended
-if_allowed (Ok charge) ended = ended
-if_allowed (Err cause) ended = end.Nothing
 
 -- a refusal or a fault ends none
 abbrev pub ended_by : View → Event → Ended

@@ -30,7 +30,7 @@ ghost use Rattle.kernel_calls.specs.declared.translations.Ended.TheVariants as e
 ghost use Rattle.kernel_calls.specs.Gone.{gone_by, gives_back};
 ghost use Rattle.kernel_calls.specs.Along.{EndsInOrder};
 ghost use Rattle.kernel_calls.specs.Processors.{IsCore};
-ghost use Rattle.kernel_calls.specs.Translations.{ended_by, Ends};
+ghost use Rattle.kernel_calls.specs.Translations.{ended_by, of_call, Ends};
 ghost use Rattle.kernel_calls.specs.Written.{WritesItsOwn};
 
 use crate::calls::{Decision, Event, Outcome, Reply};
@@ -145,8 +145,16 @@ impl Core {
     pub fn ends(&self, event: &Event) -> Ended
         ensures { result ≡ ended_by self.now event.now }
     {
+        self.may_end(event).if_completed(&self.decide(event).reply)
+    }
+
+    /// Which cached translations an event ends if it completes (`Ended::if_completed`), as `ends` says. It looks pages
+    /// up, and tests nothing of the call.
+    pub fn may_end(&self, event: &Event) -> Ended
+        ensures { result ≡ of_call self.now event.now.pid event.now.call }
+    {
         self.stands();
-        translations::ended_by(&self.processes, event)
+        translations::may_end(&self.processes, event)
     }
 
     /// Carries out what was decided on this state.
@@ -277,8 +285,9 @@ impl Core {
         ensures loose { gives_back event.now.call ≡ true → LooseStay (memory_of self.old) (memory_of self.new) }
         ensures writes { WritesItsOwn self.old self.new event.now }
     {
-        let ended = self.ends(event);
+        let ended = self.may_end(event);
         let reply = self.step(event);
+        let ended = ended.if_completed(&reply);
         (reply, ended)
     }
 
