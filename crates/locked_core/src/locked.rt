@@ -1,7 +1,7 @@
 //! The value under the lock.
 
 ghost use Rattle.std.specs.Prelude.{◌≡◌, ◌≤◌, ◌<◌, ◌+◌, ◌==◌, ◌^◌, ◌++◌, [], ◌∷◌, replicate, IfOk, IfErr, IfSome, OnErr, List, length, true};
-ghost use Rattle.kernel_calls.specs.Translations.{ended_by, Ends};
+ghost use Rattle.kernel_calls.specs.Translations.{ended_by, of_call, Ends};
 ghost use Rattle.left_right.specs.Sides.{view};
 ghost use Rattle.locked_core.specs.Counts.{last_of};
 ghost use Rattle.locked_core.specs.Endings.{EndsAtLast};
@@ -265,14 +265,14 @@ impl<N: Name> Locked<N> {
         Ok(entry.reply)
     }
 
-    /// Which translations an event will end on the core under the lock, if that is asked; otherwise Nothing.
+    /// Which translations an event ends on the core under the lock if it completes, if that is asked; otherwise Nothing.
     #[inline(always)]
-    fn ended_of(&self, asked: bool, event: &Event) -> Ended
-        ensures asked { asked ≡ true → result ≡ ended_by self.now.core event.now }
+    fn may_end(&self, asked: bool, event: &Event) -> Ended
+        ensures asked { asked ≡ true → result ≡ of_call self.now.core event.now.pid event.now.call }
         ensures stands { self.now.core.state ≡ state_after N.frames self.now.log }
     {
         if asked {
-            self.core.ends(event)
+            self.core.may_end(event)
         } else {
             Ended::Nothing
         }
@@ -307,8 +307,9 @@ impl<N: Name> Locked<N> {
     {
         let ready = self.judge(cpu, asked.pid, asked.call)?;
         gate.reach(Point::Locked);
-        let ended = self.ended_of(asked.ends, &ready.event);
+        let ended = self.may_end(asked.ends, &ready.event);
         let reply = self.carry_out(rt, ready, cpu)?;
+        let ended = ended.if_completed(&reply);
         Ok((reply, ended))
     }
 

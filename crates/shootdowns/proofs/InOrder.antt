@@ -28,10 +28,11 @@ use Rattle.kernel_calls.proofs.Leaving.{left_read}
 use Rattle.kernel_calls.proofs.LeftByProcessors.{walks_leave_cores, marks_leave_cores}
 use Rattle.kernel_calls.proofs.MixedRuns.{among_read, read_with, one}
 use Rattle.kernel_calls.proofs.Runs.{kept-next}
-use Rattle.shootdowns.specs.Windows.{only_takes, Acknowledged, nobody, usable, Moment, acknowledged, ended_in, settled, under_way, LeavesFree, Step, begun, loaded, stored, walked, marked, ordered, usual, refilled, forgotten, invalidated, told, Steps, none, first, memory_in, state_of, Stands, ShootdownsMakeEvents, stored_clean}
+use Rattle.shootdowns.specs.Windows.{only_takes, Acknowledged, nobody, usable, Moment, acknowledged, ended_in, settled, under_way, Step, begun, loaded, stored, walked, marked, ordered, usual, refilled, forgotten, invalidated, told, Steps, none, first, memory_in, state_of, Stands, ShootdownsMakeEvents, stored_clean}
 use Rattle.shootdowns.proofs.Accesses.{frame_at}
 use Rattle.shootdowns.proofs.Alike.{Alike, with_state, FlagsGrow, flags_read, alike_same, alike_then}
 use Rattle.shootdowns.proofs.Filled.{fill, get_filled}
+use Rattle.shootdowns.proofs.FreeFrames.{LeavesFree, walk_leaves}
 use Rattle.shootdowns.proofs.Kept.{none_left, nothing_read, left_all, left_more, left_fewer, left_done, all_told}
 use Rattle.shootdowns.proofs.Onward.{names_onward, tables_onward, full_onward}
 use Rattle.shootdowns.proofs.Refilled.{read_before}
@@ -111,8 +112,8 @@ onward x done e r s t w u keeps takes v k core later state_w state_u dirs roles 
     full slot (Some d) is = is ∙ ap (λ l. Some (with_bytes d l)) (bytes slot d is) ∙ sym (ap (option_map (fill (frame_at v) u.bytes slot)) is)
 
 one_walked : (x : Ended) (done : Acknowledged) (e : Event) (r : Reply) (s : State) (w u : View) (keeps : Processors) → only_takes e.call ≡ true → Good (under_way x done e r s w) keeps
-    → (a : Event) (q : Reply) → IsWalked w a q u → LeavesFree w u → IsOne (under_way x done e r s w) (a ∷ []) (q ∷ []) (under_way x done e r (next s a) u) keeps
-one_walked x done e r s w u keeps takes good a q k free =
+    → (a : Event) (q : Reply) → IsWalked w a q u → IsOne (under_way x done e r s w) (a ∷ []) (q ∷ []) (under_way x done e r (next s a) u) keeps
+one_walked x done e r s w u keeps takes good a q k =
     let core = good.stands.0 in
     let state = good.stands.2 in
     let t = good.taken takes in
@@ -141,7 +142,7 @@ one_walked x done e r s w u keeps takes good a q k free =
       );
       taken = λ _. (
         t.0,
-        onward x done e r s (next s a) w u keeps takes t.0 t.1 core left.1.core state now (ap (λ (z : View). z.directories) k.left) (ap (λ (z : View). z.roles) k.left) left.1.ends free (kept-next s a t.1.well).0 book grows keys
+        onward x done e r s (next s a) w u keeps takes t.0 t.1 core left.1.core state now (ap (λ (z : View). z.directories) k.left) (ap (λ (z : View). z.roles) k.left) left.1.ends (walk_leaves w u a q core k) (kept-next s a t.1.well).0 book grows keys
             (bytes_beside s t.1.well e takes w core state a k.directory k.live k.finds),
       );
     })
@@ -246,7 +247,7 @@ step (stored {x = x} {done = done} {w = w} {s = s} {keeps = keeps} {e = e} {a = 
 step (stored_clean {x = x} {done = done} {w = w} {s = s} {keeps = keeps} {e = e} {a = a} {r = r} {q = q} {bytes = bytes} i right l) good =
     let t = good.taken (right_taken e.call right) in
     one_clean x done e r keeps right i s w t.0 (record { stands = good.stands; taken = t.1 }) a q bytes l
-step (walked {x = x} {done = done} {w = w} {u = u} {s = s} {keeps = keeps} {e = e} {a = a} {r = r} {q = q} takes k free) good = one_walked x done e r s w u keeps takes good a q k free
+step (walked {x = x} {done = done} {w = w} {u = u} {s = s} {keeps = keeps} {e = e} {a = a} {r = r} {q = q} takes k) good = one_walked x done e r s w u keeps takes good a q k
 step (marked {x = x} {done = done} {w = w} {u = u} {s = s} {keeps = keeps} {e = e} {r = r} takes k) good = one_marked x done e r s w u keeps takes good k
 step (ordered {x = x} {done = done} {w = w} {s = s} {keeps = keeps} {e = e} {r = r}) good =
     is_event (under_way x done e r s w) (settled x done w) e r keeps good.stands.3 good.stands.2

@@ -4,6 +4,7 @@ pub mod CleanStores
 pub mod Dirtied
 pub mod DirtyCells
 pub mod Filled
+pub mod FreeFrames
 pub mod Given
 pub mod InOrder
 pub mod Kept

@@ -43,10 +43,10 @@ stale_loads_come_first v w keeps i e a r q core all b takes l =
     (both.0, both.1, came.state)
 
 pub walks_come_first : WalksComeFirst
-walks_come_first v w u e a r q core b takes is_walked leaves =
+walks_come_first v w u e a r q core b takes is_walked =
     let keeps : Processors = λ i. [] in
     let came = shootdowns_make_events v (settled (ended_by v e) nobody u) keeps keeps (a ∷ e ∷ []) (q ∷ r ∷ []) core (λ i. tt)
-    (window.first (window.begun b) (window.first (window.walked takes is_walked leaves) (window.first window.ordered window.none))) in
+    (window.first (window.begun b) (window.first (window.walked takes is_walked) (window.first window.ordered window.none))) in
     let both = both_told v.state e a r q came.replies in
     (both.0, both.1, came.state, came.stands.0)
 

@@ -4,8 +4,7 @@ use Rattle.std.specs.Option.{option_map, unwrap_or}
 use Rattle.std.specs.Prelude.{◌≡◌, ◌⊎◌, ◌≤◌, ◌^◌, ℕ, ◌==◌, Bool, true, false, not, if◌then◌else◌, List, [], ◌∷◌, ◌++◌, Some, length, slice_get}
 use Rattle.page_words.specs.Addresses.{EachTouched, page_number, slot_number, index_number, second_page}
 use Rattle.page_words.specs.Words.{with_flag}
-use Rattle.phys_memory.specs.Bytes.{frame_bytes, word_at, with_word, word_place}
-use Rattle.alloc_table.specs.declared.Role.TheVariants.{Free}
+use Rattle.phys_memory.specs.Bytes.{word_at, with_word, word_place}
 use Rattle.address_space.specs.Image.{table_at}
 use Rattle.address_space.specs.Spaces.{at_page}
 use Rattle.address_space.specs.Stays.{FramesStay, LooseStay}
@@ -130,10 +129,6 @@ pub record IsStaleClean (kept : List Kept) (w : View) (a : Event) (q : Reply) (b
 abbrev pub KeepsNone : Ended → List Kept → Type 0
 KeepsNone x kept = (n : ℕ) (k : Kept) → slice_get kept n ≡ Some k → is_invalidated x k ≡ false
 
--- no byte of a free frame is written
-abbrev pub LeavesFree : View → View → Type 0
-LeavesFree v w = (f : ℕ) → slice_get v.roles f ≡ Some Free → frame_bytes w.bytes f ≡ frame_bytes v.bytes f
-
 -- ---- Steps
 
 -- One step, with the events that come next in the order, and their replies or the values read. A window begins when
@@ -158,7 +153,7 @@ pub data Step : Moment → Processors → List Event → List Reply → Moment �
       → Step (under_way x done e r s w) keeps (a ∷ []) (q ∷ []) (under_way x done e r (next s a)
       (record w { state = next (next s a) e; bytes = bytes })) keeps
   walked : {x : Ended} {done : Acknowledged} {w u : View} {s : State} {keeps : Processors} {e a : Event} {r q : Reply}
-      → only_takes e.call ≡ true → IsWalked w a q u → LeavesFree w u
+      → only_takes e.call ≡ true → IsWalked w a q u
       → Step (under_way x done e r s w) keeps (a ∷ []) (q ∷ []) (under_way x done e r (next s a) u) keeps
   marked : {x : Ended} {done : Acknowledged} {w u : View} {s : State} {keeps : Processors} {e : Event} {r : Reply}
       → only_takes e.call ≡ true → IsMarked w u
@@ -235,7 +230,7 @@ StaleLoadsComeFirst = (v w : View) (keeps : Processors) (i : ℕ) (e a : Event) 
 -- and with an access by a walk, which finds what the event left
 abbrev pub WalksComeFirst : Type 0
 WalksComeFirst = (v w u : View) (e a : Event) (r q : Reply) → IsCore v → Begins v e r w → only_takes e.call ≡ true
-    → IsWalked w a q u → LeavesFree w u
+    → IsWalked w a q u
     → (q ≡ answer v.state a) × (r ≡ answer (next v.state a) e) × (u.state ≡ next (next v.state a) e) × IsCore u
 
 -- After any event, walks read all that was kept and isn't invalidated for it.

@@ -1,13 +1,17 @@
 use Rattle.std.proofs.Common.{◌≡◌, ◌∙◌, refl, ap, sym, subst, List}
+use Rattle.std.specs.Prelude.{if◌then◌else◌}
+use Rattle.kernel_calls.specs.Machine.{answer, completes}
 use Rattle.kernel_calls.specs.Translations.{ended_by, Ends}
 use Rattle.kernel_calls.specs.declared.calls.Event.{Event}
 use Rattle.kernel_calls.specs.declared.translations.Ended.{Ended}
+use Rattle.kernel_calls.specs.declared.translations.Ended.TheVariants as end
 use Rattle.locked_core.proofs.Entries.{makes}
 use Rattle.locked_core.proofs.Moments.{begins_push}
 use Rattle.locked_core.specs.Held.{UnderLock}
 use Rattle.locked_core.specs.Makers.{Maker}
 use Rattle.locked_core.specs.Moments.{Begins, Follows, entries_in, moment}
 use Rattle.locked_core.specs.declared.moment.Moment.{Moment}
+use Rattle.process_table.specs.State.{State}
 use Rattle.process_table.specs.View.{View}
 use Rattle.memory_report.proofs.GuardedHistories.{histories_guarded}
 use Rattle.memory_report.proofs.IsolatedHistories.{histories_isolated}
@@ -31,13 +35,16 @@ returns-clause-ended g c = λ asks.
     let held : UnderLock = c.judge.new.self in
     let event : Event = c.in_ok-ready.ready.event in
     let opening : View = g.N.Name.book.opening in
-    let told = c.ended_of-ended.ensures.asked asks in
+    let stands = c.may_end-ended.ensures.stands in
+    let reply : c.in_ok-reply.reply ≡ answer held.core.state event = done.reply ∙ ap (λ (s : State). answer s event) (sym stands) in
+    let told : c.if_completed-ended.result ≡ ended_by held.core event =
+    c.if_completed-ended.ensures ∙ (λ i. if completes (reply i) then c.may_end-ended.ensures.asked asks i else end.Nothing) in
     let seen : c.carry_out.new.cpu.seen ≡ c.carry_out.new.self.log = ap (λ (m : Maker). m.seen) done.made ∙ done.told.1 in
     record {
       before = held.moments;
       last = moment (entry_after g.N.Name.frames held.log event.cpu event.pid event.call) c.carry_out.new.self.core;
       grown = ap (λ (m : Maker). m.moments) done.made ∙ done.moments;
-      stood = ap (λ (v : View). v.state) done.left ∙ c.ended_of-ended.ensures.stands ∙ ap (state_after g.N.Name.frames) (sym done.told.0);
+      stood = ap (λ (v : View). v.state) done.left ∙ stands ∙ ap (state_after g.N.Name.frames) (sym done.told.0);
       stands = done.state ∙ ap (state_after g.N.Name.frames) (sym seen);
       told = told ∙ ap (λ (v : View). ended_by v event) (sym done.left);
       ends = subst (λ (t : Ended × View). Ends t.0 t.1 c.carry_out.new.self.core) (λ i. (sym told i, sym done.left i)) done.ends;
