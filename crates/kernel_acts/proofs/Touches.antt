@@ -35,7 +35,8 @@ use Rattle.kernel_calls.proofs.CoreMemory.{walks_of, ways_of}
 use Rattle.kernel_calls.proofs.Linked.{mapped_way}
 use Rattle.kernel_calls.proofs.Runs.{went-on}
 use Rattle.kernel_calls.proofs.Translated.{walk_finds, has_right}
-use Rattle.kernel_calls.specs.Translations.{of_call}
+use Rattle.std.specs.Option.{option_and_then}
+use Rattle.kernel_calls.specs.Translations.{if_lazy, of_call, of_pages}
 use Rattle.process_table.specs.declared.causes.Cause.TheVariants as cause
 use Rattle.kernel_calls.specs.declared.calls.Reply.TheVariants as reply
 use Rattle.kernel_calls.specs.declared.translations.Ended.TheVariants as end
@@ -206,12 +207,19 @@ marks_only s p a w =
     ap (λ xs. record s { spaces = store_in s.spaces slot (cell_or_fresh s.spaces slot) xs })
     (write_at-nothing (bytes_in s.spaces slot) (offset_number a) ∙ sym (own_same s p a w))
 
+-- a page that takes stores isn't lazy
+taken_real : (v : View) (p a : ℕ) → takes_stores v.state.spaces (memory_of v) (slot_at p a) ≡ true → is_lazy_at (memory_of v) (slot_at p a) ≡ false
+taken_real v p a taken = grind arith
+
 marked_ends : (v : View) (p a b : ℕ) → takes_stores v.state.spaces (memory_of v) (slot_at p a) ≡ true → end.Nothing ≡ ended_by v (store_byte p a b)
 marked_ends v p a b taken = by (completes (answer v.state (store_byte p a b)))
   where
-    by : (done : Bool) → end.Nothing ≡ (if done then of_call v p (call.Store a One b) else end.Nothing)
+    first : if_lazy (memory_of v) p (page_number a) ≡ None
+    first = ap (λ lazy. if lazy then Some (page_number a) else None) (taken_real v p a taken)
+
+    by : (done : Bool) → end.Nothing ≡ (if done then of_call v p (store_byte p a b).call else end.Nothing)
     by false = refl
-    by true = grind (arith, one_page)
+    by true = (λ i. of_pages p (sym first i) (option_and_then (if_lazy (memory_of v) p) (sym (one_page a) i)))
 
 pub marks_touch : (v w : View) (p a : ℕ) → IsCore v → IsCore w → is_live v.state p ≡ true → IsUserPage (page_number a) → takes_stores v.state.spaces (memory_of v) (slot_at p a) ≡ true
     → w.state ≡ after_stores v.state p a [] → FramesStay none_goes (memory_of v) (memory_of w) → Touches v (access_of_byte v.state p a Write) p a Write reply.Done end.Nothing w

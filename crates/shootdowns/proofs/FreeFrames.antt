@@ -2,7 +2,7 @@
 use Rattle.std.proofs.Common.{◌≡◌, ◌≢◌, ℕ, zero, suc, ◌+◌, ◌*◌, ◌/◌, ◌%◌, ◌<◌, ◌≤◌, ◌^◌, true, List, [], ◌∷◌, length, refl, ap, sym, ◌∙◌, subst, arith, inl, inr, Option, Some, None}
 use Rattle.std.proofs.Math.ListN.{length-set}
 use Rattle.std.specs.Prelude.{◌⊎◌, IsOk, slice_get, slice_set}
-use Rattle.std.specs.Option.{option_and_then, option_map, unwrap_or}
+use Rattle.std.specs.Option.{option_map, unwrap_or}
 use Rattle.page_words.specs.Addresses.{page_number, slot_number, index_number, offset_number, start_number, second_page, byte_count}
 use Rattle.page_words.specs.declared.addresses.Size.{Size}
 use Rattle.page_words.specs.Words.{frame_number}
@@ -16,7 +16,6 @@ use Rattle.table_walk.specs.declared.Access.TheVariants.{Read, Write}
 use Rattle.table_walk.specs.Marks.{marked, accessed_word, touched_word, CanBeMarked}
 use Rattle.table_walk.specs.Walk.{walk_of, dir_place, dir_word, table_place, table_word}
 use Rattle.table_walk.proofs.MarkLemmas.{marks_keep_walks, marks_change_two_words}
-use Rattle.page_map.specs.Entries.{table_of}
 use Rattle.address_space.specs.ByWalk.{byte_place, finds, after_walked_store}
 use Rattle.address_space.specs.Image.{Image, directory_at, image_from}
 use Rattle.address_space.specs.Sound.{IsSound, HoldsPage}
@@ -72,7 +71,7 @@ module _ (directories : List (Option ℕ)) (roles : List Role) (p d f : ℕ) (li
         let at = found (directory_of directories) (frame_bytes bytes) p d (page_number address) e.entry e.here in
         let names = ap frame_number (word_in-frame bytes d s small) ∙ table_by_word _ at.table at.there in
         ap (slice_get roles) names
-        ∙ sound.tables.table p s at.table (ap (option_and_then (λ x. table_of (frame_bytes bytes) x s)) live ∙ at.there)
+        ∙ sound.tables.table p s at.table (ap (λ (o : Option ℕ). table_in (λ q. o) (frame_bytes bytes) p s) live ∙ at.there)
 
     -- and the frame that is found is a page's, or frame 0
     page : HoldsPage (slice_get roles e.entry.frame)
@@ -137,20 +136,17 @@ module _ (directories : List (Option ℕ)) (roles : List Role) (p d f : ℕ) (li
       found_first : (addr < 2 ^ 32) × IsOk (walk_of bytes d addr Read)
       found_first = found_at (image_from directories bytes roles) p d addr Read live (finds_first (image_from directories bytes roles) p addr size Read test)
 
-      abbrev one : List ℕ
-      one = marked bytes d addr Read
-
       e : FoundEntry bytes d addr Read
       e = found_entry directories bytes roles p d sound live addr Read found_first.0 found_first.1
 
       by : (x : Option ℕ) → second_page addr size ≡ x
-          → frame_bytes (unwrap_or (option_map (λ page. marked one d (start_number page) Read) x) one) f ≡ frame_bytes bytes f
+          → frame_bytes (unwrap_or (option_map (λ page. marked (marked bytes d addr Read) d (start_number page) Read) x) (marked bytes d addr Read)) f ≡ frame_bytes bytes f
       by None none = mark_free bytes addr Read sound e
       by (Some page) some =
           let at = found_at (image_from directories bytes roles) p d (start_number page) Read live (finds_second (image_from directories bytes roles) p addr size Read page some test) in
           let later = (load_marked directories bytes roles p d addr sound live e).sound in
           let ok = subst IsOk (sym (marks_keep_walks bytes d addr Read (can_mark bytes addr Read sound found_first.0 found_first.1) d (start_number page) Read)) at.1 in
-          mark_free one (start_number page) Read later (found_entry directories one roles p d later live (start_number page) Read at.0 ok)
+          mark_free (marked bytes d addr Read) (start_number page) Read later (found_entry directories (marked bytes d addr Read) roles p d later live (start_number page) Read at.0 ok)
           ∙ mark_free bytes addr Read sound e
   call_free bytes _ sound v is h = cc
 

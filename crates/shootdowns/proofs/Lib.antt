@@ -22,5 +22,6 @@ pub mod Taking
 pub mod Turned
 pub mod Untouched
 pub mod WalkedIn
+pub mod WorkedProtects
 pub mod WorkedSteps
 pub mod Zeros

@@ -27,7 +27,7 @@ use Rattle.kernel_calls.specs.declared.translations.Ended.{Ended}
 use Rattle.kernel_calls.specs.declared.translations.Ended.TheVariants as end
 use Rattle.shootdowns.specs.Windows.{Begins, IsStale, KeepsNone, Steps, begun, loaded, stored, marked, ordered, refilled, invalidated, told, none, first, nobody, with_one, settled}
 use Rattle.shootdowns.specs.Worked.{first_store, unmap_it, load_it, store_it, none_kept, WorkedWindow}
-use Rattle.shootdowns.proofs.Given.{given, given_frame}
+use Rattle.shootdowns.proofs.Given.{dirty_real, given, given_frame}
 use Rattle.shootdowns.proofs.InOrder.{shootdowns_make_events}
 
 abbrev stored_state : State
@@ -47,7 +47,7 @@ module _ (v w x : View) (r : Reply) (core : IsCore v) (state : v.state ≡ next 
   there = ap (λ (s : State). map.get s.spaces (at_page 0 0x40000)) state ∙ cell_there.1
 
   abbrev frame : ℕ
-  frame = given_frame v core 0 0x40000 cell_there.0 there (flag_there (λ c. c.write) refl) (flag_there (λ c. c.accessed) refl) (flag_there (λ c. c.dirty) refl)
+  frame = given_frame v core 0 0x40000 cell_there.0 there
 
   abbrev kept : Kept
   kept = translation (record { slot = at_page 0 0x40000; frame = frame; write = true; dirty = true })
@@ -91,7 +91,8 @@ module _ (v w x : View) (r : Reply) (core : IsCore v) (state : v.state ≡ next 
   steps : Steps (settled end.Nothing nobody v) none_kept (load_it ∷ store_it ∷ unmap_it ∷ []) (q ∷ reply.Done ∷ r ∷ [])
       (settled end.Nothing nobody (record x { state = next (next v.state store_it) unmap_it; bytes = bytes })) last
   steps =
-      first (refilled 0 kept (given v core 0 0x40000 cell_there.0 there (flag_there (λ c. c.write) refl) (flag_there (λ c. c.accessed) refl) (flag_there (λ c. c.dirty) refl)))
+      first (refilled 0 kept (given v core 0 0x40000 cell_there.0 there true (flag_there (λ c. c.write) refl) (flag_there (λ c. c.accessed) refl)
+      (dirty_real v core (at_page 0 0x40000) cell_there.0 there (flag_there (λ c. c.dirty) refl)) (λ _. flag_there (λ c. c.dirty) refl)))
       (first (begun b) (first (marked refl m) (first (loaded 0 refl loads) (first (stored 0 refl stores)
       (first (invalidated 0) (first ordered (first (told all) none)))))))
 

@@ -1,16 +1,17 @@
--- A worked window: a page is unmapped, and a processor loads and stores by what it kept of it.
-use Rattle.std.specs.Prelude.{◌≡◌, ℕ, List, [], ◌∷◌}
+-- Two worked windows. A page is unmapped, and a processor loads and stores by what it kept of it. A page that is clean is
+-- protected, and processors load by their walk and store by what they kept of it before dirty was set.
+use Rattle.std.specs.Prelude.{◌≡◌, ℕ, false, List, [], ◌∷◌}
 use Rattle.page_words.specs.declared.addresses.Size.TheVariants.{One}
 use Rattle.process_table.specs.State.{open_with}
 use Rattle.process_table.specs.View.{View}
 use Rattle.kernel_calls.specs.Machine.{next}
-use Rattle.kernel_calls.specs.Processors.{Processors, IsMarked, IsLoaded}
+use Rattle.kernel_calls.specs.Processors.{Processors, IsMarked, IsLoaded, IsWalked}
 use Rattle.kernel_calls.specs.declared.calls.Call.{Call}
 use Rattle.kernel_calls.specs.declared.calls.Call.TheVariants as call
 use Rattle.kernel_calls.specs.declared.calls.Event.{Event}
 use Rattle.kernel_calls.specs.declared.calls.Reply.TheVariants as reply
 use Rattle.kernel_calls.specs.declared.translations.Ended.TheVariants as end
-use Rattle.shootdowns.specs.Windows.{Begins, IsStale, Steps, nobody, settled}
+use Rattle.shootdowns.specs.Windows.{Begins, IsStale, IsStaleClean, Steps, nobody, settled}
 
 -- a call of process 0
 abbrev pub by_root : Call → Event
@@ -52,3 +53,43 @@ pub record WorkedWindow (x : View) : Type 0 where
   pub steps : Steps (settled end.Nothing nobody before) none_kept (load_it ∷ store_it ∷ unmap_it ∷ [])
       (reply.Value 7 ∷ reply.Done ∷ reply.Done ∷ [])
       (settled end.Nothing nobody (record x { state = next (next before.state store_it) unmap_it; bytes = bytes })) last
+
+-- it forks
+abbrev pub fork_it : Event
+fork_it = by_root (call.Fork 8)
+
+-- a call of its child, process 1
+abbrev pub by_child : Call → Event
+by_child c = record { cpu = 0; pid = 1; call = c }
+
+-- the child loads the byte from its copy of the page, stores there, and protects the copy to read-only
+abbrev pub load_copy : Event
+load_copy = by_child (call.Load 0x40000000 One)
+
+abbrev pub store_copy : Event
+store_copy = by_child (call.Store 0x40000000 One 8)
+
+abbrev pub protect_it : Event
+protect_it = by_child (call.Protect 0x40000 false)
+
+-- it asks for its quota
+abbrev pub ask_it : Event
+ask_it = by_child call.Quota
+
+-- The child's copy is clean, and accessed since it was loaded from. Processor 0 kept its translation without dirty. The
+-- core carries out a Protect of the copy. A processor loads from it by its walk, and processor 0 stores by what it kept,
+-- and sets dirty. It invalidates, and the window ends. In the next one, of a call that changes nothing, it forgets all.
+pub record WorkedProtect (w : View) : Type 0 where
+  pub before : View
+  pub opened : before.state ≡ next (next (next (open_with 16) first_store) fork_it) load_copy
+  pub begins : Begins before protect_it reply.Done w
+  pub walked_to : View
+  pub walked : IsWalked w load_copy (reply.Value 7) walked_to
+  pub keeps : Processors
+  pub bytes : List ℕ
+  pub clean : IsStaleClean (keeps 0) walked_to store_copy reply.Done bytes
+  pub after : View
+  pub last : Processors
+  pub steps : Steps (settled end.Nothing nobody before) none_kept
+      (load_copy ∷ store_copy ∷ protect_it ∷ ask_it ∷ [])
+      (reply.Value 7 ∷ reply.Done ∷ reply.Done ∷ reply.Quota 8 3 0 ∷ []) (settled end.Nothing nobody after) last

@@ -1,0 +1,301 @@
+-- The steps of the worked Protect.
+use Rattle.std.proofs.Common.{◌≡◌, ℕ, ◌==◌, ◌≤◌, ◌<◌, ◌^◌, ◌&&◌, Bool, true, false, List, [], ◌∷◌, refl, ap, sym, ◌∙◌, subst, inl, inr, zero, suc, arith, Option, Some, is_some, length, unwrap_or, Ok}
+use Rattle.std.specs.Prelude.{◌⊎◌, if◌then◌else◌, slice_get, nat_lt}
+use Rattle.std.specs.Option.{option_map}
+use Rattle.std.specs.Result.{is_ok}
+use Rattle.page_words.specs.Addresses.{IsUserPage}
+use Rattle.page_words.specs.FiniteMap as map
+use Rattle.page_words.proofs.OptionLemmas.{some_value}
+use Rattle.page_words.specs.declared.addresses.Size.TheVariants.{One}
+use Rattle.table_walk.specs.declared.Access.TheVariants.{Read}
+use Rattle.table_walk.specs.Walk.{walk_of}
+use Rattle.address_space.specs.ByWalk.{finds_at}
+use Rattle.address_space.specs.Image.{is_lazy_at}
+use Rattle.address_space.specs.Spaces.{Cell, at_page}
+use Rattle.address_space.specs.Stays.{FramesStay, LooseStay, none_goes, way_of}
+use Rattle.process_table.specs.Image.{memory_of}
+use Rattle.process_table.specs.State.{State, open_with}
+use Rattle.process_table.specs.View.{View}
+use Rattle.kernel_calls.specs.Gone.{gone_by, gone_of_call}
+use Rattle.kernel_calls.specs.Kept.{bytes_kept}
+use Rattle.kernel_calls.specs.Lazy.{LeavesLazy}
+use Rattle.kernel_calls.specs.Machine.{answer, completes, next}
+use Rattle.kernel_calls.specs.Processors.{IsCore, IsWalked, Processors, with_kept, with_bytes}
+use Rattle.kernel_calls.specs.Translations.{Kept, translation, directory_entry, Ends, ended_by, is_invalidated, left_by}
+use Rattle.kernel_calls.specs.Walked.{bytes_accessed, reply_found}
+use Rattle.kernel_calls.specs.declared.calls.Call.TheVariants as call
+use Rattle.kernel_calls.specs.declared.calls.Event.{Event}
+use Rattle.kernel_calls.specs.declared.calls.Reply.{Reply}
+use Rattle.kernel_calls.specs.declared.calls.Reply.TheVariants as reply
+use Rattle.kernel_calls.specs.declared.translations.Ended.{Ended}
+use Rattle.kernel_calls.specs.declared.translations.Ended.TheVariants as end
+use Rattle.kernel_calls.proofs.CoreMemory.{ways_of}
+use Rattle.kernel_calls.proofs.Decided.{next-stays, next-goes}
+use Rattle.kernel_calls.proofs.Leaving.{nothing_ends}
+use Rattle.kernel_calls.proofs.LeftByProcessors.{walks_leave_cores}
+use Rattle.kernel_calls.proofs.Linked.{mapped_way}
+use Rattle.shootdowns.specs.Windows.{Begins, IsStaleClean, KeepsNone, Steps, begun, walked, stored_clean, ordered, refilled, forgotten, invalidated, told, none, first, nobody, with_one, settled, all_dirty}
+use Rattle.shootdowns.specs.Worked.{first_store, fork_it, load_copy, store_copy, protect_it, ask_it, none_kept, WorkedProtect}
+use Rattle.shootdowns.proofs.Given.{dirty_real, given, given_directory, given_frame, given_live, found}
+use Rattle.shootdowns.proofs.InOrder.{shootdowns_make_events}
+
+abbrev loaded_state : State
+loaded_state = next (next (next (open_with 16) first_store) fork_it) load_copy
+
+cell_there : (c : Cell) × (map.get loaded_state.spaces (at_page 1 0x40000) ≡ Some c)
+cell_there = some_value (map.get loaded_state.spaces (at_page 1 0x40000)) refl
+
+flag_there : (flag : Cell → Bool) → option_map flag (map.get loaded_state.spaces (at_page 1 0x40000)) ≡ Some true → flag cell_there.0 ≡ true
+flag_there flag h = let e : Some (flag cell_there.0) ≡ Some true = sym (ap (option_map flag) cell_there.1) ∙ h in cc
+
+ask_stays : (s : State) → next s ask_it ≡ s
+ask_stays s = grind (arith, next-stays, next-goes)
+
+none_invalidated : (k : Kept) → is_invalidated end.Nothing k ≡ false
+none_invalidated (translation k) = refl
+none_invalidated (directory_entry k) = refl
+
+module _ (v w : View) (r : Reply) (core : IsCore v) (state : v.state ≡ loaded_state) (real : is_lazy_at (memory_of v) (at_page 1 0x40000) ≡ false)
+    (b : Begins v protect_it r w) where
+  there : map.get v.state.spaces (at_page 1 0x40000) ≡ Some cell_there.0
+  there = ap (λ (s : State). map.get s.spaces (at_page 1 0x40000)) state ∙ cell_there.1
+
+  abbrev frame : ℕ
+  frame = given_frame v core 1 0x40000 cell_there.0 there
+
+  abbrev kept : Kept
+  kept = translation (record { slot = at_page 1 0x40000; frame = frame; write = true; dirty = false })
+
+  abbrev keeps : Processors
+  keeps = with_kept none_kept 0 (kept ∷ [])
+
+  -- ---- The walk
+
+  later : IsCore w
+  later = b.carried.core
+
+  cell_later : (c : Cell) × (map.get w.state.spaces (at_page 1 0x40000) ≡ Some c)
+  cell_later =
+      let is : w.state ≡ next loaded_state protect_it = b.carried.state ∙ ap (λ (s : State). next s protect_it) state in
+      some_value (map.get w.state.spaces (at_page 1 0x40000)) (ap (λ (s : State). is_some (map.get s.spaces (at_page 1 0x40000))) is)
+
+  abbrev directory : ℕ
+  directory = given_directory w later 1 0x40000 cell_later.0 cell_later.1
+
+  finds : finds_at (memory_of w) 1 Read 0x40000000 ≡ true
+  finds =
+      ap (λ o. nat_lt 0x40000000 0x100000000 && unwrap_or (option_map (λ d. is_ok (walk_of w.bytes d 0x40000000 Read)) o) false) (given_live w later 1 0x40000 cell_later.0 cell_later.1)
+      ∙ ap (λ r. nat_lt 0x40000000 0x100000000 && is_ok r)
+      (found w later 1 0x40000 cell_later.0 cell_later.1 Read 0x40000000 (omega arith) refl (λ no. (let k = no in cc)))
+
+  abbrev u : View
+  u = with_bytes w (next w.state load_copy) (bytes_accessed w.bytes directory load_copy.call)
+
+  abbrev q : Reply
+  q = reply_found w.bytes directory load_copy.call
+
+  walks : IsWalked w load_copy q u
+  walks = record {
+    finds = ap (λ b. b && true) finds;
+    directory = directory;
+    live = given_live w later 1 0x40000 cell_later.0 cell_later.1;
+    found = refl;
+    left = refl;
+  }
+
+  -- ---- The store
+
+  short : length u.bytes ≤ 2 ^ 32
+  short =
+      let left = (walks_leave_cores w u load_copy q later walks).1.core in
+      let size = left.image.memory.sound.size in
+      let few = left.sized.few in
+      omega (arith, size, few)
+
+  abbrev bytes : List ℕ
+  bytes = bytes_kept (λ _. frame) (all_dirty u 1 store_copy.call) store_copy.call
+
+  stores : IsStaleClean (keeps 0) u store_copy reply.Done bytes
+  stores = record {
+    size = short;
+    frames = λ _. frame;
+    through = (record { place = 0; dirty = false; there = refl }, tt);
+    found = refl;
+    left = refl;
+  }
+
+  abbrev x_ended : Ended
+  x_ended = ended_by v protect_it
+
+  abbrev kept_then : Processors
+  kept_then = with_kept keeps 0 (left_by x_ended (keeps 0))
+
+  all : (i : ℕ) → (with_one nobody 0 i ≡ true) ⊎ KeepsNone x_ended (kept_then i)
+  all i = by (i == 0)
+    where
+      none_there : (n : ℕ) (k : Kept) → slice_get {X = Kept} [] n ≡ Some k → ⊥
+      none_there zero k h = cc
+      none_there (suc n) k h = cc
+
+      by : (b : Bool) → ((if b then true else false) ≡ true)
+          ⊎ KeepsNone x_ended (if b then left_by x_ended (keeps 0) else if b then kept ∷ [] else [])
+      by true = inl refl
+      by false = inr (λ n k h. absurd (none_there n k h))
+
+  abbrev after : View
+  after = record u { state = next (next (next v.state load_copy) store_copy) protect_it; bytes = bytes }
+
+  -- the window, and whatever steps come after it
+  window : {last : Processors} {events : List Event} {replies : List Reply} → Steps (settled end.Nothing nobody after) kept_then events replies (settled end.Nothing nobody after) last
+      → Steps (settled end.Nothing nobody v) none_kept (load_copy ∷ store_copy ∷ protect_it ∷ events) (q ∷ reply.Done ∷ r ∷ replies) (settled end.Nothing nobody after) last
+  window more =
+      first (refilled 0 kept (given v core 1 0x40000 cell_there.0 there false (flag_there (λ c. c.write) refl) (flag_there (λ c. c.accessed) refl) real (λ no. (let k = no in cc))))
+      (first (begun b) (first (walked refl walks) (first (stored_clean 0 refl stores) (first (invalidated 0) (first ordered (first (told all) more))))))
+
+  core_after : IsCore after
+  core_after = (shootdowns_make_events v (settled end.Nothing nobody after) none_kept kept_then (load_copy ∷ store_copy ∷ protect_it ∷ []) (q ∷ reply.Done ∷ r ∷ []) core (λ i. tt) (window none)).stands.0
+
+  -- ---- The next window
+
+  abbrev p : Reply
+  p = answer after.state ask_it
+
+  asks_none : ended_by after ask_it ≡ end.Nothing
+  asks_none = grind arith
+
+  asked : Begins after ask_it p after
+  asked = record {
+    carried = record {
+      reply = refl;
+      state = same;
+      ends = subst (λ (x : Ended). Ends x after after) (sym asks_none) (nothing_ends after after core_after core_after refl still);
+      core = core_after;
+    };
+    stay = record { directories = λ p d some live. live; tables = λ slot d f t stays way table. table; ways = λ slot d f stays way. way };
+    loose = λ no. cc;
+  }
+    where
+      same : after.state ≡ next after.state ask_it
+      same = sym (ask_stays after.state)
+
+      still : FramesStay none_goes (memory_of after) (memory_of after)
+      still = record { directories = λ p d some live. live; tables = λ slot d f t stays way table. table; ways = λ slot d f stays way. way }
+
+  abbrev last : Processors
+  last = with_kept kept_then 0 []
+
+  asks : Steps (settled end.Nothing nobody after) kept_then (ask_it ∷ []) (p ∷ []) (settled end.Nothing nobody after) last
+  asks = first (begun asked) (first (forgotten 0 [] (λ m k h. absurd (none_there m k h))) (first ordered (first (told (λ i. inr (keeps_none i))) none)))
+    where
+      none_there : (n : ℕ) (k : Kept) → slice_get {X = Kept} [] n ≡ Some k → ⊥
+      none_there zero k h = cc
+      none_there (suc n) k h = cc
+
+      keeps_none : (i : ℕ) → KeepsNone (ended_by after ask_it) (last i)
+      keeps_none i n k h = subst (λ (x : Ended). KeepsNone x (last i)) (sym asks_none) (λ n k h. none_invalidated k) n k h
+
+  steps : Steps (settled end.Nothing nobody v) none_kept (load_copy ∷ store_copy ∷ protect_it ∷ ask_it ∷ []) (q ∷ reply.Done ∷ r ∷ p ∷ []) (settled end.Nothing nobody after) last
+  steps = window asks
+
+  -- ---- The replies
+
+  replied : r ≡ reply.Done
+  replied = b.carried.reply ∙ ap (λ (s : State). answer s protect_it) state
+
+  value : q ≡ reply.Value 7
+  value = (walks_leave_cores w u load_copy q later walks).0 ∙ ap (λ (s : State). answer s load_copy) (b.carried.state ∙ ap (λ (s : State). next s protect_it) state)
+
+  quota : p ≡ reply.Quota 8 3 0
+  quota = ap (λ (s : State). answer (next (next (next s load_copy) store_copy) protect_it) ask_it) state
+
+  pub worked : WorkedProtect w
+  worked = record {
+    before = v;
+    opened = state;
+    begins = subst (λ (y : Reply). Begins v protect_it y w) replied b;
+    walked_to = u;
+    walked = subst (λ (y : Reply). IsWalked w load_copy y u) value walks;
+    keeps = keeps;
+    bytes = bytes;
+    clean = stores;
+    after = after;
+    last = last;
+    steps = subst (λ (y : Reply). Steps (settled end.Nothing nobody v) none_kept (load_copy ∷ store_copy ∷ protect_it ∷ ask_it ∷ []) (y ∷ reply.Done ∷ reply.Done ∷ reply.Quota 8 3 0 ∷ []) (settled end.Nothing nobody after) last) value
+        (subst (λ (y : Reply). Steps (settled end.Nothing nobody v) none_kept (load_copy ∷ store_copy ∷ protect_it ∷ ask_it ∷ []) (q ∷ reply.Done ∷ y ∷ reply.Quota 8 3 0 ∷ []) (settled end.Nothing nobody after) last) replied
+        (subst (λ (y : Reply). Steps (settled end.Nothing nobody v) none_kept (load_copy ∷ store_copy ∷ protect_it ∷ ask_it ∷ []) (q ∷ reply.Done ∷ r ∷ y ∷ []) (settled end.Nothing nobody after) last) quota steps));
+  }
+
+-- what the calls of a core that boots ensure, with these events
+pub record Made (e1 e2 e3 e4 : Event) (o s f v w : View) (r fork_reply : Reply) (y : Ended) : Type 0 where
+  pub opening : o.state ≡ open_with 16
+  pub stored : s.state ≡ next o.state e1
+  pub core_stored : IsCore s
+  pub forked : f.state ≡ next s.state e2
+  pub fork_told : fork_reply ≡ answer s.state e2
+  pub lazy : LeavesLazy s e2 fork_reply f
+  pub core_forked : IsCore f
+  pub loaded : v.state ≡ next f.state e3
+  pub load_stay : FramesStay (gone_by f.state e3) (memory_of f) (memory_of v)
+  pub before : IsCore v
+  pub reply : r ≡ answer v.state e4
+  pub ended : y ≡ ended_by v e4
+  pub state : w.state ≡ next v.state e4
+  pub ends : Ends y v w
+  pub stay : FramesStay (gone_by v.state e4) (memory_of v) (memory_of w)
+  pub later : IsCore w
+
+-- which are those of the worked Protect
+abbrev pub Called : View → View → View → View → View → Reply → Reply → Ended → Type 0
+Called = Made first_store fork_it load_copy protect_it
+
+pub called : (e1 e2 e3 e4 : Event) (o s f v w : View) (r fork_reply : Reply) (y : Ended) → e1 ≡ first_store → e2 ≡ fork_it → e3 ≡ load_copy → e4 ≡ protect_it
+    → Made e1 e2 e3 e4 o s f v w r fork_reply y → Called o s f v w r fork_reply y
+called e1 e2 e3 e4 o s f v w r fork_reply y one two three four =
+    subst (λ (t : Type 0). t) (λ i. Made (one i) (two i) (three i) (four i) o s f v w r fork_reply y)
+
+pub worked_by : (o s f v w : View) (r fork_reply : Reply) (y : Ended) → Called o s f v w r fork_reply y → WorkedProtect w
+worked_by o s f v w r fork_reply y k = worked v w r k.before opened real_here
+    (record {
+      carried = record { reply = k.reply; state = k.state; ends = subst (λ (z : Ended). Ends z v w) k.ended k.ends; core = k.later };
+      stay = k.stay;
+      loose = λ no. cc;
+    })
+  where
+    stored : s.state ≡ next (open_with 16) first_store
+    stored = k.stored ∙ ap (λ (z : State). next z first_store) k.opening
+
+    forked : f.state ≡ next (next (open_with 16) first_store) fork_it
+    forked = k.forked ∙ ap (λ (z : State). next z fork_it) stored
+
+    opened : v.state ≡ loaded_state
+    opened = k.loaded ∙ ap (λ (z : State). next z load_copy) forked
+
+    -- the root's page is dirty
+    cell : (c : Cell) × (map.get s.state.spaces (at_page 0 0x40000) ≡ Some c)
+    cell = some_value (map.get s.state.spaces (at_page 0 0x40000)) (ap (λ (z : State). is_some (map.get z.spaces (at_page 0 0x40000))) stored)
+
+    dirty : cell.0.dirty ≡ true
+    dirty =
+        let e : Some cell.0.dirty ≡ Some true = sym (ap (option_map (λ (c : Cell). c.dirty)) cell.1)
+        ∙ ap (λ (z : State). option_map (λ (c : Cell). c.dirty) (map.get z.spaces (at_page 0 0x40000))) stored in
+        cc
+
+    -- so that its copy isn't lazy
+    real_forked : is_lazy_at (memory_of f) (at_page 1 0x40000) ≡ false
+    real_forked =
+        k.lazy.copied 8 1 0x40000 refl (k.fork_told ∙ ap (λ (z : State). answer z fork_it) stored)
+        ∙ dirty_real s k.core_stored (at_page 0 0x40000) cell.0 cell.1 dirty
+
+    real_here : is_lazy_at (memory_of v) (at_page 1 0x40000) ≡ false
+    real_here =
+        let way = mapped_way f k.core_forked.image (at_page 1 0x40000) (ap (λ (z : State). is_some (map.get z.spaces (at_page 1 0x40000))) forked) in
+        let stays : gone_by f.state load_copy (at_page 1 0x40000) way.1 ≡ false = gone_none f.state way.1 in
+        (ways_of k.before).lazy (at_page 1 0x40000) way.0 way.1 (k.load_stay.ways (at_page 1 0x40000) way.0 way.1 stays way.2)
+        ∙ sym ((ways_of k.core_forked).lazy (at_page 1 0x40000) way.0 way.1 way.2) ∙ real_forked
+      where
+        gone_none : (z : State) (g : ℕ) → gone_by z load_copy (at_page 1 0x40000) g ≡ false
+        gone_none z g = by (completes (answer z load_copy))
+          where
+            by : (b : Bool) → (if b then gone_of_call 1 load_copy.call (at_page 1 0x40000) g else false) ≡ false
+            by true = refl
+            by false = refl
