@@ -7,7 +7,7 @@ use std::process::Abort;
 use std::test::Fail;
 
 /// Loads four bytes of a process's first page, and compares the reply.
-fn check_load(rt: &HostRuntime, core: &mut Core, number: u32, reply: Reply) {
+fn check_load(rt: &impl Abort, core: &mut Core, number: u8, reply: Reply) {
     let pid = Pid::new(number).expect(rt, "it is below 64");
     let (addr, size) = (Vaddr(0x4000_0000), Size::Four);
     let call = Call::Load { addr, size };

@@ -106,7 +106,9 @@ pub fn may_end(processes: &Processes, event: &Event) -> Ended
             by_protect(processes, pid, page)
         }
         Call::Accept {
-            giver, giver_page, ..
+            giver,
+            giver_page,
+            ..
         } => pages(giver, if_lazy(processes, giver, giver_page), None),
         Call::Exit => Ended::Space { pid },
         _ => Ended::Nothing,
