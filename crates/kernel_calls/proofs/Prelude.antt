@@ -109,7 +109,7 @@ pub use Rattle.process_table.proofs.Forks.{fork-cost, may_fork, root-fork, well_
 pub use Rattle.process_table.proofs.Overdrawn.{extra_page, extra_touched}
 pub use Rattle.process_table.proofs.Placed.{has_place, place_known, placed_second}
 pub use Rattle.process_table.proofs.Refusals.{MayAccept, may_accept, may_map, may_offer, may_protect, may_unmap}
-pub use Rattle.process_table.proofs.SharingLaws.{giver_mapped, giver_user, touched_user, well_formed-accept}
+pub use Rattle.process_table.proofs.SharingLaws.{giver_mapped, touched_user, well_formed-accept}
 pub use Rattle.process_table.proofs.SharingLaws.{well_formed-offer, well_formed-protect, well_formed-withdraw}
 pub use Rattle.process_table.proofs.SpaceLaws.{not_less, well_formed-bytes, well_formed-touched}
 pub use Rattle.process_table.specs.Apart.{AreAlike, IsApart, alone_with, lone, pages_held}

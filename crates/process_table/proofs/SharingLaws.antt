@@ -263,9 +263,6 @@ mapped_user s slot w mapped = by (map.get s.spaces slot) refl mapped
 pub touched_user : (s : State) (p address : ℕ) (size : Size) → IsWellFormed s → EachTouched address size (IsThere s.spaces p) → EachTouched address size IsUserPage
 touched_user s p address size w there = grind (arith, mapped_user)
 
-pub giver_user : (s : State) (p giver giver_page : ℕ) → IsWellFormed s → map.contains_key s.offers (offer_key giver giver_page p) ≡ true → IsUserPage giver_page
-giver_user s p giver giver_page w there = let g = giver_mapped s p giver giver_page w there in (w.cells (at_page giver giver_page) g.0 g.1).user
-
 module _ (s : State) (p giver giver_page page : ℕ) (right : Bool) (g : Cell) (at : map.get s.spaces (at_page giver giver_page) ≡ Some g) (w : IsWellFormed s) (live : is_live s p ≡ true)
     (user : IsUserPage page) (none : map.get s.spaces (at_page p page) ≡ None) (has_room : nat_lt (room s p) (need s.spaces p page) ≡ false) where
   abbrev after_join : Spaces
