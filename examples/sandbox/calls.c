@@ -1,9 +1,8 @@
 /* What a tenant's call does. */
 #include "calls.h"
 
-#include <string.h>
-
 #include "kernel.h"
+#include "need.h"
 #include "output.h"
 #include "tenants.h"
 
@@ -15,13 +14,14 @@ static struct tower_reply refused(uint32_t cause) {
 }
 
 static struct tower_reply write_text(uint32_t pid, uint32_t address, uint32_t count) {
-    static char piece[MOST_PIECE];
+    static uint8_t piece[MOST_PIECE];
     struct tower_reply stop = no_event;
+    size_t moved = 0;
     if (count > MOST_PIECE) {
         return no_event;
     }
-    size_t read = kernel_read(pid, address, piece, count, &stop);
-    return output_text(pid, piece, read) ? stop : no_event;
+    need(tower_read(&kernel.core, pid, address, piece, count, &moved, &stop), "a core reads");
+    return output_text(pid, (const char *)piece, moved) ? stop : no_event;
 }
 
 /* The first offer to the process, of givers and pages from these on. */
@@ -41,8 +41,8 @@ static struct tower_reply offered(uint32_t pid, uint32_t giver, uint32_t page) {
 
 static struct tower_reply fork_tenant(uint32_t pid, const struct tower_event *event) {
     struct tower_reply reply = kernel_event(*event);
-    if (reply.kind == TOWER_CHILD && !tenant_fork(pid, reply.first)) {
-        tenant_end(reply.first, "");
+    if (reply.kind == TOWER_CHILD) {
+        tenant_fork(pid, reply.first);
     }
     return reply;
 }
@@ -50,7 +50,7 @@ static struct tower_reply fork_tenant(uint32_t pid, const struct tower_event *ev
 /* Children that run nothing end with their parent: a spawn made them, and no program is in them. */
 static struct tower_reply exit_tenant(uint32_t pid, const struct tower_event *event) {
     for (uint32_t child = 1; child < TOWER_PROCESSES; child++) {
-        if (kernel_is_child(child, pid) && !tenants[child].runs) {
+        if (kernel_parent(child) == (int)pid && !tenants[child].runs) {
             tenant_end(child, "");
         }
     }
@@ -62,7 +62,7 @@ static struct tower_reply exit_tenant(uint32_t pid, const struct tower_event *ev
 }
 
 static struct tower_reply end_child(uint32_t pid, uint32_t child) {
-    if (child >= TOWER_PROCESSES || !kernel_is_child(child, pid)) {
+    if (kernel_parent(child) != (int)pid) {
         return refused(TOWER_NO_PROCESS);
     }
     tenant_end(child, "ended: its parent ended it");
@@ -81,7 +81,7 @@ struct tower_reply tenant_call(uint32_t pid, const struct tower_event *event) {
     case CALL_END:
         return end_child(pid, event->first);
     case CALL_TAKE_BACK:
-        return kernel_descend(pid, event->first) ? kernel_take_back(pid, event->first) : refused(TOWER_RIGHTS);
+        return kernel_take_back(pid, event->first);
     case TOWER_FORK:
         return fork_tenant(pid, event);
     case TOWER_EXIT:
