@@ -17,9 +17,10 @@ static bool is_held(struct channel *it, uint32_t holder) {
     return (atomic_load(&it->holder) & ~(uint32_t)WAITED) == holder;
 }
 
-/* More often if that helped the last time, and less often if the other didn't run. */
-static bool look(struct channel *it, uint32_t holder, uint32_t *looks) {
+/* It looks more often if that helped the last time, and less often if the other didn't run. */
+bool channel_await(struct channel *it, uint32_t holder, uint32_t *looks, const struct timespec *most) {
     enum { FEW = 16, MORE = 64, MOST = 2000 };
+    uint32_t now;
     for (uint32_t i = 0; i < *looks; i++) {
         if (is_held(it, holder)) {
             *looks = *looks + MORE < MOST ? *looks + MORE : MOST;
@@ -28,14 +29,6 @@ static bool look(struct channel *it, uint32_t holder, uint32_t *looks) {
         __builtin_ia32_pause();
     }
     *looks = *looks / 2 > FEW ? *looks / 2 : FEW;
-    return false;
-}
-
-bool channel_await(struct channel *it, uint32_t holder, uint32_t *looks, const struct timespec *most) {
-    uint32_t now;
-    if (look(it, holder, looks)) {
-        return true;
-    }
     now = atomic_load(&it->holder);
     if ((now & ~(uint32_t)WAITED) != holder && atomic_compare_exchange_strong(&it->holder, &now, now | WAITED)) {
         syscall(SYS_futex, &it->holder, FUTEX_WAIT, now | WAITED, most, NULL, 0);

@@ -102,11 +102,6 @@ void engines_end(void) {
 
 /* ---- An engine's process */
 
-static void shut(struct engine *it) {
-    munmap(it->channel, sizeof *it->channel);
-    close(it->socket);
-}
-
 /* The maker answers with the number of the process, which is a child of this one, and gets its channel. */
 static pid_t make(const int *pair, int channel) {
     pid_t process = 0;
@@ -125,11 +120,13 @@ bool engine_open(struct engine *it, const struct registers *registers, uint64_t 
     need(socketpair(AF_UNIX, SOCK_SEQPACKET | SOCK_CLOEXEC, 0, pair) == 0, "there is a socket");
     *it = (struct engine){.owed = it->owed, .start = *registers, .next.kind = ORDER_BEGIN, .is_at_rest = true, .socket = pair[0]};
     it->channel = mmap(NULL, sizeof *it->channel, PROT_READ | PROT_WRITE, MAP_SHARED, file, 0);
+    need(it->channel != MAP_FAILED, "a channel is mapped");
     it->process = make(pair, file);
     close(file);
     close(pair[1]);
     if (!it->process) {
-        shut(it);
+        munmap(it->channel, sizeof *it->channel);
+        close(it->socket);
         return false;
     }
     prlimit(it->process, RLIMIT_CPU, &most, NULL);
@@ -147,7 +144,8 @@ int engine_close(struct engine *it) {
     }
     look_at_time(it);
     waitpid(it->process, &status, 0);
-    shut(it);
+    munmap(it->channel, sizeof *it->channel);
+    close(it->socket);
     frames_forget(it);
     it->process = 0;
     return status;

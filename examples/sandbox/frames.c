@@ -95,14 +95,6 @@ static void replace(uint32_t frame, int file) {
     }
 }
 
-static void enter_file(uint32_t frame, bool is_sealed) {
-    int file = memfd_create("frame", MFD_CLOEXEC | MFD_ALLOW_SEALING);
-    need(file >= 0 && ftruncate(file, PAGE_BYTES) == 0, "there is a file for a frame");
-    replace(frame, file);
-    need(!is_sealed || fcntl(file, F_ADD_SEALS, F_SEAL_FUTURE_WRITE) == 0, "a file is sealed");
-    frames[frame].is_sealed = is_sealed;
-}
-
 void frames_revoke(uint32_t pid, uint32_t page, uint32_t frame) {
     struct given *found = find(&kernel.engines[pid], page);
     if (frame != ZEROS && frames[frame].file != NO_FILE) {
@@ -117,7 +109,11 @@ void frames_revoke(uint32_t pid, uint32_t page, uint32_t frame) {
 void frames_show(uint32_t pid, uint32_t page, uint32_t frame, bool may, bool write) {
     struct engine *it = &kernel.engines[pid];
     if (frames[frame].file == NO_FILE || frames[frame].is_sealed == may) {
-        enter_file(frame, !may);
+        int file = memfd_create("frame", MFD_CLOEXEC | MFD_ALLOW_SEALING);
+        need(file >= 0 && ftruncate(file, PAGE_BYTES) == 0, "there is a file for a frame");
+        replace(frame, file);
+        need(may || fcntl(file, F_ADD_SEALS, F_SEAL_FUTURE_WRITE) == 0, "a file is sealed");
+        frames[frame].is_sealed = !may;
     }
     struct given *before = find(it, page);
     if (before) {

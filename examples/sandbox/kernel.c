@@ -74,23 +74,17 @@ static void take_from_others(uint32_t pid, uint32_t page, bool write) {
 
 /* ---- Events */
 
-/* Bytes of the page were written by the core. */
-static void page_written(uint32_t pid, uint32_t page) {
-    frames_out(pid, page, false);
-    take_from_others(pid, page, true);
-}
-
 struct tower_reply kernel_event(struct tower_event event) {
     struct tower_reply reply = {0};
     struct tower_ended ended = {0};
-    bool is_of_a_page = event.call == TOWER_UNMAP || event.call == TOWER_PROTECT;
-    uint32_t frame = is_of_a_page ? frame_of(event.pid, event.first) : 0;
+    uint32_t frame = event.call == TOWER_UNMAP || event.call == TOWER_PROTECT ? frame_of(event.pid, event.first) : 0;
     need(tower_step_ending(&kernel.core, &event, &reply, &ended), "a core replies");
     kernel.events++;
     invalidate(&ended, frame);
-    if (event.call == TOWER_STORE && reply.kind == TOWER_DONE) {
-        page_written(event.pid, event.first >> 12);
-        page_written(event.pid, (event.first + event.flag - 1) >> 12);
+    bool is_stored = event.call == TOWER_STORE && reply.kind == TOWER_DONE; /* by the core, in at most two pages */
+    for (uint32_t page = event.first >> 12; is_stored && page <= (event.first + event.flag - 1) >> 12; page++) {
+        frames_out(event.pid, page, false);
+        take_from_others(event.pid, page, true);
     }
     return reply;
 }
@@ -100,7 +94,8 @@ static void fill(uint32_t pid, uint32_t page) {
     struct tower_walk walk;
     struct tower_page found;
     uint32_t at = 0;
-    need(tower_walk(&kernel.core, pid, page << 12, false, &walk) && walk.kind == TOWER_WALK_FRAME, "a walk finds the page of an access");
+    bool is_found = tower_walk(&kernel.core, pid, page << 12, false, &walk) && walk.kind == TOWER_WALK_FRAME;
+    need(is_found, "a walk finds the page of an access");
     need(tower_next_page(&kernel.core, pid, page, &at, &found) && at == page, "the page of an access is mapped");
     bool may = found.write && !found.lazy, write = may && found.dirty;
     if (found.holders > 1) {

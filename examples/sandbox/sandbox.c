@@ -105,17 +105,15 @@ static void begin(const char *of) {
 
 /* Options and programs, in their order: the core is made before the first program, and begins with process 0. */
 static void begin_all(int count, char **words) {
-    for (int i = 1, taken; i < count; i += taken) {
-        taken = strncmp(words[i], "--", 2) == 0 ? take_option(words[i], i + 1 < count ? words[i + 1] : NULL) : -1;
-        if (taken == 0) {
-            fputs(usage, stderr);
-            exit(2);
-        } else if (taken < 0) {
+    for (int i = 1, taken = 1; i < count; i += taken, taken = 1) {
+        if (strncmp(words[i], "--", 2) != 0) {
             if (!kernel.core.live) {
                 kernel_boot((uint32_t)frames);
             }
             begin(words[i]);
-            taken = 1;
+        } else if ((taken = take_option(words[i], i + 1 < count ? words[i + 1] : NULL)) == 0) {
+            fputs(usage, stderr);
+            exit(2);
         }
     }
 }
@@ -146,13 +144,6 @@ static void check(void) {
     need(tower_check(&kernel.core, &verdict) == TOWER_SOUND, "the core is sound at the end");
 }
 
-static void save(void) {
-    tenants_park();
-    check();
-    store_save(save_to);
-    fprintf(stderr, "sandbox: tenants stored: %u\n", queue.count);
-}
-
 int main(int count, char **words) {
     static const struct tower_other_heap heap = {heap_alloc, heap_realloc, free};
     open_terminal();
@@ -168,12 +159,16 @@ int main(int count, char **words) {
     if (load_from) {
         store_load(load_from, seconds * SECOND);
     }
-    bool are_left = tenants_run();
+    bool are_saved = tenants_run() && save_to;
     fflush(stdout);
-    if (are_left && save_to) {
-        save();
+    if (are_saved) {
+        tenants_park();
     }
     check();
+    if (are_saved) {
+        store_save(save_to);
+        fprintf(stderr, "sandbox: tenants stored: %u\n", queue.count);
+    }
     kernel_close();
     if (counts) {
         print_counts();

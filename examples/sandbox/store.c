@@ -66,9 +66,7 @@ static bool sync_folder(const char *path) {
     char *copy = strdup(path);
     int folder = copy ? open(dirname(copy), O_RDONLY | O_DIRECTORY | O_CLOEXEC) : -1;
     bool is_synced = folder >= 0 && fsync(folder) == 0;
-    if (folder >= 0) {
-        close(folder);
-    }
+    close(folder);
     free(copy);
     return is_synced;
 }

@@ -11,8 +11,8 @@
 #include "output.h"
 
 enum { MOST_WHY = 128 };
-/* By the clock a turn ends after so long, and its family pays for what neither of both processes worked of a longer one. */
-static const uint64_t MOST_TURN = 200000000, FREE_TURN = 20000000;
+/* By the clock a turn ends after so long. Its family pays for what neither of both processes worked of it, if that is more. */
+static const uint64_t MOST_TURN = 200000000, FREE_SLEEP = 1000000;
 /* An engine whose process takes more memory is closed; it is looked at after so much of its time. */
 enum { MOST_MEMORY = 64 << 20, LOOK_AFTER = 50000000 };
 
@@ -152,18 +152,12 @@ static void on_call(uint32_t pid, const struct words *in) {
     it->next.words = (struct words){reply.kind, bools, reply.first, reply.second, reply.third};
 }
 
-/* What the engine says of its tenant's end. */
-static const char *on_end(uint32_t pid) {
-    static char what[MOST_WHAT];
-    memcpy(what, kernel.engines[pid].channel->what, MOST_WHAT - 1);
-    return what;
-}
-
 static const char *on_report(uint32_t pid, const struct report *report) {
+    static char what[MOST_WHAT];
     if (report->kind == REPORT_ACCESS) {
         return on_access(pid, report);
     } else if (report->kind == REPORT_END) {
-        return on_end(pid);
+        return memcpy(what, kernel.engines[pid].channel->what, MOST_WHAT - 1);
     } else if (report->kind == REPORT_CALL) {
         on_call(pid, &report->words);
     } else {
@@ -186,14 +180,14 @@ static void begin_turn(uint32_t pid) {
     turn.until = turn.clock + MOST_TURN + (!limits.turn ? 0 : length < most / 1000 ? length * 1000 : most);
 }
 
-/* An engine counts its tenant's instructions itself: at most one in a nanosecond is believed. */
+/* An engine counts its tenant's instructions itself: at most one in four nanoseconds is believed. */
 static const char *run_to_report(uint32_t pid, struct report *report) {
     struct engine *it = &kernel.engines[pid];
     uint64_t left = turn.instructions - executed;
     it->next.instructions = limits.turn || limits.after ? left : UNCOUNTED;
     const char *why = engine_run(it, turn.until, report);
     if (!why && it->since) {
-        uint64_t passed = nanoseconds(CLOCK_MONOTONIC) - it->since, most = left < passed ? left : passed;
+        uint64_t passed = nanoseconds(CLOCK_MONOTONIC) - it->since, most = left < passed / 4 ? left : passed / 4;
         executed += report->executed < most ? report->executed : most;
     }
     return why ? why : on_report(pid, report);
@@ -215,7 +209,7 @@ static const char *run(uint32_t pid) {
     return why || it->restless < MOST_RESTLESS ? why : "the emulator doesn't end its turn";
 }
 
-/* The family pays for its engines, and for what the kernel does for it. Of a long turn it pays as well for what neither of both
+/* The family pays for its engines, and for what the kernel does for it. It pays as well for the time in which neither of both
  * processes worked, nor waited for a processor: its engine slept, and held the others up. */
 static void pay(uint32_t pid) {
     static struct engine own;
@@ -225,7 +219,7 @@ static void pay(uint32_t pid) {
     uint64_t all = used + nanoseconds(CLOCK_PROCESS_CPUTIME_ID) - turn.worked;
     family->spent += all;
     it->unlooked += used;
-    if (passed > FREE_TURN) {
+    if (passed > all + FREE_SLEEP) {
         own.process = getpid();
         all += engine_delay(it) + engine_delay(&own);
         family->spent += passed > all ? passed - all : 0;

@@ -17,7 +17,6 @@ int main(int count, char **words) {
     pid_t kernel = getppid(), engine;
     (void)words;
     confine_first(kernel);
-    serve_begin();
     processor_open(&processor, count > 1);
     confine_all();
     for (int socket; (socket = file_take(SOCKET)) >= 0; close(socket)) {

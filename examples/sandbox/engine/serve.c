@@ -64,11 +64,9 @@ void serve_end(const char *what, uint32_t eip) {
 }
 
 bool serve_step(void) {
-    if (is_tick || executed == order.instructions) {
-        return true;
-    }
-    executed++;
-    return false;
+    bool is_over = is_tick || executed == order.instructions;
+    executed += !is_over;
+    return is_over;
 }
 
 /* ---- Signals */
@@ -92,22 +90,19 @@ static void on_fault(int number, siginfo_t *fault, void *context) {
     serve_access(is_store ? ACCESS_STORE : is_fetch ? ACCESS_FETCH : ACCESS_LOAD, (uint32_t)address);
 }
 
-void serve_begin(void) {
-    struct sigaction tick = {.sa_handler = on_tick, .sa_flags = SA_RESTART};
-    struct sigaction fault = {.sa_sigaction = on_fault, .sa_flags = SA_SIGINFO};
-    need(sigaction(SIGPROF, &tick, NULL) == 0 && sigaction(SIGSEGV, &fault, NULL) == 0, "handlers of signals");
-}
-
 /* ---- Turns */
 
 /* A turn by time is over after 10 milliseconds of the processor. */
 void serve(struct processor *of) {
     const struct itimerval each = {{0, 10000}, {0, 10000}};
+    const struct sigaction tick = {.sa_handler = on_tick, .sa_flags = SA_RESTART};
+    const struct sigaction fault = {.sa_sigaction = on_fault, .sa_flags = SA_SIGINFO};
     int file = file_take(SOCKET);
     channel = mmap(NULL, sizeof *channel, PROT_READ | PROT_WRITE, MAP_SHARED, file, 0);
     processor = of;
     need(channel != MAP_FAILED && close(file) == 0, "there is a channel");
-    need(setitimer(ITIMER_PROF, &each, NULL) == 0, "a timer");
+    need(sigaction(SIGSEGV, &fault, NULL) == 0 && sigaction(SIGBUS, &fault, NULL) == 0, "a handler of faults");
+    need(sigaction(SIGPROF, &tick, NULL) == 0 && setitimer(ITIMER_PROF, &each, NULL) == 0, "a timer");
     confine();
     await_order();
     struct registers start = channel->registers;

@@ -4,8 +4,6 @@
 #include "../channel.h"
 #include "processor.h"
 
-/* Accesses of the window that the host's page tables stop are reported. Once, before any engine. */
-void serve_begin(void);
 /* Runs turns, as the kernel orders them. */
 void serve(struct processor *processor) __attribute__((noreturn));
 

@@ -6,7 +6,8 @@
 #include "../need.h"
 #include "tower.h"
 
-static const uint64_t FIRST = (uint64_t)TOWER_FIRST_PAGE * PAGE_BYTES, BYTES = (uint64_t)(TOWER_LAST_PAGE - TOWER_FIRST_PAGE + 1) * PAGE_BYTES;
+static const uint64_t FIRST = (uint64_t)TOWER_FIRST_PAGE * PAGE_BYTES;
+static const uint64_t BYTES = (uint64_t)(TOWER_LAST_PAGE - TOWER_FIRST_PAGE + 1) * PAGE_BYTES;
 
 static void *place_of(uint64_t address) {
     return (void *)(uintptr_t)(WINDOW + address);
