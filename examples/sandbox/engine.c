@@ -16,8 +16,8 @@
 #include "frames.h"
 #include "need.h"
 
-static pid_t maker; /* the first process of the engines' program, and its socket */
-static int makers_socket;
+static pid_t fork_server; /* the first process of the engines' program, and its socket */
+static int server_socket;
 
 /* ---- Time and memory */
 
@@ -86,28 +86,28 @@ void engines_begin(bool counts_instructions) {
     strcpy(program + length, ".engine");
     posix_spawn_file_actions_init(&actions);
     posix_spawn_file_actions_adddup2(&actions, pair[1], SOCKET);
-    if (posix_spawn(&maker, program, &actions, NULL, words, none) != 0) {
+    if (posix_spawn(&fork_server, program, &actions, NULL, words, none) != 0) {
         fail("can't run the engine's program", program);
     }
     posix_spawn_file_actions_destroy(&actions);
     close(pair[1]);
-    makers_socket = pair[0];
+    server_socket = pair[0];
 }
 
 void engines_end(void) {
-    close(makers_socket);
-    while (waitpid(maker, NULL, 0) < 0 && errno == EINTR) {
+    close(server_socket);
+    while (waitpid(fork_server, NULL, 0) < 0 && errno == EINTR) {
     }
 }
 
 /* ---- An engine's process */
 
-/* The maker answers with the number of the process, which is a child of this one, and gets its channel. */
-static pid_t make(const int *pair, int channel) {
+/* The fork server answers with the number of the process, which is a child of this one, and gets its channel. */
+static pid_t request_process(const int *pair, int channel) {
     pid_t process = 0;
     ssize_t length = -1;
-    if (channel >= 0 && file_send(pair[0], channel) && file_send(makers_socket, pair[1])) {
-        while ((length = recv(makers_socket, &process, sizeof process, 0)) < 0 && errno == EINTR) {
+    if (channel >= 0 && file_send(pair[0], channel) && file_send(server_socket, pair[1])) {
+        while ((length = recv(server_socket, &process, sizeof process, 0)) < 0 && errno == EINTR) {
         }
     }
     return length == sizeof process && process > 0 ? process : 0;
@@ -121,7 +121,7 @@ bool engine_open(struct engine *it, const struct registers *registers, uint64_t 
     *it = (struct engine){.owed = it->owed, .start = *registers, .next.kind = ORDER_BEGIN, .is_at_rest = true, .socket = pair[0]};
     it->channel = mmap(NULL, sizeof *it->channel, PROT_READ | PROT_WRITE, MAP_SHARED, file, 0);
     need(it->channel != MAP_FAILED, "a channel is mapped");
-    it->process = make(pair, file);
+    it->process = request_process(pair, file);
     close(file);
     close(pair[1]);
     if (!it->process) {

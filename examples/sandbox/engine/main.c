@@ -1,5 +1,5 @@
-/* The engines' program. Its first process opens an emulator, and has no tenant: each engine is a copy of it, which the
- * kernel's process asks for. */
+/* The engines' program. Its first process is a fork server: it opens an emulator, and has no tenant. Each engine is a copy of
+ * it, which the kernel's process requests. */
 #define _GNU_SOURCE
 #include <sched.h>
 #include <signal.h>
