@@ -115,9 +115,10 @@ static pid_t request_process(const int *pair, int channel) {
 
 bool engine_open(struct engine *it, const struct registers *registers, uint64_t nanoseconds) {
     struct rlimit most = {nanoseconds / 1000000000 + 2, nanoseconds / 1000000000 + 3};
-    int file = memfd_create("channel", MFD_CLOEXEC), pair[2];
+    int file = memfd_create("channel", MFD_CLOEXEC), pair[2], few = 0; /* bytes of files that it hasn't taken: the host's least */
     need(file >= 0 && ftruncate(file, sizeof(struct channel)) == 0, "there is memory for a channel");
     need(socketpair(AF_UNIX, SOCK_SEQPACKET | SOCK_CLOEXEC, 0, pair) == 0, "there is a socket");
+    need(setsockopt(pair[0], SOL_SOCKET, SO_SNDBUF, &few, sizeof few) == 0, "it is small");
     *it = (struct engine){.owed = it->owed, .start = *registers, .next.kind = ORDER_BEGIN, .is_at_rest = true, .socket = pair[0]};
     it->channel = mmap(NULL, sizeof *it->channel, PROT_READ | PROT_WRITE, MAP_SHARED, file, 0);
     need(it->channel != MAP_FAILED, "a channel is mapped");
