@@ -17,6 +17,7 @@ int main(int count, char **words) {
     pid_t kernel = getppid(), engine;
     (void)words;
     confine_first(kernel);
+    signal(SIGPROF, SIG_IGN); /* until an engine counts its ticks */
     processor_open(&processor, count > 1);
     confine_all();
     for (int socket; (socket = file_take(SOCKET)) >= 0; close(socket)) {
