@@ -51,9 +51,11 @@ static void on_instruction(uc_engine *engine, uint64_t address, uint32_t size, v
     instructions++;
 }
 
-static bool place(void *to, uint32_t address, const uint8_t *from, uint32_t count, uint32_t size, bool write) {
-    (void)to, (void)size, (void)write;
-    return uc_mem_write(uc, address, from, count) == UC_ERR_OK;
+static void load(const struct program *program) {
+    for (uint32_t i = 0; i < program->count; i++) {
+        const struct segment *it = &program->segments[i];
+        need(uc_mem_write(uc, it->address, it->bytes, it->count), "a segment");
+    }
 }
 
 static double seconds(void) {
@@ -64,7 +66,6 @@ static double seconds(void) {
 
 int main(int count, char **words) {
     struct program program;
-    uint32_t entry;
     bool counts = count > 1 && strcmp(words[1], "--count") == 0;
     int first = counts ? 2 : 1;
     uc_hook hook;
@@ -74,10 +75,11 @@ int main(int count, char **words) {
     }
     need(uc_open(UC_ARCH_X86, UC_MODE_32, &uc), "an engine");
     need(uc_mem_map(uc, AT, BYTES, UC_PROT_ALL), "memory");
-    if (!program_place(&program, place, NULL, &entry)) {
+    if (!program.is_valid) {
         fprintf(stderr, "flat: no program\n");
         return 2;
     }
+    load(&program);
     need(uc_hook_add(uc, &hook, UC_HOOK_INTR, (void *)on_call, NULL, 1, 0), "a hook");
     if (counts) {
         need(uc_hook_add(uc, &hook, UC_HOOK_CODE, (void *)on_instruction, NULL, 1, 0), "a hook");
@@ -86,7 +88,7 @@ int main(int count, char **words) {
     set(UC_X86_REG_EAX, 1);
     set(UC_X86_REG_EBX, count > first + 1 ? (uint32_t)strtoul(words[first + 1], NULL, 0) : 0);
     double from = seconds();
-    need(uc_emu_start(uc, entry, 0, 0, 0), "a run");
+    need(uc_emu_start(uc, program.entry, 0, 0, 0), "a run");
     fprintf(stderr, "%.3f s\n", seconds() - from);
     if (counts) {
         fprintf(stderr, "instructions: %llu\n", instructions);

@@ -13,7 +13,7 @@ WORDS = (
     "eighteen nineteen twenty"
 ).split()
 TENS = {"twenty": 20, "thirty": 30, "forty": 40, "fifty": 50}
-MACHINE, SANDBOX, HELP = "docs/MACHINE.md", "examples/sandbox/README.md", "checks/programs/help.txt"
+MACHINE, SANDBOX, HELP = "docs/MACHINE.md", "examples/sandbox/REFERENCE.md", "checks/programs/help.txt"
 # The text of a refused number of frames, in Rattle, in Rust and in a wrapper.
 REFUSAL = re.compile(
     r'BadSize => (?:write!\(f, |\w+\.write_str\()"(?:tower: )?([^"]+)"|'
@@ -72,10 +72,12 @@ def facts():
     yield "crates of tests", tests, {"CONTRIBUTING.md": r"in one of the (\w+) crates of tests"}
     yield "programs", programs, {"examples/hypervisor/README.md": r"`programs\.S` \| (\w+) programs"}
     yield "instructions", of_hypervisor, {"examples/hypervisor/README.md": r"^- Instructions: (\d+) that"}
-    yield "attacks", attacks, {SANDBOX: r"`hostile` \| (\d+) attacks"}
+    yield "attacks", attacks, {SANDBOX: r"`tenants/hostile\.c` \| (\d+) attacks"}
     yield "instructions", ends, {SANDBOX: r"attacks, (\d+) instructions"}
-    regions = number("examples/sandbox/engine/processor.h", r"MOST_REGIONS = (\d+)")
-    yield "regions of an engine", regions, {SANDBOX: r"at most (\d+) regions"}
+    listed = page("examples/sandbox/engine/confine.c").split("calls[] = {")[1].split("}")[0]
+    yield "system calls of an engine", len(re.findall(r"\bSYS_\w+", listed)), {
+        SANDBOX: r"is run: (\d+) system calls|host's kernel by (\d+) system calls"
+    }
     headers = (it.read_text(encoding="utf-8") for it in (ROOT / "c/include").glob("*.h"))
     slices = len(set(re.findall(r"return (tower_\w+)\([^;]*_count \|\|", "".join(headers))))
     yield "functions that take a slice", slices, {"docs/C-LIBRARY.md": r"names of the (\w+) functions that take"}

@@ -2,8 +2,7 @@
  * EBX, ECX, EDX and ESI the event's flag, first, second and third. EAX then has the reply's kind, ECX, EDX and ESI its
  * numbers, and EBX its bools: write 1, may 2, accessed 4, dirty 8. A fork returns Child to the parent and Done to the
  * child. */
-#ifndef CALLS_H
-#define CALLS_H
+#pragma once
 
 enum {
     CALL_YIELD = 16,     /* ends the turn */
@@ -16,5 +15,3 @@ enum {
 
 /* A program begins with EAX its process, EBX its argument and ESP STACK_TOP. Its stack is in one region with it. */
 enum { STACK_TOP = 0x40400000 };
-
-#endif

@@ -2,10 +2,8 @@
 #include "engine.h"
 
 #include <errno.h>
-#include <fcntl.h>
 #include <signal.h>
 #include <spawn.h>
-#include <stddef.h>
 #include <stdio.h>
 #include <stdlib.h>
 #include <string.h>
@@ -13,204 +11,152 @@
 #include <sys/resource.h>
 #include <sys/socket.h>
 #include <sys/wait.h>
+#include <unistd.h>
 
 #include "frames.h"
 #include "need.h"
 
-/* An engine that doesn't report is late: after so much processor time of its own, or so long by the clock. */
-static const uint64_t LATE_TIME = 1000000000, LATE_CLOCK = 10000000000;
+static pid_t fork_server; /* the first process of the engines' program, and its socket */
+static int server_socket;
 
-static char program[4096];
-static uint32_t open_count;
+/* ---- Time and memory */
 
-/* ---- Time */
-
-static uint64_t now(clockid_t clock) {
-    struct timespec it = {0};
-    clock_gettime(clock, &it);
-    return (uint64_t)it.tv_sec * 1000000000 + (uint64_t)it.tv_nsec;
+uint64_t nanoseconds(clockid_t clock) {
+    struct timespec now = {0};
+    clock_gettime(clock, &now);
+    return (uint64_t)now.tv_sec * 1000000000 + (uint64_t)now.tv_nsec;
 }
 
-static uint64_t time_of(const struct engine *it) {
+static void look_at_time(struct engine *it) {
     clockid_t clock;
-    return clock_getcpuclockid(it->process, &clock) == 0 ? now(clock) : it->time;
-}
-
-static void owe(struct engine *it, uint64_t time) {
-    it->owed += time > it->time ? time - it->time : 0;
-    it->time = time > it->time ? time : it->time;
+    uint64_t time = engine_is_open(it) && clock_getcpuclockid(it->process, &clock) == 0 ? nanoseconds(clock) : 0;
+    if (time > it->time) {
+        it->owed += time - it->time;
+        it->time = time;
+    }
 }
 
 uint64_t engine_time(struct engine *it) {
-    if (engine_is_open(it)) {
-        owe(it, time_of(it));
-    }
+    look_at_time(it);
     uint64_t owed = it->owed;
     it->owed = 0;
     return owed;
 }
 
-uint64_t engine_memory(const struct engine *it) {
+/* A number in one of the host's files on a process; 0 if it can't be read. */
+static uint64_t read_number(pid_t process, const char *name, const char *format) {
     char path[64];
-    unsigned long all = 0, resident = 0, shared = 0;
-    snprintf(path, sizeof path, "/proc/%d/statm", it->process);
+    unsigned long long first = 0, second = 0;
+    snprintf(path, sizeof path, "/proc/%d/%s", process, name);
     FILE *file = fopen(path, "re");
-    if (file && fscanf(file, "%lu %lu %lu", &all, &resident, &shared) != 3) {
-        resident = shared = 0;
-    }
+    int count = file ? fscanf(file, format, &first, &second) : 0;
     if (file) {
         fclose(file);
     }
-    return (uint64_t)(resident - shared) * PAGE_BYTES;
+    return count == 2 && first > second ? first - second : count == 1 ? first : 0;
 }
 
-/* ---- Its process */
+uint64_t engine_delay(struct engine *it) {
+    uint64_t now = read_number(it->process, "schedstat", "%*u %llu"), before = it->delay;
+    it->delay = now;
+    return now > before ? now - before : 0;
+}
+
+uint64_t engine_memory(const struct engine *it) {
+    return read_number(it->process, "statm", "%*u %llu %llu") * PAGE_BYTES;
+}
+
+/* ---- The engines' program */
 
 /* A child that ends wakes the one that waits for its report. */
 static void on_child(int number) {
     (void)number;
 }
 
-void engines_begin(void) {
+/* It gets no environment, and no descriptor that it keeps but its socket. */
+void engines_begin(bool counts_instructions) {
+    static char program[4096];
+    char *words[] = {program, counts_instructions ? "counts" : NULL, NULL}, *none[] = {NULL};
     struct sigaction action = {.sa_handler = on_child};
+    posix_spawn_file_actions_t actions;
+    int pair[2];
     ssize_t length = readlink("/proc/self/exe", program, sizeof program - sizeof ".engine");
+    need(length > 0 && socketpair(AF_UNIX, SOCK_SEQPACKET | SOCK_CLOEXEC, 0, pair) == 0, "a program, and a socket");
     need(sigaction(SIGCHLD, &action, NULL) == 0, "a handler of children");
-    if (length <= 0) {
-        fail("can't find the sandbox's own program in", "/proc/self/exe");
-    }
     strcpy(program + length, ".engine");
-    if (access(program, X_OK) != 0) {
+    posix_spawn_file_actions_init(&actions);
+    posix_spawn_file_actions_adddup2(&actions, pair[1], SOCKET);
+    if (posix_spawn(&fork_server, program, &actions, NULL, words, none) != 0) {
         fail("can't run the engine's program", program);
     }
-}
-
-bool engine_is_open(const struct engine *it) {
-    return it->process != 0;
-}
-
-uint32_t engines_open(void) {
-    return open_count;
-}
-
-/* Above those that the child has it at. */
-static int move_up(int descriptor) {
-    int moved = descriptor < 0 ? -1 : fcntl(descriptor, F_DUPFD_CLOEXEC, 16);
-    if (descriptor >= 0) {
-        close(descriptor);
-    }
-    return moved;
-}
-
-/* A session of its own, so that the terminal's signals don't reach it; no environment; no descriptor but the socket's, the
- * channel's and three of /dev/null. */
-static pid_t spawn(int socket, int channel) {
-    char *words[] = {program, NULL}, *none[] = {NULL};
-    posix_spawn_file_actions_t actions;
-    posix_spawnattr_t attributes;
-    sigset_t all, blocked;
-    pid_t process = 0;
-    sigfillset(&all);
-    sigemptyset(&blocked);
-    posix_spawn_file_actions_init(&actions);
-    posix_spawnattr_init(&attributes);
-    for (int i = 0; i < SOCKET; i++) {
-#ifdef __SANITIZE_ADDRESS__
-        if (i == 2) {
-            continue; /* for what the sanitizer says */
-        }
-#endif
-        posix_spawn_file_actions_addopen(&actions, i, "/dev/null", O_RDWR, 0);
-    }
-    posix_spawn_file_actions_adddup2(&actions, socket, SOCKET);
-    posix_spawn_file_actions_adddup2(&actions, channel, CHANNEL);
-    posix_spawnattr_setflags(&attributes, POSIX_SPAWN_SETSID | POSIX_SPAWN_SETSIGDEF | POSIX_SPAWN_SETSIGMASK);
-    posix_spawnattr_setsigdefault(&attributes, &all);
-    posix_spawnattr_setsigmask(&attributes, &blocked);
-    int error = posix_spawn(&process, program, &actions, &attributes, words, none);
     posix_spawn_file_actions_destroy(&actions);
-    posix_spawnattr_destroy(&attributes);
-    return error ? 0 : process;
+    close(pair[1]);
+    server_socket = pair[0];
 }
 
-static void shut(int descriptor) {
-    if (descriptor >= 0) {
-        close(descriptor);
+void engines_end(void) {
+    close(server_socket);
+    while (waitpid(fork_server, NULL, 0) < 0 && errno == EINTR) {
     }
 }
 
-static void shut_channel(struct engine *it) {
-    if (it->channel) {
-        munmap(it->channel, PAGE_BYTES);
-    }
-    shut(it->socket);
-    it->channel = NULL;
-}
+/* ---- An engine's process */
 
-static bool open_channel(struct engine *it, int *file, int *theirs) {
-    int sockets[2] = {-1, -1};
-    *file = move_up(memfd_create("channel", MFD_CLOEXEC));
-    *theirs = it->socket = -1;
-    if (socketpair(AF_UNIX, SOCK_SEQPACKET | SOCK_CLOEXEC, 0, sockets) == 0) {
-        it->socket = move_up(sockets[0]);
-        *theirs = move_up(sockets[1]);
+/* The fork server answers with the number of the process, which is a child of this one, and gets its channel. */
+static pid_t request_process(const int *pair, int channel) {
+    pid_t process = 0;
+    ssize_t length = -1;
+    if (channel >= 0 && file_send(pair[0], channel) && file_send(server_socket, pair[1])) {
+        while ((length = recv(server_socket, &process, sizeof process, 0)) < 0 && errno == EINTR) {
+        }
     }
-    if (*file < 0 || it->socket < 0 || *theirs < 0 || ftruncate(*file, PAGE_BYTES) != 0) {
-        return false;
-    }
-    void *page = mmap(NULL, PAGE_BYTES, PROT_READ | PROT_WRITE, MAP_SHARED, *file, 0);
-    it->channel = page != MAP_FAILED ? page : NULL;
-    return it->channel != NULL;
+    return length == sizeof process && process > 0 ? process : 0;
 }
 
 bool engine_open(struct engine *it, const struct registers *registers, uint64_t nanoseconds) {
     struct rlimit most = {nanoseconds / 1000000000 + 2, nanoseconds / 1000000000 + 3};
-    int file, theirs;
-    uint64_t owed = it->owed;
-    memset(it, 0, offsetof(struct engine, given));
-    it->given_count = 0;
-    it->time = it->unlooked = 0;
-    it->owed = owed;
-    it->next.kind = ORDER_BEGIN;
-    it->next.registers = *registers;
-    it->process = open_channel(it, &file, &theirs) ? spawn(theirs, file) : 0;
-    shut(file);
-    shut(theirs);
+    int file = memfd_create("channel", MFD_CLOEXEC), pair[2], few = 0; /* bytes of files that it hasn't taken: the host's least */
+    need(file >= 0 && ftruncate(file, sizeof(struct channel)) == 0, "there is memory for a channel");
+    need(socketpair(AF_UNIX, SOCK_SEQPACKET | SOCK_CLOEXEC, 0, pair) == 0, "there is a socket");
+    need(setsockopt(pair[0], SOL_SOCKET, SO_SNDBUF, &few, sizeof few) == 0, "it is small");
+    *it = (struct engine){.owed = it->owed, .start = *registers, .next.kind = ORDER_BEGIN, .is_at_rest = true, .socket = pair[0]};
+    it->channel = mmap(NULL, sizeof *it->channel, PROT_READ | PROT_WRITE, MAP_SHARED, file, 0);
+    need(it->channel != MAP_FAILED, "a channel is mapped");
+    it->process = request_process(pair, file);
+    close(file);
+    close(pair[1]);
     if (!it->process) {
-        shut_channel(it);
+        munmap(it->channel, sizeof *it->channel);
+        close(it->socket);
         return false;
     }
     prlimit(it->process, RLIMIT_CPU, &most, NULL);
-    open_count++;
     return true;
 }
 
-/* Returns how the process ended. */
-static int reap(struct engine *it) {
-    struct rusage used;
+int engine_close(struct engine *it) {
+    siginfo_t ended;
     int status = 0;
+    if (!engine_is_open(it)) {
+        return status;
+    }
     kill(it->process, SIGKILL);
-    while (wait4(it->process, &status, 0, &used) < 0 && errno == EINTR) {
+    while (waitid(P_PID, (id_t)it->process, &ended, WEXITED | WNOWAIT) < 0 && errno == EINTR) {
     }
-    owe(it, (uint64_t)(used.ru_utime.tv_sec + used.ru_stime.tv_sec) * 1000000000 +
-                (uint64_t)(used.ru_utime.tv_usec + used.ru_stime.tv_usec) * 1000);
-    shut_channel(it);
+    look_at_time(it);
+    waitpid(it->process, &status, 0);
+    munmap(it->channel, sizeof *it->channel);
+    close(it->socket);
+    frames_forget(it);
     it->process = 0;
-    it->given_count = 0;
-    open_count--;
     return status;
-}
-
-void engine_close(struct engine *it) {
-    if (engine_is_open(it)) {
-        reap(it);
-    }
 }
 
 /* ---- Orders and reports */
 
 static const char *gave_up(struct engine *it) {
     static char why[64];
-    int status = reap(it);
+    int status = engine_close(it);
     if (WIFSIGNALED(status)) {
         snprintf(why, sizeof why, "the emulator gave up, by signal %d", WTERMSIG(status));
     } else {
@@ -219,22 +165,21 @@ static const char *gave_up(struct engine *it) {
     return why;
 }
 
-/* The descriptors of the pages that are put in. An engine that doesn't take them is full at some time. */
-static bool send_files(struct engine *it) {
-    union {
-        struct cmsghdr header;
-        char bytes[CMSG_SPACE(MOST_PUTS * sizeof(int))];
-    } control = {0};
-    char nothing = 0;
-    struct iovec one = {&nothing, 1};
-    size_t length = it->next.put_count * sizeof(int);
-    struct msghdr message = {.msg_iov = &one, .msg_iovlen = 1, .msg_control = &control, .msg_controllen = CMSG_SPACE(length)};
-    control.header = (struct cmsghdr){.cmsg_len = CMSG_LEN(length), .cmsg_level = SOL_SOCKET, .cmsg_type = SCM_RIGHTS};
-    for (uint32_t i = 0; i < it->next.put_count; i++) {
-        int file = frames_file(it->put_frames[i]);
-        memcpy(CMSG_DATA(&control.header) + i * sizeof file, &file, sizeof file);
+/* An engine that doesn't take its files is full at some time: false. */
+static bool order(struct engine *it) {
+    struct channel *to = it->channel;
+    if (it->next.has_page && !file_send(it->socket, it->file)) {
+        return false;
     }
-    return length == 0 || sendmsg(it->socket, &message, MSG_DONTWAIT | MSG_NOSIGNAL) == 1;
+    if (it->next.kind == ORDER_BEGIN) {
+        to->registers = it->start;
+    }
+    memcpy(to->outs, it->outs, it->next.out_count * sizeof *it->outs);
+    it->since = it->next.instructions == UNCOUNTED ? 0 : nanoseconds(CLOCK_MONOTONIC);
+    to->order = it->next;
+    it->next = (struct order){.kind = ORDER_RUN};
+    channel_pass(to, HELD_BY_ENGINE);
+    return true;
 }
 
 static bool has_ended(const struct engine *it) {
@@ -242,26 +187,28 @@ static bool has_ended(const struct engine *it) {
     return waitid(P_PID, (id_t)it->process, &ended, WEXITED | WNOHANG | WNOWAIT) == 0 && ended.si_pid == it->process;
 }
 
-static const char *exchange(struct engine *it, struct report *report) {
-    static const struct timespec SLEEP = {0, 50000000};
-    uint64_t from = 0, used = 0;
-    if (!send_files(it)) {
-        return gave_up(it);
+/* It does nothing until it is continued, also if it was taken over. One that obeys then reports before its next block. */
+static void stop(struct engine *it) {
+    siginfo_t stopped;
+    kill(it->process, SIGPROF);
+    kill(it->process, SIGSTOP);
+    while (waitid(P_PID, (id_t)it->process, &stopped, WEXITED | WSTOPPED | WNOWAIT) < 0 && errno == EINTR) {
     }
-    it->channel->order = it->next;
-    it->next.kind = ORDER_RUN;
-    it->next.begins_turn = it->next.all_out = false;
-    it->next.out_count = it->next.put_count = 0;
-    channel_pass(it->channel, HELD_BY_ENGINE);
+    it->is_waited_for = true;
+}
+
+/* The report once it is here; at the end of the time REPORT_LATE. */
+static const char *await_report(struct engine *it, uint64_t until, struct report *report) {
+    static const struct timespec SLEEP = {0, 20000000};
+    it->was_slow = false;
     while (!channel_await(it->channel, HELD_BY_KERNEL, &it->looks, &SLEEP)) {
+        it->was_slow = true;
         if (has_ended(it)) {
             return gave_up(it);
-        }
-        used = used ? used : time_of(it);
-        from = from ? from : now(CLOCK_MONOTONIC);
-        if (time_of(it) > used + LATE_TIME || now(CLOCK_MONOTONIC) > from + LATE_CLOCK) {
-            engine_close(it);
-            return "the emulator doesn't answer";
+        } else if (nanoseconds(CLOCK_MONOTONIC) > until) {
+            stop(it);
+            *report = (struct report){.kind = REPORT_LATE};
+            return NULL;
         }
     }
     *report = it->channel->report;
@@ -269,41 +216,31 @@ static const char *exchange(struct engine *it, struct report *report) {
     return NULL;
 }
 
-static bool makes_sense(const struct report *it) {
-    bool is_access = it->access <= ACCESS_FETCH && it->size >= 1 && it->size <= sizeof it->value;
-    return it->kind == REPORT_ACCESS ? is_access : it->kind < REPORT_REGISTERS;
-}
-
-const char *engine_run(struct engine *it, struct report *report) {
-    const char *why = exchange(it, report);
-    if (!why && !makes_sense(report)) {
+const char *engine_run(struct engine *it, uint64_t until, struct report *report) {
+    if (it->is_waited_for) {
+        kill(it->process, SIGCONT);
+    } else if (!order(it)) {
+        return gave_up(it);
+    }
+    it->is_waited_for = it->is_at_rest = false;
+    const char *why = await_report(it, until, report);
+    if (!why && !it->is_waited_for && (report->kind >= REPORTS || (report->kind == REPORT_ACCESS && report->access >= ACCESSES))) {
         engine_close(it);
         why = "the emulator's report makes no sense";
     }
+    it->is_at_rest = !why && has_registers(report);
     return why;
 }
 
-bool engine_registers(struct engine *it, struct registers *to) {
-    struct order after = it->next;
-    struct report report;
-    if (after.kind == ORDER_BEGIN) {
-        *to = after.registers;
-        return true;
+struct registers engine_registers(const struct engine *it) {
+    struct registers now = it->next.kind == ORDER_BEGIN ? it->start : it->channel->registers;
+    need(it->is_at_rest, "an engine's registers are whole");
+    if (it->next.kind == ORDER_ANSWER) {
+        now.general[EAX] = it->next.words.eax;
+        now.general[EBX] = it->next.words.ebx;
+        now.general[ECX] = it->next.words.ecx;
+        now.general[EDX] = it->next.words.edx;
+        now.general[ESI] = it->next.words.esi;
     }
-    it->next.kind = ORDER_REGISTERS;
-    if (exchange(it, &report)) {
-        return false;
-    }
-    *to = report.registers;
-    if (after.kind == ORDER_ANSWER) {
-        to->general[EAX] = after.words.eax;
-        to->general[EBX] = after.words.ebx;
-        to->general[ECX] = after.words.ecx;
-        to->general[EDX] = after.words.edx;
-        to->general[ESI] = after.words.esi;
-    }
-    it->next.kind = after.kind;
-    it->next.words = after.words;
-    it->next.begins_turn = after.begins_turn;
-    return true;
+    return now;
 }

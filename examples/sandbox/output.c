@@ -5,14 +5,6 @@
 
 #include "tenants.h"
 
-static size_t lines_in(const char *text, size_t count) {
-    size_t lines = 0;
-    for (size_t i = 0; i < count; i++) {
-        lines += text[i] == '\n';
-    }
-    return lines;
-}
-
 /* Returns whether the family may write so many bytes more, which it then has written. */
 static bool take(const struct tenant *it, size_t count, size_t lines) {
     struct tenant *family = &tenants[it->family];
@@ -29,25 +21,25 @@ static void end_line(struct tenant *it) {
 }
 
 static void put(struct tenant *it, char letter) {
-    if (it->length == MOST_LINE) {
+    if (letter == '\n' || it->length == MOST_LINE) {
         end_line(it);
     }
-    it->line[it->length++] = letter >= ' ' && letter <= '~' ? letter : '?';
+    if (letter != '\n') {
+        it->line[it->length++] = letter >= ' ' && letter <= '~' ? letter : '?';
+    }
 }
 
 bool output_text(uint32_t pid, const char *text, size_t count) {
     struct tenant *it = &tenants[pid];
-    if (!take(it, count, lines_in(text, count))) {
-        return false;
-    }
+    size_t lines = 0;
     for (size_t i = 0; i < count; i++) {
-        if (text[i] == '\n') {
-            end_line(it);
-        } else {
-            put(it, text[i]);
-        }
+        lines += text[i] == '\n';
     }
-    return true;
+    bool is_taken = take(it, count, lines);
+    for (size_t i = 0; is_taken && i < count; i++) {
+        put(it, text[i]);
+    }
+    return is_taken;
 }
 
 /* Once a family's text is over, only the line of its first tenant. */

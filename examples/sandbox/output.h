@@ -1,6 +1,5 @@
 /* What tenants write: whole lines, each after its tenant's name. Of a family 64 KiB are taken with the names, and no more. */
-#ifndef OUTPUT_H
-#define OUTPUT_H
+#pragma once
 
 #include <stdbool.h>
 #include <stddef.h>
@@ -10,5 +9,3 @@
 bool output_text(uint32_t pid, const char *text, size_t count);
 /* A line of the sandbox's own on a tenant, after what it has written. */
 void output_line(uint32_t pid, const char *line);
-
-#endif

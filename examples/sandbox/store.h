@@ -1,6 +1,5 @@
 /* A stopped sandbox as a file: its tenants with their registers, the pending offers, and the core's image. */
-#ifndef STORE_H
-#define STORE_H
+#pragma once
 
 #include <stdbool.h>
 #include <stdint.h>
@@ -14,5 +13,3 @@ bool store_can_save(const char *path);
 /* One line ends the program if the file can't be read, or is none that store_save could have written. No family gets more
  * than that much processor time. */
 void store_load(const char *path, uint64_t nanoseconds);
-
-#endif

@@ -1,12 +1,7 @@
 /* Tenants: programs that run as processes of the core, in turns. */
-#ifndef TENANTS_H
-#define TENANTS_H
-
-#include <stdbool.h>
-#include <stdint.h>
+#pragma once
 
 #include "channel.h"
-#include "tower.h"
 
 enum { MOST_NAME = 48, MOST_TEXT = 1 << 16, MOST_LINE = 256 };
 
@@ -33,38 +28,28 @@ struct queue {
 extern struct queue queue;
 
 struct limits {
-    uint64_t turn;    /* instructions of a turn; 0: turns end by time, and instructions aren't counted */
+    uint64_t turn;    /* instructions of a turn; 0: turns end by time */
     uint64_t after;   /* all tenants stop once so many instructions are executed; 0: they don't */
-    uint32_t engines; /* that are open at a time */
+    uint64_t engines; /* that are open at a time */
 };
 extern struct limits limits;
 
-/* Once, before the first turn. */
-void tenants_begin(void);
-/* What is said of a program on the command line. */
-struct asked {
-    const char *name, *path;
-    uint32_t quota, argument;
-    uint64_t nanoseconds;
-};
-/* A child of process 0, into which the program is loaded, in begin.c. Otherwise one line says why not. */
-void tenant_begin(const struct asked *asked);
+bool is_name(const char *name);
+/* A child of process 0, into which the program is loaded, in begin.c. Otherwise one line says why not. Its family gets so
+ * much processor time. */
+void tenant_begin(const char *name, const char *path, uint32_t quota, uint32_t argument, uint64_t nanoseconds);
 /* A tenant waits for its first turn. Its family is that of its process's parent; otherwise it is its first tenant. */
 void tenant_enter(uint32_t pid, const char *name, const struct registers *registers);
+
 /* Runs turns until no tenant waits, or until `after` or a signal. Returns whether tenants are left. */
 bool tenants_run(void);
 /* Closes all engines; what was in them is in `start`. */
 void tenants_park(void);
-
-/* Calls, in calls.c. */
-struct tower_reply tenant_call(uint32_t pid, const struct tower_event *event);
-
-/* What calls do to tenants. */
-void tenant_end_turn(void);
-bool tenant_fork(uint32_t pid, uint32_t child); /* false: its engine had to be ended */
-void tenant_gone(uint32_t pid);                 /* its process has exited */
-void tenant_end(uint32_t pid, const char *why); /* with its children */
-bool is_name(const char *name);
 void print_counts(void); /* once all engines are closed */
 
-#endif
+/* A call, in calls.c, and what calls do to tenants. */
+struct tower_reply tenant_call(uint32_t pid, const struct tower_event *event);
+void tenant_end_turn(void);
+void tenant_fork(uint32_t pid, uint32_t child);
+void tenant_gone(uint32_t pid);                 /* its process has exited */
+void tenant_end(uint32_t pid, const char *why); /* with its children */

@@ -1,10 +1,11 @@
-/* What is left of a process of the host before any instruction of a tenant runs in it. */
-#ifndef CONFINE_H
-#define CONFINE_H
+/* What is left of an engine's process before any instruction of a tenant runs in it. */
+#pragma once
 
-/* It has no other descriptors than the kernel gave it, and ends with the kernel. */
-void confine_first(void);
-/* It has little memory more than now, and few system calls. */
+#include <sys/types.h>
+
+/* It has no other descriptors than its socket and three of /dev/null, and ends with the kernel's process. */
+void confine_first(pid_t kernel);
+/* It has no rights and little memory more than now. All engines inherit that. */
+void confine_all(void);
+/* It has few system calls. */
 void confine(void);
-
-#endif

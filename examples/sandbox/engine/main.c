@@ -1,17 +1,34 @@
-/* An engine: the processor of one tenant, for the kernel's process that began it. */
-#include <sys/mman.h>
+/* The engines' program. Its first process is a fork server: it opens an emulator, and has no tenant. Each engine is a copy of
+ * it, which the kernel's process requests. */
+#define _GNU_SOURCE
+#include <sched.h>
+#include <signal.h>
+#include <sys/socket.h>
+#include <sys/syscall.h>
+#include <unistd.h>
 
-#include "../channel.h"
 #include "../need.h"
 #include "confine.h"
-#include "processor.h"
 #include "serve.h"
 
-int main(void) {
+/* With an argument instructions are counted. */
+int main(int count, char **words) {
     static struct processor processor;
-    confine_first();
-    void *page = mmap(NULL, PAGE_BYTES, PROT_READ | PROT_WRITE, MAP_SHARED, CHANNEL, 0);
-    need(page != MAP_FAILED && close(CHANNEL) == 0, "there is a channel");
-    processor_open(&processor);
-    serve(page, &processor);
+    pid_t kernel = getppid(), engine;
+    (void)words;
+    confine_first(kernel);
+    signal(SIGPROF, SIG_IGN); /* until an engine counts its ticks */
+    processor_open(&processor, count > 1);
+    confine_all();
+    for (int socket; (socket = file_take(SOCKET)) >= 0; close(socket)) {
+        /* a child of the kernel's process, and not of this one */
+        engine = (pid_t)syscall(SYS_clone, CLONE_PARENT | SIGCHLD, 0, 0, 0, 0);
+        if (engine == 0) {
+            need(dup2(socket, SOCKET) == SOCKET, "an engine has its own socket");
+            confine_first(kernel);
+            serve(&processor);
+        }
+        need(send(SOCKET, &engine, sizeof engine, MSG_NOSIGNAL) == sizeof engine, "the kernel is there");
+    }
+    return 0;
 }

@@ -1,7 +1,6 @@
-/* A tenant's processor: an emulator in user mode, by Unicorn's public functions alone. It has the pages of regions.h, each at
+/* A tenant's processor: an emulator in user mode, by Unicorn's public functions alone. It has the pages of window.h, each at
  * its virtual address, and no other memory. */
-#ifndef PROCESSOR_H
-#define PROCESSOR_H
+#pragma once
 
 #include <stdbool.h>
 #include <stddef.h>
@@ -10,37 +9,22 @@
 
 #include "../channel.h"
 
-enum { MANY_REGIONS = 96, MOST_REGIONS = 128, MOST_RUN = 1024 };
-
-/* Consecutive pages, with one right. */
-struct region {
-    uint32_t first, count;
-    bool write;
-    bool gains, goes; /* at the next settlement it gets the right to write, or is taken out */
-};
-
 struct processor {
     uc_engine *uc;
-    uint8_t *window; /* the host's addresses of the user range: at each page that is there, its frame's file */
-    struct region regions[MOST_REGIONS];
-    uint32_t region_count, next_victim;
-    bool is_unsettled; /* it stops before the next block, and settles */
-    bool is_stopping;  /* its turn is over */
+    uint32_t stale[MOST_PAGES], stale_count; /* pages that were taken out: what was translated of them has to go */
+    bool is_stopping;                        /* its turn is over */
 };
 
 /* In user mode, with no page. */
-void processor_open(struct processor *it);
-void processor_add_hooks(struct processor *it, bool of_each_instruction);
+void processor_open(struct processor *it, bool counts_instructions);
 /* Runs from the registers as they are until its turn is over. Returns the emulator's error, or NULL. */
 const char *processor_run(struct processor *it);
 
 void processor_registers(const struct processor *it, struct registers *to);
-void processor_set_registers(struct processor *it, const struct registers *from);
+void processor_set_registers(struct processor *it, struct registers *from);
 struct words processor_words(const struct processor *it);
 void processor_set_words(struct processor *it, struct words words);
 uint32_t processor_eip(const struct processor *it);
 
 /* What has to hold of the emulator. Otherwise the process ends. */
 void need_uc(uc_err error, const char *what);
-
-#endif

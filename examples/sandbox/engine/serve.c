@@ -3,147 +3,115 @@
 
 #include <signal.h>
 #include <stdio.h>
-#include <string.h>
-#include <sys/socket.h>
+#include <sys/mman.h>
 #include <sys/time.h>
+#include <ucontext.h>
+#include <unistd.h>
 
 #include "../need.h"
-#include "../wrong.h"
-#include "broken.h"
 #include "confine.h"
-#include "regions.h"
-
-enum wrong wrong;
+#include "window.h"
 
 static struct channel *channel;
 static struct processor *processor;
 static struct order order;
-static struct report report;
+static uint64_t executed;
 static volatile sig_atomic_t is_tick;
 static uint32_t looks; /* for an order, before the process sleeps */
 
-/* ---- Pages, as an order says */
+/* ---- Orders and reports */
 
-static void take_file(int *file) {
-    union {
-        struct cmsghdr header;
-        char bytes[CMSG_SPACE(MOST_PUTS * sizeof(int))];
-    } control;
-    char nothing;
-    struct iovec one = {&nothing, 1};
-    struct msghdr message = {.msg_iov = &one, .msg_iovlen = 1, .msg_control = &control, .msg_controllen = sizeof control};
-    size_t length = order.put_count * sizeof *file;
-    need(recvmsg(SOCKET, &message, 0) == 1 && message.msg_controllen >= CMSG_LEN(length), "the files of pages come");
-    memcpy(file, CMSG_DATA(&control.header), length);
-}
-
-static void take_out(bool is_in_access) {
-    if (order.all_out) {
-        (is_in_access ? regions_out_all_later : regions_out_all)(processor);
-    }
-    for (uint32_t i = 0; i < order.out_count; i++) {
-        (is_in_access ? regions_out_later : regions_out)(processor, order.outs[i]);
-    }
-}
-
-static void put_in(bool is_fetch) {
-    int files[MOST_PUTS];
-    if (order.put_count) {
-        take_file(files);
-    }
-    for (uint32_t i = 0; i < order.put_count; i++) {
-        regions_put(processor, order.puts[i].page, files[i], order.puts[i].write, is_fetch);
-        broken_keep(files[i]);
-        close(files[i]);
-    }
-}
-
-/* ---- Reports and orders */
-
-static void await_order(bool is_in_access) {
+static void await_order(void) {
     while (!channel_await(channel, HELD_BY_ENGINE, &looks, NULL)) {
     }
     order = channel->order;
-    take_out(is_in_access);
+    for (uint32_t i = 0; i < order.out_count; i++) {
+        window_hide(processor, channel->outs[i]);
+    }
+    if (order.has_page) {
+        int file = file_take(SOCKET);
+        window_show(order.page, file, order.write);
+        close(file);
+    }
 }
 
-static void give_report(enum report_kind kind, bool is_in_access) {
-    report.kind = kind;
+static void exchange(struct report report) {
+    report.executed = executed;
+    executed = 0;
+    if (has_registers(&report)) {
+        processor_registers(processor, &channel->registers);
+    }
     channel->report = report;
     channel_pass(channel, HELD_BY_KERNEL);
-    await_order(is_in_access);
-}
-
-static void exchange(enum report_kind kind) {
-    bool is_in_access = kind == REPORT_ACCESS;
-    broken_before(kind, &report, channel);
-    give_report(kind, is_in_access);
-    while (order.kind == ORDER_REGISTERS) {
-        processor_registers(processor, &report.registers);
-        give_report(REPORT_REGISTERS, is_in_access);
-    }
-    put_in(is_in_access && report.access == ACCESS_FETCH);
-    report.executed = 0;
-    is_tick = is_tick && kind != REPORT_OVER && !order.begins_turn;
+    await_order();
+    is_tick = is_tick && report.kind != REPORT_OVER && !order.begins_turn;
 }
 
 struct words serve_call(struct words words) {
-    report.words = words;
-    exchange(REPORT_CALL);
+    exchange((struct report){.kind = REPORT_CALL, .words = words});
+    window_settle(processor);
     return order.words;
 }
 
-void serve_access(enum access kind, uint32_t address, uint32_t size, uint64_t value) {
-    report.access = kind;
-    report.address = address;
-    report.size = size;
-    report.value = value;
-    exchange(REPORT_ACCESS);
+void serve_access(enum access kind, uint32_t address) {
+    exchange((struct report){.kind = REPORT_ACCESS, .access = kind, .address = address});
 }
 
 void serve_end(const char *what, uint32_t eip) {
-    snprintf(report.what, sizeof report.what, eip ? "%s at %08x" : "%s", what, eip);
-    exchange(REPORT_END);
+    snprintf(channel->what, sizeof channel->what, eip ? "%s at %08x" : "%s", what, eip);
+    exchange((struct report){.kind = REPORT_END});
     _exit(0);
 }
 
 bool serve_step(void) {
-    if (is_tick || report.executed == order.instructions) {
-        return true;
-    }
-    report.executed++;
-    return false;
+    bool is_over = is_tick || executed == order.instructions;
+    executed += !is_over;
+    return is_over;
 }
 
-/* ---- Turns */
+/* ---- Signals */
 
 static void on_tick(int number) {
     (void)number;
     is_tick = 1;
 }
 
-/* A turn by time is over after 10 milliseconds of the processor. */
-static void begin_ticks(void) {
-    const struct itimerval each = {{0, 10000}, {0, 10000}};
-    struct sigaction action = {.sa_handler = on_tick, .sa_flags = SA_RESTART};
-    need(sigaction(SIGPROF, &action, NULL) == 0 && setitimer(ITIMER_PROF, &each, NULL) == 0, "a timer");
+/* An access that the host's page tables stopped, in the middle of an instruction of the emulator's: it is then repeated. Only
+ * memory and the host's calls are used here. Any other fault ends the process, since the signal is blocked. */
+static void on_fault(int number, siginfo_t *fault, void *context) {
+    uint64_t address = (uint64_t)(uintptr_t)fault->si_addr - WINDOW;
+    bool is_store = ((ucontext_t *)context)->uc_mcontext.gregs[REG_ERR] & 2;
+    (void)number;
+    if (address >> 12 < TOWER_FIRST_PAGE || address >> 12 > TOWER_LAST_PAGE) {
+        *(volatile char *)fault->si_addr = 0;
+    }
+    /* The emulator reads a block's instructions once EIP is there. */
+    bool is_fetch = address - processor_eip(processor) < PAGE_BYTES;
+    serve_access(is_store ? ACCESS_STORE : is_fetch ? ACCESS_FETCH : ACCESS_LOAD, (uint32_t)address);
 }
 
-void serve(struct channel *with, struct processor *of) {
-    channel = with;
+/* ---- Turns */
+
+/* A turn by time is over after 10 milliseconds of the processor. */
+void serve(struct processor *of) {
+    const struct itimerval each = {{0, 10000}, {0, 10000}};
+    const struct sigaction tick = {.sa_handler = on_tick, .sa_flags = SA_RESTART};
+    const struct sigaction fault = {.sa_sigaction = on_fault, .sa_flags = SA_SIGINFO};
+    int file = file_take(SOCKET);
+    channel = mmap(NULL, sizeof *channel, PROT_READ | PROT_WRITE, MAP_SHARED, file, 0);
     processor = of;
-    channel->window = (uint64_t)(uintptr_t)processor->window;
-    begin_ticks();
+    need(channel != MAP_FAILED && close(file) == 0, "there is a channel");
+    need(sigaction(SIGSEGV, &fault, NULL) == 0 && sigaction(SIGBUS, &fault, NULL) == 0, "a handler of faults");
+    need(sigaction(SIGPROF, &tick, NULL) == 0 && setitimer(ITIMER_PROF, &each, NULL) == 0, "a timer");
     confine();
-    await_order(false);
-    wrong = order.wrong;
-    processor_add_hooks(processor, order.instructions != UNCOUNTED);
-    processor_set_registers(processor, &order.registers);
+    await_order();
+    struct registers start = channel->registers;
+    processor_set_registers(processor, &start);
     for (;;) {
         const char *error = processor_run(processor);
         if (error) {
             serve_end(error, processor_eip(processor));
         }
-        exchange(REPORT_OVER);
+        exchange((struct report){.kind = REPORT_OVER});
     }
 }
