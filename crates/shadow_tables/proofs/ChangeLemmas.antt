@@ -115,11 +115,19 @@ module _ (places : Places) (t v : Tables) (p page table word : ℕ) (entry : Opt
     ];
   })
 
+  ways_stay : (q other depth : ℕ) → q < 64 → IsUserPage other → depth ≤ 3 → way v q other depth ≡ way t q other depth
+  ways_stay q other depth process user deep = same_way t v q other depth (record {
+    blocks = blocks;
+    root = root_is q;
+    words = λ k g below is. words_above q other k g process (user_lower other user) (omega (arith, below, deep)) is;
+  })
+
   pub change : IsChanged t p page entry v
   change = record {
     stands = (places, tables_after);
     is = own_translation;
     others = other_translation;
+    ways = ways_stay;
     same = l.same;
   }
 
@@ -224,6 +232,9 @@ module _ (places : Places) (t v : Tables) (p root : ℕ) (l : Forgetting places 
 
   pub others_stay : (q page : ℕ) → q ≢ p → translation_at v q page ≡ translation_at t q page
   others_stay q page n = same_translation t v q page (record { blocks = l.blocks; root = other_root q n; words = λ k g _ _. word_is g (index_at k page) })
+
+  pub ways_of_others : (q page depth : ℕ) → q ≢ p → way v q page depth ≡ way t q page depth
+  ways_of_others q page depth n = same_way t v q page depth (record { blocks = l.blocks; root = other_root q n; words = λ k g _ _. word_is g (index_at k page) })
 
 -- a translation is entered, or none is left
 pub changed : (places : Places) (t v : Tables) (p page table : ℕ) (entry : Option Translation) → AreTables places t → IsUserPage page → way t p page 3 ≡ Some table → IfSome entry (λ e. e.frame < 2 ^ 20)

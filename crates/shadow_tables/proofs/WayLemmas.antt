@@ -1,5 +1,5 @@
 -- The way from a root to the table of a page: where its tables have their places, and which changes leave it.
-use Rattle.std.proofs.Common.{◌≡◌, ℕ, zero, suc, ◌+◌, ◌*◌, ◌/◌, ◌^◌, ◌<◌, ◌≤◌, ◌⊎◌, true, Option, Some, None, refl, sym, ap, subst, ◌∙◌, arith, inl, inr}
+use Rattle.std.proofs.Common.{◌≡◌, ℕ, zero, suc, ◌+◌, ◌*◌, ◌/◌, ◌^◌, ◌<◌, ◌≤◌, ◌⊎◌, true, length, Option, Some, None, refl, sym, ap, subst, ◌∙◌, arith, inl, inr}
 use Rattle.std.proofs.lemmas.Bool.{cases_eq, cases_lt}
 use Rattle.std.proofs.lemmas.List.{get_or_past}
 use Rattle.std.proofs.lemmas.Bool.Decides.{nat_tests}
@@ -9,7 +9,8 @@ use Rattle.shadow_tables.specs.declared.tables.Tables.{Tables}
 use Rattle.shadow_tables.specs.LongWords.{entry_word}
 use Rattle.shadow_tables.specs.Shadow.{frame_address}
 use Rattle.shadow_tables.specs.Holdings.{Places}
-use Rattle.shadow_tables.specs.Tables.{frames_of, word_of, named_by, index_at, prefix_at, way, translation_in, translation_at, AreBlocks, AreTables, LinksTo, IsTable, SameBlocks}
+use Rattle.shadow_tables.specs.Tables.{frames_of, word_of, named_by, index_at, prefix_at, way, missing_in, translation_in, translation_at, seen_as, AreBlocks, AreTables, LinksTo, IsTable, SameBlocks}
+use Rattle.shadow_tables.specs.Needs.{if_missing, table_at, table_named, named_within, frames_needed}
 use Rattle.shadow_tables.proofs.LongWordLemmas.{SaysEntry, says_entry}
 
 -- ---- Steps of an option
@@ -133,6 +134,55 @@ same_translation t t' p page same =
 
 pub no_next : (t : Tables) (p page d : ℕ) → way t p page d ≡ None → way t p page (suc d) ≡ None
 no_next t p page d e = ap (option_and_then (λ f. named_by t (word_of t f (index_at d page)))) e
+
+-- the table that leads to one
+before : (t : Tables) (p page d frame : ℕ) → way t p page (suc d) ≡ Some frame → (g : ℕ) × (way t p page d ≡ Some g)
+before t p page d frame is = let step = then_some (λ f. named_by t (word_of t f (index_at d page))) (way t p page d) frame is in (step.0, step.1)
+
+-- how many tables are missing, where the way ends after that many
+pub missing_past : (t : Tables) (p page d frame : ℕ) → d ≤ 3 → way t p page d ≡ Some frame → (d < 3 → way t p page (suc d) ≡ None) → missing_in t p page + d ≡ 3
+missing_past t p page zero frame h is ends =
+    let one = ends (omega arith) in
+    let two = no_next t p page 1 one in
+    omega (arith, ap if_missing is, ap if_missing one, ap if_missing two, ap if_missing (no_next t p page 2 two))
+missing_past t p page (suc zero) frame h is ends =
+    let root = before t p page 0 frame is in
+    let two = ends (omega arith) in
+    omega (arith, ap if_missing root.1, ap if_missing is, ap if_missing two, ap if_missing (no_next t p page 2 two))
+missing_past t p page (suc (suc zero)) frame h is ends =
+    let one = before t p page 1 frame is in
+    let root = before t p page 0 one.0 one.1 in
+    omega (arith, ap if_missing root.1, ap if_missing one.1, ap if_missing is, ap if_missing (ends (omega arith)))
+missing_past t p page (suc (suc (suc zero))) frame h is ends =
+    let two = before t p page 2 frame is in
+    let one = before t p page 1 two.0 two.1 in
+    let root = before t p page 0 one.0 one.1 in
+    omega (arith, ap if_missing root.1, ap if_missing one.1, ap if_missing two.1, ap if_missing is)
+missing_past t p page (suc (suc (suc (suc d)))) frame h is ends = absurd (omega arith)
+
+-- without a root, all four are missing
+pub missing_all : (t : Tables) (p page : ℕ) → way t p page 0 ≡ None → missing_in t p page ≡ 4
+missing_all t p page none =
+    let one = no_next t p page 0 none in
+    let two = no_next t p page 1 one in
+    omega (arith, ap if_missing none, ap if_missing one, ap if_missing two, ap if_missing (no_next t p page 2 two))
+
+-- tables that lead as before are missing as before
+pub missing_same : (t v : Tables) (p page : ℕ) → ((d : ℕ) → d ≤ 3 → way v p page d ≡ way t p page d) → missing_in v p page ≡ missing_in t p page
+missing_same t v p page same =
+    omega (arith, ap if_missing (same 0 (omega arith)), ap if_missing (same 1 (omega arith)), ap if_missing (same 2 (omega arith)), ap if_missing (same 3 (omega arith)))
+
+-- the way as a contract sees it
+pub table_at-way : (t : Tables) (p page d : ℕ) → AreBlocks t → table_at (seen_as t) p page d ≡ way t p page d
+table_at-way t p page zero are = refl
+table_at-way t p page (suc d) are =
+    let frames : length t.bytes.items / 4096 ≡ frames_of t = omega (arith, are.bytes) in
+    ap (option_and_then (λ f. table_named (seen_as t) (word_of t f (index_at d page)))) (table_at-way t p page d are)
+    ∙ ap (λ n. option_and_then (λ f. named_within t.pool n (word_of t f (index_at d page))) (way t p page d)) frames
+
+pub needed-missing : (t : Tables) (p page : ℕ) → AreBlocks t → frames_needed (seen_as t) p page ≡ missing_in t p page
+needed-missing t p page are =
+    omega (arith, ap if_missing (table_at-way t p page 0 are), ap if_missing (table_at-way t p page 1 are), ap if_missing (table_at-way t p page 2 are), ap if_missing (table_at-way t p page 3 are))
 
 -- a way that ends leads to no translation
 pub nothing_after : (t : Tables) (p page d : ℕ) → d ≤ 3 → way t p page d ≡ None → translation_at t p page ≡ None

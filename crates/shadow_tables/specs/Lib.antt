@@ -1,6 +1,7 @@
 pub mod LongWords
 pub mod LongWalk
 pub mod Shadow
+pub mod Needs
 pub mod Holdings
 pub mod Tables
 pub mod Laws

@@ -8,10 +8,11 @@
 //! set beforehand, and its dirty flag if it is writable, so that a processor writes none of them.
 #![tactic(auto)]
 
-ghost use Rattle.std.specs.Prelude.{◌≡◌, ◌≢◌, ℕ, ◌+◌, ◌*◌, ◌%◌, ◌^◌, ◌<◌, ◌≤◌, not, ◌==◌, IfOk, IfErr, IsOk, IsSome, Some, None, length, sum, replicate, slice_set, slice_index};
+ghost use Rattle.std.specs.Prelude.{◌≡◌, ◌≢◌, ℕ, ◌+◌, ◌*◌, ◌%◌, ◌^◌, ◌<◌, ◌≤◌, ◌↔◌, not, ◌==◌, IfOk, IfErr, IsOk, IsSome, Some, None, length, sum, replicate, slice_set, slice_index};
 ghost use Rattle.page_words.specs.FiniteMap as map;
 ghost use Rattle.page_words.specs.Addresses.{IsUserPage};
 ghost use Rattle.shadow_tables.specs.Shadow.{at_page, root_frame, root_of, opening, IsFixed};
+ghost use Rattle.shadow_tables.specs.Needs.{frames_needed};
 ghost use Rattle.shadow_tables.specs.Laws.{WalksAgree, KernelHalves, UserPagesOnly};
 
 mod holdings;
@@ -22,12 +23,8 @@ use page_words::{Frame, Page, Pid};
 use std::alloc::{AllocError, Global};
 use std::marker::Model;
 use tables::Tables;
-pub use tables::Translation;
+pub use tables::{Full, Translation};
 pub use walk::{LongEnd, long_walk};
-
-/// No frame of the pool is free.
-#[derive(Clone, Copy, Debug, PartialEq, Eq)]
-pub struct Full;
 
 /// The shadow tables of 64 processes.
 #[derive(Drop)]
@@ -88,27 +85,33 @@ impl ShadowTables {
         self.tables.translation(pid, page)
     }
 
+    /// How many frames of the pool a fill of a user page of a process takes: one for each table on the way to it that is
+    /// missing, at most four.
+    pub fn needed(&self, pid: Pid, page: Page) -> u32
+        requires { IsUserPage page }
+        ensures value { result ≡ frames_needed self.now pid page }
+        ensures most { result ≤ 4 }
+    {
+        self.tables.missing(pid, page)
+    }
+
     /// Enters the translation of a user page of a process, in place of any other. It makes the root and the tables that
-    /// are missing. Full if no frame is left for one; no translation changes then.
+    /// are missing, and takes no other frame. Full if fewer frames are free than that needs; nothing changes then.
     pub fn fill(&mut self, pid: Pid, page: Page, frame: Frame, write: bool) -> Result<(), Full>
         requires user { IsUserPage page }
         requires frame { frame < 2 ^ 20 }
         ensures filled { IfOk result (λ _. self.new.translations
             ≡ map.insert self.old.translations (at_page pid page) (record { frame = frame; write = write })) }
         ensures root { IfOk result (λ _. IsSome (root_of self.new pid)) }
-        ensures full { IfErr result (λ _. self.new.free ≡ 0) }
-        ensures kept { IfErr result (λ _. self.new.translations ≡ self.old.translations) }
-        ensures enough { 4 ≤ self.old.free → IsOk result }
+        ensures enough { IsOk result ↔ (frames_needed self.old pid page ≤ self.old.free) }
+        ensures spent { IfOk result (λ _. self.old.free ≡ self.new.free + frames_needed self.old pid page) }
+        ensures kept { IfErr result (λ _. self.new ≡ self.old) }
         ensures roots { (p frame : ℕ) → root_frame self.old p ≡ Some frame → root_frame self.new p ≡ Some frame }
         ensures others { (p : ℕ) → p ≢ pid → root_frame self.new p ≡ root_frame self.old p }
         ensures taken { (p : ℕ) → p ≢ pid → slice_index self.new.taken p ≡ slice_index self.old.taken p }
         ensures fixed { IsFixed self.old self.new }
     {
-        if self.tables.fill(pid, page, frame, write) {
-            Ok(())
-        } else {
-            Err(Full)
-        }
+        self.tables.fill(pid, page, frame, write)
     }
 
     /// Forgets the translation of a page of a process, if there is one.
@@ -116,6 +119,8 @@ impl ShadowTables {
         ensures translations { self.new.translations ≡ map.remove self.old.translations (at_page pid page) }
         ensures roots { self.new.roots ≡ self.old.roots }
         ensures taken { self.new.taken ≡ self.old.taken }
+        ensures free { self.new.free ≡ self.old.free }
+        ensures needed { (p at : ℕ) → p < 64 → IsUserPage at → frames_needed self.new p at ≡ frames_needed self.old p at }
         ensures fixed { IsFixed self.old self.new }
     {
         self.tables.forget_page(pid, page);
@@ -127,6 +132,7 @@ impl ShadowTables {
             ≡ map.retain_keys self.old.translations (λ slot. not (slot.pid == pid)) }
         ensures roots { self.new.roots ≡ slice_set self.old.roots pid None }
         ensures taken { self.new.taken ≡ slice_set self.old.taken pid 0 }
+        ensures needed { (p at : ℕ) → p ≢ pid → frames_needed self.new p at ≡ frames_needed self.old p at }
         ensures fixed { IsFixed self.old self.new }
     {
         self.tables.forget_process(pid);
