@@ -7,6 +7,7 @@ use Rattle.page_words.specs.Words.{is_present, is_writable}
 use Rattle.page_words.specs.FiniteMap as map
 use Rattle.shadow_tables.specs.LongWords.{long_at, long_place, entry_word}
 use Rattle.shadow_tables.specs.Shadow.{Slot, at_page, Translations, Shadow, frame_address}
+use Rattle.shadow_tables.specs.Kernel.{AreKernelWords}
 pub use Rattle.shadow_tables.specs.Needs.{index_at}
 use Rattle.shadow_tables.specs.Needs.{named_within, if_missing}
 use Rattle.shadow_tables.specs.Holdings.{Places, count_of, frame_count, AreHeld, IsTakenBy}
@@ -110,6 +111,7 @@ pub record IsRoot (places : Places) (t : Tables) (p frame : ℕ) : Type 0 where
 pub record AreBlocks (t : Tables) : Type 0 where
   pub bytes : length t.bytes.items ≡ 4096 * frames_of t
   pub kernel : length t.kernel.items ≡ 2048
+  pub words : AreKernelWords t.kernel.items
   pub roots : length t.roots ≡ 64
   pub pool : t.pool % 4096 ≡ 0
   pub pool_end : t.pool + 4096 * frames_of t ≤ 2 ^ 52

@@ -11,10 +11,12 @@
 ghost use Rattle.std.specs.Prelude.{◌≡◌, ◌≢◌, ℕ, ◌+◌, ◌*◌, ◌%◌, ◌^◌, ◌<◌, ◌≤◌, ◌↔◌, not, ◌==◌, IfOk, IfErr, IsOk, IsSome, Some, None, length, sum, replicate, slice_set, slice_index};
 ghost use Rattle.page_words.specs.FiniteMap as map;
 ghost use Rattle.page_words.specs.Addresses.{IsUserPage};
+ghost use Rattle.shadow_tables.specs.Kernel.{AreKernelWords};
 ghost use Rattle.shadow_tables.specs.Shadow.{at_page, root_frame, root_of, opening, IsFixed};
 ghost use Rattle.shadow_tables.specs.Needs.{frames_needed};
-ghost use Rattle.shadow_tables.specs.Laws.{WalksAgree, KernelHalves, UserPagesOnly};
+ghost use Rattle.shadow_tables.specs.Laws.{WalksAgree, KernelHalves, UpperHalvesAreClosed, UserPagesOnly};
 
+mod halves;
 mod holdings;
 mod tables;
 mod walk;
@@ -23,6 +25,7 @@ use page_words::{Frame, Page, Pid};
 use std::alloc::{AllocError, Global};
 use std::marker::Model;
 use tables::Tables;
+pub use halves::is_kernel_half;
 pub use tables::{Full, Translation};
 pub use walk::{LongEnd, long_walk};
 
@@ -49,7 +52,7 @@ impl Model for ShadowTables {
 impl ShadowTables {
     /// Shadow tables in these bytes, which lie at the physical address `pool`, in frames of 4,096 bytes. No process has
     /// a root. Frame 0 of the translations lies at the physical address `block`. Each root gets `kernel` as its upper
-    /// half, as it is.
+    /// half, as it is. `is_kernel_half` tells whether the words of a half are as they are to be.
     pub fn new(
         alloc: Global,
         bytes: Vec<u8>,
@@ -64,6 +67,7 @@ impl ShadowTables {
         requires block { block % 4096 ≡ 0 }
         requires block_end { block + 2 ^ 32 ≤ 2 ^ 52 }
         requires half { length kernel.items ≡ 2048 }
+        requires words { AreKernelWords kernel.items }
         ensures { IfOk result (λ shadow. shadow ≡ opening bytes.items frames pool block kernel.items) }
     {
         Ok(ShadowTables {
@@ -176,10 +180,12 @@ impl ShadowTables {
     }
 
     /// The walk of each address of the lower half ends as the translation of its page says, which is one of the user
-    /// range. The upper half of each root is the kernel's. Each frame is free or taken.
+    /// range. The upper half of each root is the kernel's, through which no walk reaches a page. Each frame is free or
+    /// taken.
     pub fn walks(&self)
         ensures walks { WalksAgree self.now }
         ensures kernel { KernelHalves self.now }
+        ensures closed { UpperHalvesAreClosed self.now }
         ensures user { UserPagesOnly self.now }
         ensures frames { 4096 * (self.now.free + sum self.now.taken) ≡ length self.now.bytes }
     {

@@ -5,6 +5,7 @@ ghost use Rattle.std.specs.Option.{option_map};
 ghost use Rattle.page_words.specs.FiniteMap as map;
 ghost use Rattle.page_words.specs.Addresses.{IsUserPage};
 ghost use Rattle.shadow_tables.specs.LongWords.{entry_word, with_long, long_place};
+ghost use Rattle.shadow_tables.specs.Kernel.{AreKernelWords};
 ghost use Rattle.shadow_tables.specs.Shadow.{at_page, frame_address, opening, IsFixed};
 ghost use Rattle.shadow_tables.specs.Holdings.{count_of, frame_count, AreHeld, IsHeld, opening_places};
 ghost use Rattle.shadow_tables.specs.Tables.{IsShadow, AreBlocks, frames_of, word_of, named_by, index_at, way, missing_in, translation_in, translations_in, word_for, seen_as, SameButBytes, SameBlocks, SameOthers, IsFresh, IsStep, IsChanged};
@@ -89,6 +90,7 @@ fn opened(bytes: Vec<u8>, holdings: Holdings, pool: u64, block: u64, kernel: Vec
     requires block { block % 4096 ≡ 0 }
     requires block_end { block + 2 ^ 32 ≤ 2 ^ 52 }
     requires half { length kernel.items ≡ 2048 }
+    requires words { AreKernelWords kernel.items }
     ensures stands { IsShadow result }
     ensures seen { seen_as result ≡ opening bytes.items (frame_count holdings) pool block kernel.items }
 {
@@ -118,6 +120,7 @@ impl Tables {
         requires block { block % 4096 ≡ 0 }
         requires block_end { block + 2 ^ 32 ≤ 2 ^ 52 }
         requires half { length kernel.items ≡ 2048 }
+        requires words { AreKernelWords kernel.items }
         ensures stands { IfOk result (λ new. IsShadow new) }
         ensures seen { IfOk result (λ new. seen_as new ≡ opening bytes.items frames pool block kernel.items) }
     {
