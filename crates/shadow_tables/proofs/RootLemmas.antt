@@ -10,10 +10,10 @@ use Rattle.phys_memory.proofs.Words.{byte-splice_below, byte-splice_in, byte-spl
 use Rattle.shadow_tables.specs.declared.tables.Tables.{Tables}
 use Rattle.shadow_tables.specs.LongWords.{long_place}
 use Rattle.shadow_tables.specs.Holdings.{Places, with_place, next_place, count_of, AreHeld}
-use Rattle.shadow_tables.specs.Tables.{frames_of, word_of, named_by, index_at, way, missing_in, translation_at, AreTables, IsTable, IsRoot, SameBlocks, IsFresh, IsStep}
+use Rattle.shadow_tables.specs.Tables.{frames_of, word_of, named_by, index_at, way, missing_in, WaysStay, translation_at, AreTables, IsTable, IsRoot, SameBlocks, IsFresh, IsStep}
 use Rattle.shadow_tables.proofs.HoldingLemmas.{with_place-same, with_place-other}
 use Rattle.shadow_tables.proofs.LongWordLemmas.{long_by_bytes}
-use Rattle.shadow_tables.proofs.WayLemmas.{place_of_way, none_some, some_same, same_translation, nothing_after, nothing_at, missing_past, missing_all, user_lower, index_at-below, index_at-root}
+use Rattle.shadow_tables.proofs.WayLemmas.{place_of_way, none_some, some_same, same_way, rooted_way, same_translation, nothing_after, nothing_at, missing_past, missing_all, user_lower, index_at-below, index_at-root}
 use Rattle.shadow_tables.proofs.TableLemmas.{Cleared, then_blocks, blocks_stay, table_stays}
 
 -- what there is before and after: a frame is taken and cleared, and its upper half is written
@@ -179,6 +179,19 @@ module _ (places : Places) (t u v : Tables) (p frame : ℕ) (l : Rooting places 
       ap (option_and_then (λ f. named_by v (word_of v f (index_at 0 page)))) root_is ∙ ap (named_by v) (new_word (index_at 0 page) (index_at-root page lower))) in
       omega (arith, old, new)
 
+  -- the tables of the others lead on, and the process had none
+  ways_more : WaysStay t v
+  ways_more q at d g process user deep is = elim (cases_eq q p) [
+    | inl e ↦ absurd (rooted_way t q at d g is (ap (λ q. way t q 0 0) e ∙ l.missing))
+    | inr n ↦ same_way t v q at d (record {
+      blocks = blocks;
+      root = other_root q n;
+      words = λ k h below way.
+          let its = place_of_way places t l.are q at process (user_lower at user) k h (omega (arith, below, deep)) way in
+          other_word h (index_at k at) (index_at-below k at) (owned h (omega (arith, its.owner, process)));
+    }) ∙ is
+  ]
+
   pub rooting_step : (page : ℕ) → IsUserPage page → IsStep t p page 0 (Some frame) v
   rooting_step page user = record {
     process = l.process;
@@ -189,6 +202,7 @@ module _ (places : Places) (t u v : Tables) (p frame : ℕ) (l : Rooting places 
         | inl e ↦ absurd (none_some g (sym l.missing ∙ ap (λ q. way t q 0 0) (sym e) ∙ is))
         | inr n ↦ other_root q n ∙ is
       ];
+      ways = ways_more;
       blocks = blocks;
     };
     others = record {

@@ -27,6 +27,11 @@ abbrev pub if_missing : Option ℕ → ℕ
 if_missing None = 1
 if_missing (Some frame) = 0
 
+-- How many are missing of the five tables that pages of a process share in any case: its root, the table below it, and one
+-- for each of the three GiB of the user range. A page needs one table more than these.
+abbrev pub shared_missing : Shadow → ℕ → ℕ
+shared_missing s p = if_missing (table_at s p 0x40000 0) + if_missing (table_at s p 0x40000 1) + if_missing (table_at s p 0x40000 2) + if_missing (table_at s p 0x80000 2) + if_missing (table_at s p 0xc0000 2)
+
 -- how many frames a fill of a page takes: one for each that is missing of its root and the three tables below
 abbrev pub frames_needed : Shadow → ℕ → ℕ → ℕ
 frames_needed s p page = if_missing (table_at s p page 0) + if_missing (table_at s p page 1) + if_missing (table_at s p page 2) + if_missing (table_at s p page 3)

@@ -39,6 +39,14 @@ way t p page (suc depth) = option_and_then (λ frame. named_by t (word_of t fram
 abbrev pub missing_in : Tables → ℕ → ℕ → ℕ
 missing_in t p page = if_missing (way t p page 0) + if_missing (way t p page 1) + if_missing (way t p page 2) + if_missing (way t p page 3)
 
+-- how many of the five tables that pages of a process share are missing
+abbrev pub shared_in : Tables → ℕ → ℕ
+shared_in t p = if_missing (way t p 0x40000 0) + if_missing (way t p 0x40000 1) + if_missing (way t p 0x40000 2) + if_missing (way t p 0x80000 2) + if_missing (way t p 0xc0000 2)
+
+-- each table that there was leads on as before
+abbrev pub WaysStay : Tables → Tables → Type 0
+WaysStay old new = (q at depth frame : ℕ) → q < 64 → IsUserPage at → depth ≤ 3 → way old q at depth ≡ Some frame → way new q at depth ≡ Some frame
+
 -- the translation in a word
 abbrev pub translation_in : ℕ → ℕ → Option Translation
 translation_in block word = if is_present word then Some (record { frame = (word / 4096 - block / 4096) % 2 ^ 20; write = is_writable word }) else None
@@ -157,6 +165,7 @@ pub record IsFresh (old : Tables) (p frame : ℕ) (new : Tables) : Type 0 where
 pub record SameTranslations (old new : Tables) : Type 0 where
   pub at : (p page : ℕ) → p < 64 → IsUserPage page → translation_at new p page ≡ translation_at old p page
   pub roots : (p frame : ℕ) → way old p 0 0 ≡ Some frame → way new p 0 0 ≡ Some frame
+  pub ways : WaysStay old new
   pub blocks : SameBlocks old new
 
 -- nothing of other processes changes

@@ -13,7 +13,7 @@ ghost use Rattle.page_words.specs.FiniteMap as map;
 ghost use Rattle.page_words.specs.Addresses.{IsUserPage};
 ghost use Rattle.shadow_tables.specs.Kernel.{AreKernelWords};
 ghost use Rattle.shadow_tables.specs.Shadow.{at_page, root_frame, root_of, opening, IsFixed};
-ghost use Rattle.shadow_tables.specs.Needs.{frames_needed};
+ghost use Rattle.shadow_tables.specs.Needs.{frames_needed, shared_missing};
 ghost use Rattle.shadow_tables.specs.Laws.{WalksAgree, KernelHalves, UpperHalvesAreClosed, UserPagesOnly};
 
 mod halves;
@@ -109,6 +109,9 @@ impl ShadowTables {
         ensures root { IfOk result (λ _. IsSome (root_of self.new pid)) }
         ensures enough { IsOk result ↔ (frames_needed self.old pid page ≤ self.old.free) }
         ensures spent { IfOk result (λ _. self.old.free ≡ self.new.free + frames_needed self.old pid page) }
+        ensures shared { IfOk result (λ _. shared_missing self.new pid + frames_needed self.old pid page
+            ≤ shared_missing self.old pid + 1) }
+        ensures less { (p at : ℕ) → p < 64 → IsUserPage at → frames_needed self.new p at ≤ frames_needed self.old p at }
         ensures kept { IfErr result (λ _. self.new ≡ self.old) }
         ensures roots { (p frame : ℕ) → root_frame self.old p ≡ Some frame → root_frame self.new p ≡ Some frame }
         ensures others { (p : ℕ) → p ≢ pid → root_frame self.new p ≡ root_frame self.old p }

@@ -8,7 +8,7 @@ ghost use Rattle.shadow_tables.specs.LongWords.{entry_word, with_long, long_plac
 ghost use Rattle.shadow_tables.specs.Kernel.{AreKernelWords};
 ghost use Rattle.shadow_tables.specs.Shadow.{at_page, frame_address, opening, IsFixed};
 ghost use Rattle.shadow_tables.specs.Holdings.{count_of, frame_count, AreHeld, IsHeld, opening_places};
-ghost use Rattle.shadow_tables.specs.Tables.{IsShadow, AreBlocks, frames_of, word_of, named_by, index_at, way, missing_in, translation_in, translations_in, word_for, seen_as, SameButBytes, SameBlocks, SameOthers, IsFresh, IsStep, IsChanged};
+ghost use Rattle.shadow_tables.specs.Tables.{IsShadow, AreBlocks, frames_of, word_of, named_by, index_at, way, missing_in, shared_in, WaysStay, translation_in, translations_in, word_for, seen_as, SameButBytes, SameBlocks, SameOthers, IsFresh, IsStep, IsChanged};
 
 use crate::holdings::{FREE, Holdings};
 use crate::walk::long_at;
@@ -349,6 +349,9 @@ impl Tables {
         ensures enough { IsOk result ↔ (missing_in self.old pid page ≤ count_of self.old.holdings 64) }
         ensures spent { IfOk result (λ _. count_of self.old.holdings 64
             ≡ count_of self.new.holdings 64 + missing_in self.old pid page) }
+        ensures shared { IfOk result (λ _. shared_in self.new pid + missing_in self.old pid page
+            ≤ shared_in self.old pid + 1) }
+        ensures ways { WaysStay self.old self.new }
         ensures root { IfOk result (λ _. IsSome (way self.new pid 0 0)) }
         ensures roots { (p frame : ℕ) → way self.old p 0 0 ≡ Some frame → way self.new p 0 0 ≡ Some frame }
         ensures others { SameOthers self.old self.new pid }
