@@ -13,7 +13,7 @@ use Rattle.shadow_tables.specs.Holdings.{Places, with_place, next_place, count_o
 use Rattle.shadow_tables.specs.Tables.{frames_of, word_of, named_by, index_at, way, missing_in, WaysStay, translation_at, AreTables, IsTable, IsRoot, SameBlocks, IsFresh, IsStep}
 use Rattle.shadow_tables.proofs.HoldingLemmas.{with_place-same, with_place-other}
 use Rattle.shadow_tables.proofs.LongWordLemmas.{long_by_bytes}
-use Rattle.shadow_tables.proofs.WayLemmas.{place_of_way, none_some, some_same, same_way, rooted_way, same_translation, nothing_after, nothing_at, missing_past, missing_all, user_lower, index_at-below, index_at-root}
+use Rattle.shadow_tables.proofs.WayLemmas.{place_of_way, none_some, some_same, process_of_way, same_way, rooted_way, same_translation, nothing_after, nothing_at, missing_past, missing_all, user_lower, index_at-below, index_at-root}
 use Rattle.shadow_tables.proofs.TableLemmas.{Cleared, then_blocks, blocks_stay, table_stays}
 
 -- what there is before and after: a frame is taken and cleared, and its upper half is written
@@ -181,7 +181,7 @@ module _ (places : Places) (t u v : Tables) (p frame : ℕ) (l : Rooting places 
 
   -- the tables of the others lead on, and the process had none
   ways_more : WaysStay t v
-  ways_more q at d g process user deep is = elim (cases_eq q p) [
+  ways_more q at d g user deep is = let process = process_of_way t q at d g l.are.blocks is in elim (cases_eq q p) [
     | inl e ↦ absurd (rooted_way t q at d g is (ap (λ q. way t q 0 0) e ∙ l.missing))
     | inr n ↦ same_way t v q at d (record {
       blocks = blocks;

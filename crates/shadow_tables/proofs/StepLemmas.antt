@@ -9,7 +9,7 @@ use Rattle.shadow_tables.specs.Shadow.{frame_address}
 use Rattle.shadow_tables.specs.Holdings.{Places, with_place, next_place, count_of, AreHeld}
 use Rattle.shadow_tables.specs.Tables.{frames_of, word_of, named_by, index_at, prefix_at, way, missing_in, translation_at, AreTables, LinksTo, IsWord, IsTable, IsShadow, SameBlocks, SameButBytes, IsFresh, IsStep}
 use Rattle.shadow_tables.proofs.HoldingLemmas.{with_place-same, with_place-other}
-use Rattle.shadow_tables.proofs.WayLemmas.{IsAt, place_of_way, next_at, named_by-link, named_by-same, none_some, then_some, same_way, same_translation, nothing_at, missing_past, rooted_way, some_or_not, user_lower, index_at-below, index_at-root, prefix_at-next}
+use Rattle.shadow_tables.proofs.WayLemmas.{IsAt, place_of_way, process_of_way, next_at, named_by-link, named_by-same, none_some, then_some, same_way, same_translation, nothing_at, missing_past, rooted_way, some_or_not, user_lower, index_at-below, index_at-root, prefix_at-next}
 use Rattle.shadow_tables.proofs.TableLemmas.{Wrote, Cleared, then_blocks, blocks_stay, table_stays, zero_word}
 
 -- two steps in sequence
@@ -20,7 +20,7 @@ then_step t u v p page first second frame found a b = record {
   same = record {
     at = λ q at process user. b.same.at q at process user ∙ a.same.at q at process user;
     roots = λ q frame e. b.same.roots q frame (a.same.roots q frame e);
-    ways = λ q at d frame process user deep e. b.same.ways q at d frame process user deep (a.same.ways q at d frame process user deep e);
+    ways = λ q at d frame user deep e. b.same.ways q at d frame user deep (a.same.ways q at d frame user deep e);
     blocks = then_blocks t u v a.same.blocks b.same.blocks;
   };
   others = record {
@@ -53,7 +53,7 @@ pub none_left : (t : Tables) (p page d : ℕ) → IsShadow t → p < 64 → coun
 none_left t p page d stands process none missing = record {
   process = process;
   stands = stands;
-  same = record { at = λ _ _ _ _. refl; roots = λ _ _ e. e; ways = λ _ _ _ _ _ _ _ e. e; blocks = record { pool = refl; block = refl; kernel = refl; length = refl; frames = refl } };
+  same = record { at = λ _ _ _ _. refl; roots = λ _ _ e. e; ways = λ _ _ _ _ _ _ e. e; blocks = record { pool = refl; block = refl; kernel = refl; length = refl; frames = refl } };
   others = record { roots = λ _ _. refl; counts = λ _ _ _. refl };
   way_is = tt;
   spent = refl;
@@ -257,7 +257,7 @@ module _ (places : Places) (t u v : Tables) (p page d table frame : ℕ) (l : Li
     same = record {
       at = λ q at_page process user. translation_is q at_page process (user_lower at_page user);
       roots = λ q g is. ap (λ r. slice_index_or r q None) roots_is ∙ is;
-      ways = λ q at_page k g process user deep is. ways_more q at_page k g process (user_lower at_page user) deep is;
+      ways = λ q at_page k g user deep is. ways_more q at_page k g (process_of_way t q at_page k g l.are.blocks is) (user_lower at_page user) deep is;
       blocks = blocks;
     };
     others = record {

@@ -178,10 +178,15 @@ less_missing None (Some g) h = omega arith
 less_missing (Some f) o' h = let e = ap if_missing (h f refl) in omega (arith, e)
 
 -- tables that lead on as before are no more missing
-pub missing_less : (t v : Tables) (p page : ℕ) → p < 64 → IsUserPage page → WaysStay t v → missing_in v p page ≤ missing_in t p page
-missing_less t v p page process user stay =
-    let less = λ (d : ℕ) (deep : d ≤ 3). less_missing (way t p page d) (way v p page d) (λ f. stay p page d f process user deep) in
+pub missing_less : (t v : Tables) (p page : ℕ) → IsUserPage page → WaysStay t v → missing_in v p page ≤ missing_in t p page
+missing_less t v p page user stay =
+    let less = λ (d : ℕ) (deep : d ≤ 3). less_missing (way t p page d) (way v p page d) (λ f. stay p page d f user deep) in
     omega (arith, less 0 (omega arith), less 1 (omega arith), less 2 (omega arith), less 3 (omega arith))
+
+-- without a root there is no way
+pub no_way : (t : Tables) (p page d : ℕ) → way t p page 0 ≡ None → way t p page d ≡ None
+no_way t p page zero none = none
+no_way t p page (suc d) none = no_next t p page d (no_way t p page d none)
 
 -- the tables of a page are those of its GiB
 way_one : (t : Tables) (p page other : ℕ) → index_at 0 page ≡ index_at 0 other → way t p page 1 ≡ way t p other 1
@@ -193,9 +198,9 @@ way_two t p page other e f =
     ∙ ap (option_and_then (λ f. named_by t (word_of t f (index_at 1 other)))) (way_one t p page other e)
 
 -- what a page needs of the shared tables is no longer missing
-module _ (t v : Tables) (p page table : ℕ) (process : p < 64) (user : IsUserPage page) (stay : WaysStay t v) (filled : way v p page 3 ≡ Some table) where
+module _ (t v : Tables) (p page table : ℕ) (user : IsUserPage page) (stay : WaysStay t v) (filled : way v p page 3 ≡ Some table) where
   less : (other d : ℕ) → IsUserPage other → d ≤ 3 → if_missing (way v p other d) ≤ if_missing (way t p other d)
-  less other d its deep = less_missing (way t p other d) (way v p other d) (λ f. stay p other d f process its deep)
+  less other d its deep = less_missing (way t p other d) (way v p other d) (λ f. stay p other d f its deep)
 
   no_more : missing_in v p page ≡ 0
   no_more = let past = missing_past v p page 3 table (omega arith) filled (λ h. absurd (omega (arith, h))) in omega (arith, past)

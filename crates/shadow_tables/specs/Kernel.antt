@@ -1,5 +1,5 @@
 -- The kernel's half of each root: 256 words of its own.
-use Rattle.std.specs.Prelude.{◌≡◌, ℕ, ◌+◌, ◌-◌, ◌*◌, ◌^◌, ◌<◌, ◌≤◌, ◌⊎◌, true, false, List}
+use Rattle.std.specs.Prelude.{◌≡◌, ℕ, ◌-◌, ◌*◌, ◌^◌, ◌<◌, ◌≤◌, ◌⊎◌, true, false, List}
 use Rattle.page_words.specs.Words.{is_present, is_user, is_accessed}
 use Rattle.shadow_tables.specs.LongWords.{long_at}
 

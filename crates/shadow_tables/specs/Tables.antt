@@ -1,5 +1,5 @@
 -- The tables in the pool: what a frame of each place holds, and the translations that lie in the tables.
-use Rattle.std.specs.Prelude.{◌≡◌, ◌≢◌, ℕ, zero, suc, ◌+◌, ◌-◌, ◌*◌, ◌/◌, ◌%◌, ◌^◌, ◌<◌, ◌≤◌, ◌⊎◌, true, ◌&&◌, nat_le, nat_lt, if◌then◌else◌, IfSome, IfNone, List, [], ◌∷◌, ◌++◌, take, length, replicate, slice_index, slice_index_or, Option, Some, None}
+use Rattle.std.specs.Prelude.{◌≡◌, ◌≢◌, ℕ, zero, suc, ◌+◌, ◌-◌, ◌*◌, ◌/◌, ◌%◌, ◌^◌, ◌<◌, ◌≤◌, ◌⊎◌, true, if◌then◌else◌, IfSome, IfNone, List, [], ◌∷◌, ◌++◌, take, length, replicate, slice_index, slice_index_or, Option, Some, None}
 use Rattle.std.specs.List.{splice}
 use Rattle.std.specs.Option.{option_and_then}
 use Rattle.page_words.specs.Addresses.{IsUserPage}
@@ -45,7 +45,7 @@ shared_in t p = if_missing (way t p 0x40000 0) + if_missing (way t p 0x40000 1) 
 
 -- each table that there was leads on as before
 abbrev pub WaysStay : Tables → Tables → Type 0
-WaysStay old new = (q at depth frame : ℕ) → q < 64 → IsUserPage at → depth ≤ 3 → way old q at depth ≡ Some frame → way new q at depth ≡ Some frame
+WaysStay old new = (q at depth frame : ℕ) → IsUserPage at → depth ≤ 3 → way old q at depth ≡ Some frame → way new q at depth ≡ Some frame
 
 -- the translation in a word
 abbrev pub translation_in : ℕ → ℕ → Option Translation
@@ -189,5 +189,5 @@ pub record IsChanged (old : Tables) (p page : ℕ) (entry : Option Translation) 
   pub stands : IsShadow new
   pub is : translation_at new p page ≡ entry
   pub others : (q at : ℕ) → q < 64 → IsUserPage at → (q ≡ p → at ≢ page) → translation_at new q at ≡ translation_at old q at
-  pub ways : (q at depth : ℕ) → q < 64 → IsUserPage at → depth ≤ 3 → way new q at depth ≡ way old q at depth
+  pub ways : (q at depth : ℕ) → IsUserPage at → depth ≤ 3 → way new q at depth ≡ way old q at depth
   pub same : SameButBytes old new

@@ -5,7 +5,10 @@
 //! translation stale. A caller may forget more at any time. The tables lie in a pool of frames that the caller gives.
 //!
 //! The words are those of the Intel SDM, volume 3, 4-level paging, with 4 KiB pages. Each word has its accessed flag
-//! set beforehand, and its dirty flag if it is writable, so that a processor writes none of them.
+//! set beforehand, and its dirty flag if it is writable, so that a processor writes none of them. That takes CR0.WP.
+//!
+//! Other processors may walk the tables while one is filled. A table is cleared before a word leads to it, and each word
+//! that a walk can reach is written by one store. Of the moments within a call no clause says anything.
 #![tactic(auto)]
 
 ghost use Rattle.std.specs.Prelude.{◌≡◌, ◌≢◌, ℕ, ◌+◌, ◌*◌, ◌%◌, ◌^◌, ◌<◌, ◌≤◌, ◌↔◌, not, ◌==◌, IfOk, IfErr, IsOk, IsSome, Some, None, length, sum, replicate, slice_set, slice_index};
@@ -21,13 +24,19 @@ mod holdings;
 mod tables;
 mod walk;
 
+pub use halves::is_kernel_half;
 use page_words::{Frame, Page, Pid};
 use std::alloc::{AllocError, Global};
 use std::marker::Model;
 use tables::Tables;
-pub use halves::is_kernel_half;
 pub use tables::{Full, Translation};
 pub use walk::{LongEnd, long_walk};
+
+/// The fewest frames of a pool, for each processor that walks it. An instruction accesses three places at most: its own
+/// bytes, a source and a destination, each in at most two pages. The pages of a process share five tables: its root, the
+/// table below it, and a directory for each of the three GiB of the user range. Each of the six pages needs one more. With
+/// fewer frames, an instruction may fault for ever: each fill forgets what it needs, too.
+pub const LEAST_FRAMES: u32 = 11;
 
 /// The shadow tables of 64 processes.
 #[derive(Drop)]
@@ -111,7 +120,7 @@ impl ShadowTables {
         ensures spent { IfOk result (λ _. self.old.free ≡ self.new.free + frames_needed self.old pid page) }
         ensures shared { IfOk result (λ _. shared_missing self.new pid + frames_needed self.old pid page
             ≤ shared_missing self.old pid + 1) }
-        ensures less { (p at : ℕ) → p < 64 → IsUserPage at → frames_needed self.new p at ≤ frames_needed self.old p at }
+        ensures less { (p at : ℕ) → IsUserPage at → frames_needed self.new p at ≤ frames_needed self.old p at }
         ensures kept { IfErr result (λ _. self.new ≡ self.old) }
         ensures roots { (p frame : ℕ) → root_frame self.old p ≡ Some frame → root_frame self.new p ≡ Some frame }
         ensures others { (p : ℕ) → p ≢ pid → root_frame self.new p ≡ root_frame self.old p }
@@ -127,7 +136,7 @@ impl ShadowTables {
         ensures roots { self.new.roots ≡ self.old.roots }
         ensures taken { self.new.taken ≡ self.old.taken }
         ensures free { self.new.free ≡ self.old.free }
-        ensures needed { (p at : ℕ) → p < 64 → IsUserPage at → frames_needed self.new p at ≡ frames_needed self.old p at }
+        ensures needed { (p at : ℕ) → IsUserPage at → frames_needed self.new p at ≡ frames_needed self.old p at }
         ensures fixed { IsFixed self.old self.new }
     {
         self.tables.forget_page(pid, page);

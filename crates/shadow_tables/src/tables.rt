@@ -167,7 +167,8 @@ impl Tables {
         long_at(&self.bytes, frame as usize * 4096 + index as usize * 8)
     }
 
-    /// Writes the word of an index of a frame.
+    /// Writes the word of an index of a frame, by one store of eight bytes. A processor that walks the tables at the same
+    /// time finds the word before or the word after. That it is one store is no clause's: a test watches it.
     #[tactic(auto, unfolding(crate::specs::LongWords::with_long))]
     fn set_word(&mut self, frame: u32, index: u32, word: u64)
         requires blocks { AreBlocks self.old }
@@ -373,7 +374,7 @@ impl Tables {
         requires stands { IsShadow self.old }
         ensures translations { translations_in self.new ≡ map.remove (translations_in self.old) (at_page pid page) }
         ensures same { SameButBytes self.old self.new }
-        ensures missing { (p at : ℕ) → p < 64 → IsUserPage at → missing_in self.new p at ≡ missing_in self.old p at }
+        ensures missing { (p at : ℕ) → IsUserPage at → missing_in self.new p at ≡ missing_in self.old p at }
         ensures stands { IsShadow self.new }
     {
         if !in_user_range(page) {

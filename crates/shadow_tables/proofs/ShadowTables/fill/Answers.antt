@@ -38,10 +38,10 @@ pub returns-clause-less : goal.returns-clause-less
 returns-clause-less c =
     let t = c.self.inside.tables in
     let v = c.fill.new.self in
-    λ p at process user.
+    λ p at user.
     let before = sym (ap (λ (s : Shadow). frames_needed s p at) c.self.view_is) ∙ needed-missing t p at c.self.invariant.1.blocks in
     let after = needed-missing v p at c.fill.ensures.stands.1.blocks in
-    omega (arith, before, after, missing_less t v p at process user c.fill.ensures.ways)
+    omega (arith, before, after, missing_less t v p at user c.fill.ensures.ways)
 
 pub returns-clause-roots : goal.returns-clause-roots
 returns-clause-roots c = λ p frame is. c.fill.ensures.roots p frame (ap (λ (s : Shadow). root_frame s p) c.self.view_is ∙ is)

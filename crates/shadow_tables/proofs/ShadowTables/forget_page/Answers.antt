@@ -6,6 +6,6 @@ use Rattle.shadow_tables.proofs.ShadowTables.forget_page.Goals as goal
 
 pub returns-clause-needed : goal.returns-clause-needed
 returns-clause-needed c =
-    λ p at process user.
-    needed-missing c.forget_page.new.self p at c.forget_page.ensures.stands.1.blocks ∙ c.forget_page.ensures.missing p at process user
+    λ p at user.
+    needed-missing c.forget_page.new.self p at c.forget_page.ensures.stands.1.blocks ∙ c.forget_page.ensures.missing p at user
     ∙ sym (needed-missing c.self.inside.tables p at c.self.invariant.1.blocks) ∙ ap (λ (s : Shadow). frames_needed s p at) c.self.view_is

@@ -12,14 +12,13 @@ returns-clause-filled c =
     (λ q at process user apart. changed.others q at process user apart ∙ step.same.at q at process user)
 
 pub returns-clause-ways : goal.returns-clause-ways
-returns-clause-ways c = λ q at d frame process user deep is. c.change.ensures.ways q at d process user deep ∙ c.in-Some.ensures.same.ways q at d frame process user deep is
+returns-clause-ways c = λ q at d frame user deep is. c.change.ensures.ways q at d user deep ∙ c.in-Some.ensures.same.ways q at d frame user deep is
 
 pub returns-clause-shared : goal.returns-clause-shared
 returns-clause-shared c =
-    let process = c.in-Some.ensures.process in
-    shared_less c.args.self.now c.change.new.self c.args.pid c.args.page c.in-Some.table process c.requires.user
-    (λ q at d frame its user deep is. c.change.ensures.ways q at d its user deep ∙ c.in-Some.ensures.same.ways q at d frame its user deep is)
-    (c.change.ensures.ways c.args.pid c.args.page 3 process c.requires.user (omega arith) ∙ c.in-Some.ensures.way_is)
+    shared_less c.args.self.now c.change.new.self c.args.pid c.args.page c.in-Some.table c.requires.user
+    (λ q at d frame user deep is. c.change.ensures.ways q at d user deep ∙ c.in-Some.ensures.same.ways q at d frame user deep is)
+    (c.change.ensures.ways c.args.pid c.args.page 3 c.requires.user (omega arith) ∙ c.in-Some.ensures.way_is)
 
 pub returns-clause-roots : goal.returns-clause-roots
 returns-clause-roots c = λ p frame is. ap (λ roots. slice_index_or roots p None) c.change.ensures.same.roots ∙ c.in-Some.ensures.same.roots p frame is

@@ -18,4 +18,4 @@ returns-then-not-in_user_range-clause-translations c = remove-out c.args.self.no
 
 pub returns-in-Some-clause-missing : goal.returns-in-Some-clause-missing
 returns-in-Some-clause-missing c =
-    λ p at process user. missing_same c.args.self.now c.change.new.self p at (λ d deep. c.change.ensures.ways p at d process user deep)
+    λ p at user. missing_same c.args.self.now c.change.new.self p at (λ d deep. c.change.ensures.ways p at d user deep)
