@@ -28,7 +28,7 @@ use Rattle.shadow_tables.specs.Needs.{frames_needed}
 use Rattle.shadow_tables.specs.Shadow.{Shadow, shadow_code, Translations, at_page, frame_address, root_frame}
 use Rattle.shadow_tables.specs.declared.tables.Translation.{Translation}
 use Rattle.shadow_core.specs.declared.pairs.Handled.{Handled}
-use Rattle.shadow_core.specs.declared.pairs.Handled.TheVariants.{Filled, Full, Fault, Refused}
+use Rattle.shadow_core.specs.declared.pairs.Handled.TheVariants.{Filled, Fault, Refused}
 
 -- a core, and the shadow of its tables
 pub record Paired : Type 0 where
