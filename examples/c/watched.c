@@ -100,6 +100,7 @@ static struct tower_event event_at(uint32_t page, bool is_store) {
 /* Every second page may not be written to. */
 static void open_all(void) {
     static const uint64_t half[TOWER_SHADOW_HALF_BYTES / 8];
+    struct tower_memory pool;
     struct tower_walk found;
     EXPECT(tower_boot_over(CORE_FRAMES, &core, core_block, sizeof core_block) == TOWER_BOOTED);
     EXPECT(answers(&core, tower_spawn(0, CORE_FRAMES - 20), TOWER_CHILD, CHILD));
@@ -112,6 +113,8 @@ static void open_all(void) {
     }
     EXPECT(tower_shadow_open_over(POOL_FRAMES, POOL_AT, BLOCK_AT, half, &shadow, pool_block, sizeof pool_block) ==
            TOWER_SHADOW_OPENED);
+    EXPECT(tower_shadow_pool(&shadow, &pool) && pool.begins == pool_block);
+    EXPECT(pool.length == POOL_FRAMES * (size_t)TOWER_FRAME_BYTES);
 }
 
 /* Frees all tables, once the walker has left them. */
