@@ -138,6 +138,13 @@ fn stops_faults_outside_and_in_a_full_pool(rt: HostRuntime) -> Result<(), Fail> 
         Handled::Filled,
     );
     shadowed.forget_all();
-    check_fault(&rt, &mut shadowed, pid, LAST, Access::Write, Handled::Filled);
+    check_fault(
+        &rt,
+        &mut shadowed,
+        pid,
+        LAST,
+        Access::Write,
+        Handled::Filled,
+    );
     Ok(())
 }
