@@ -1,12 +1,14 @@
 /* A thread walks shadow tables, as another processor does, while a second one fills them and forgets. The proofs say
  * nothing of the moments within a call. Each word that a walk finds has to be whole, and right: 0, a table of the pool, or
- * the translation of its page. It ends with status 0 if all goes as expected (expect.h). */
+ * the translation of its page. It ends with status 0 if all goes as expected (expect.h). `watched twice` also writes each
+ * translation as two words, one after the other: the walker has to see that, and ends it with status 1. */
 #define _DEFAULT_SOURCE
 
 #include <pthread.h>
 #include <sched.h>
 #include <stdatomic.h>
 #include <stdio.h>
+#include <string.h>
 
 #include "expect.h"
 #include "tower_region_shadow.h"
@@ -15,7 +17,8 @@ enum {
     CORE_FRAMES = 256,
     POOL_FRAMES = 40, /* fewer than all pages need: frames that were last tables become roots, and so on */
     PAGES = 64,       /* of the process, each in a region of 2 MiB of its own */
-    FILLS = 400000,
+    FILLS = 1000000,
+    MOST_TWICE = 50 * FILLS,
     CHILD = 1,
     LINK = 0x67, /* present, writable, of user mode, accessed, dirty */
     READS = 0x25
@@ -45,9 +48,12 @@ static uint32_t page_number(uint32_t page) {
 
 /* ---- The walker */
 
+static _Atomic uint64_t *place_of(uint64_t table, uint32_t index) {
+    return (_Atomic uint64_t *)(void *)(pool_block + (table - POOL_AT) + 8 * index);
+}
+
 static uint64_t word_at(uint64_t table, uint32_t index) {
-    return atomic_load_explicit((_Atomic uint64_t *)(void *)(pool_block + (table - POOL_AT) + 8 * index),
-                                memory_order_relaxed);
+    return atomic_load_explicit(place_of(table, index), memory_order_relaxed);
 }
 
 static bool is_table(uint64_t word) {
@@ -142,18 +148,33 @@ static void fill(uint32_t page) {
     root = own;
 }
 
+/* A wrong way to write a translation that is there. */
+static void write_twice(uint32_t page) {
+    uint64_t table = root;
+    for (uint32_t shift = 27; shift > 0; shift -= 9) {
+        table = word_at(table, page_number(page) >> shift & 511) - LINK;
+    }
+    atomic_store(place_of(table, page_number(page) % 512), LINK);
+    atomic_store(place_of(table, page_number(page) % 512), translations[page]);
+}
+
 static void forget(uint32_t page) {
     struct tower_ended ended = {.kind = TOWER_ENDS_PAGE, .pid = CHILD, .first = page_number(page)};
     EXPECT(tower_shadow_forget(&shadow, &ended));
 }
 
-int main(void) {
+int main(int count_of_words, char **words) {
+    bool is_twice = count_of_words == 2 && !strcmp(words[1], "twice");
     uint32_t seed = 2;
     pthread_t thread;
     open_all();
     EXPECT(pthread_create(&thread, NULL, walker, NULL) == 0);
-    for (uint32_t count = 0; count < FILLS || !without_table || !without_page || !to_page; count++) {
-        fill(random_below(PAGES, &seed));
+    for (uint32_t count = 0; count < (is_twice ? MOST_TWICE : FILLS) || !without_table || !without_page || !to_page; count++) {
+        uint32_t page = random_below(PAGES, &seed);
+        fill(page);
+        if (is_twice) {
+            write_twice(page);
+        }
         forget(random_below(PAGES, &seed));
     }
     is_over = true;
