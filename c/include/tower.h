@@ -476,6 +476,11 @@ TOWER_NODISCARD bool tower_step_ending(struct tower *tower, const struct tower_e
 TOWER_NODISCARD bool tower_touch(struct tower *tower, uint32_t pid, uint64_t address, bool write,
                                  struct tower_reply *reply, struct tower_ended *ended);
 
+/* Which cached translations tower_touch (and tower_shadow_fault) will end for these arguments, and no others. It changes
+ * nothing. False if the handle has no core, or pid is no process's number; then nothing is written. */
+TOWER_NODISCARD bool tower_touch_ends(const struct tower *tower, uint32_t pid, uint64_t address, bool write,
+                                      struct tower_ended *ended);
+
 /* How many frames the core has; 0 if the handle has no core. */
 uint32_t tower_frames(const struct tower *tower);
 

@@ -24,7 +24,7 @@ extern "C" {
 #define TOWER_SHADOW_BAD_BLOCK 4
 
 /* Opens shadow tables over a block. The pool is the block's first `frames` pages, which lie at the physical address `pool`.
- * `half` is 256 words, the upper half of each root.
+ * `half` is 256 words, the upper half of each root, as tower_shadow_open says.
  * With any status but TOWER_SHADOW_OPENED the block stays the caller's. tower_shadow_close frees the tables. */
 TOWER_NODISCARD uint32_t tower_shadow_open_over(uint32_t frames, uint64_t pool, uint64_t block_of_core,
                                                 const uint64_t *half, struct tower_shadow *shadow, void *block,

@@ -19,9 +19,14 @@
  *  - What a call ended is invalidated on all processors that may cache it, before anything else is done. After a fault
  *    that was filled, the processor also invalidates the page that faulted: it may have cached what refused the access.
  *  - The pool is memory that the processors walk: its frames lie in sequence from the physical address that was passed
- *    on, and the core's frame 0 at the one that was passed for it. Both are multiples of 4,096. A processor writes
- *    neither: accessed is set in each word, and dirty in each that allows writes.
- *  - Addresses are below 2 to the 52, and the processor's limit is the caller's business. Every page may be executed.
+ *    on, and the core's from the one that was passed for its frame 0. Both are multiples of 4,096. The frames of the pool
+ *    and those of the core lie apart: then no process reaches the pool.
+ *  - A processor writes no word of the pool: accessed is set in each, and dirty in each that allows writes. That takes
+ *    CR0.WP. In CR4, LA57, PKE and CET are clear. Addresses in words are below the processor's MAXPHYADDR. Every page may
+ *    be executed.
+ *  - Other processors may walk the tables of a process while a page of it is filled or forgotten: each word that a walk
+ *    can reach is written by one store of eight bytes, the one that leads to a new table last. That is tested, and not
+ *    proved (examples/c/watched.c).
  */
 #ifndef TOWER_SHADOW_H
 #define TOWER_SHADOW_H
@@ -38,9 +43,11 @@ struct tower_shadow {
 };
 #define TOWER_SHADOW_NONE TOWER_NONE
 
-/* The fewest frames of a pool, which are also what a fault needs to be free: a root and three tables. An instruction that
- * touches several pages needs all of them at the same time: give a pool 11 frames for each processor, and these four. */
-#define TOWER_SHADOW_LEAST 4
+/* The fewest frames of a pool for each processor that walks it: with n of them, pass at least n times as many. One
+ * instruction accesses three places at most: its own bytes, a source and a destination, each in at most two pages. Their
+ * process needs five tables for all of its pages (a root, a table below it, and one for each GiB of the user range), and
+ * one more for each of the six pages. With fewer an instruction may fault for ever. */
+#define TOWER_SHADOW_LEAST 11
 /* The most frames of a pool. */
 #define TOWER_SHADOW_MOST 1048576
 /* The bytes of the kernel's half of a root: 256 words of 8 bytes. */
@@ -49,7 +56,7 @@ struct tower_shadow {
 /* The statuses of an opening. All but the first leave the handle as it was. */
 enum tower_shadow_status {
     TOWER_SHADOW_OPENED = 0,
-    TOWER_SHADOW_BAD_PLACES = 1, /* the number of frames, an address or the length of the half is none of a pool */
+    TOWER_SHADOW_BAD_PLACES = 1, /* the number of frames or an address is none of a pool, or the half none of a kernel */
     TOWER_SHADOW_NO_MEMORY = 2,
     TOWER_SHADOW_HAS_TABLES = 3, /* the handle has tables already */
 };
@@ -67,7 +74,9 @@ static inline const char *tower_shadow_status_name(uint32_t status) {
 
 /* Opens tables without a translation or a root, over a pool of TOWER_SHADOW_LEAST to TOWER_SHADOW_MOST frames, which the
  * library requests from rattle_alloc in one block, and writes zeros into. `pool` is the physical address of that block,
- * and `block` that of the core's frame 0. The upper half of each root will be `half`, 2,048 bytes, which are copied. */
+ * and `block` that of the core's frame 0. The upper half of each root will be `half`, 2,048 bytes, which are copied. Each
+ * of its 256 words that is present has accessed (bit 5) set, and the user bit (bit 2) clear: otherwise
+ * TOWER_SHADOW_BAD_PLACES. */
 TOWER_NODISCARD uint32_t tower_shadow_open(uint32_t frames, uint64_t pool, uint64_t block, const uint8_t *half,
                                            size_t half_count, struct tower_shadow *shadow);
 
@@ -77,7 +86,7 @@ void tower_shadow_close(struct tower_shadow *shadow);
 /* How a fault was handled. */
 enum tower_shadow_handled {
     TOWER_SHADOW_FILLED = 0,  /* the processor completes the access */
-    TOWER_SHADOW_FULL = 1,    /* fewer than TOWER_SHADOW_LEAST frames of the pool are free, and nothing changed */
+    TOWER_SHADOW_FULL = 1,    /* the fill needs more frames of the pool than are free, and nothing changed */
     TOWER_SHADOW_STOPPED = 2, /* the core stopped the access, as `reply` says, and nothing changed */
     TOWER_SHADOW_NOTHING = 3, /* one of the handles has nothing, and nothing was written */
 };
@@ -95,7 +104,8 @@ static inline const char *tower_shadow_handled_name(uint32_t handled) {
 
 /* Handles a page fault of process pid in user mode, whole. It makes the access of the byte as tower_touch does, forgets
  * what that ended, and fills the page's translation with what the core's walk gives. The translation allows writes if the
- * walk does and the page is dirty: dirty of the core is set before a processor may write.
+ * walk does and the page is dirty: dirty of the core is set before a processor may write. Other translations stay, and
+ * other processes' roots. A fill takes one frame for each table that is missing on the way to the page, at most four.
  *
  * At TOWER_SHADOW_FULL the caller has all processors leave the roots that it frees, calls tower_shadow_forget_all (or
  * tower_shadow_forget for processes of its choice), and repeats the call; `ended` becomes TOWER_ENDS_NOTHING, and nothing

@@ -6,7 +6,7 @@
 #include "wrong.h"
     .set PROCESSORS, 8                  /* MOST_PROCESSORS of processors.h */
     .set STACK_SHIFT, 16
-    .set TABLE, 3 + 4 * WRONG_HALF      /* present, writable; of no process */
+    .set TABLE, 0x23 + 4 * WRONG_HALF   /* present, writable, accessed; of no process */
     .set LARGE, TABLE + 0x80            /* a page of 2 MiB */
     .set DEVICE, LARGE + 0x18           /* not cached */
     .section .note.pvh, "a", @note

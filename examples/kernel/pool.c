@@ -8,7 +8,7 @@
 #include "wrong.h"
 
 /* The pool has fewer frames than all processes of the trial would fill: it becomes full at times. */
-enum { POOL_FRAMES = WRONG_LEAST ? 4 * SHADOW_LEAST + TOWER_SHADOW_LEAST - 1 : POOL };
+enum { POOL_FRAMES = WRONG_LEAST ? 4 * SHADOW_LEAST - 1 : POOL };
 
 static _Alignas(FRAME) uint8_t block[TOWER_SHADOW_BLOCK_BYTES(POOL_FRAMES)];
 static struct pool_counts counts;
@@ -18,7 +18,7 @@ struct pool_counts pool_counts(void) {
 }
 
 void open_pool(void) {
-    need(POOL_FRAMES >= SHADOW_LEAST * processors_there() + TOWER_SHADOW_LEAST,
+    need(POOL_FRAMES >= SHADOW_LEAST * processors_there(),
          "the pool of shadow tables has what an instruction can need, on each processor");
     uint32_t status = tower_shadow_open_over(POOL_FRAMES, physical_of(block), core_physical(), open_roots(), &shadow,
                                              block, sizeof block);
@@ -36,7 +36,7 @@ static bool has_more(uint32_t pid) {
 }
 
 /* The process that has taken most, of those that have more than they need; among equals the process itself is last.
- * If no other has more than it needs, the process itself has: the pool has what all need, and what a fault needs. */
+ * If no other has more than it needs, it is the process itself. The pool then has all that its instruction needs. */
 static uint32_t who_has_most(uint32_t pid) {
     uint32_t most = pid, frames = has_more(pid) ? taken(pid) : 0;
     for (uint32_t other = 0; other < TOWER_PROCESSES; other++) {

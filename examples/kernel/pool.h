@@ -4,7 +4,7 @@
 
 #include <stdint.h>
 
-#include "tower.h"
+#include "tower_shadow.h"
 
 /* How many frames of the pool one instruction can need, as it completes only if it finds all of its pages. It has its
  * code and two operands (PUSH and CALL of a word in memory, MOVS, ENTER), and each may lie across the end of a region
@@ -16,9 +16,10 @@ enum {
     SHADOW_GIBS = (TOWER_LAST_PAGE >> 18) - (TOWER_FIRST_PAGE >> 18) + 1,
     SHADOW_LEAST = 1 + 1 + SHADOW_GIBS + SHADOW_REGIONS
 };
+_Static_assert(SHADOW_LEAST == TOWER_SHADOW_LEAST, "what the library takes for one processor");
 
 /* Opens the shadow tables over a pool, once the core is booted. Ends the run if the pool has less than it needs: what
- * one instruction needs (SHADOW_LEAST), on each processor, and what a fault needs free (TOWER_SHADOW_LEAST). */
+ * one instruction needs (SHADOW_LEAST), on each processor. */
 void open_pool(void);
 
 /* Makes space for a fault of a process that runs here, as the pool is full: forgets all tables of one process. It is

@@ -175,12 +175,11 @@ struct tower_reply load_bytes(uint32_t pid, uint32_t address, const uint8_t *byt
 
 /* ---- Faults */
 
-/* A fault is the load or the store of a byte. What a store ends doesn't depend on the byte. */
+/* Other processors stop before a fault that gives a page its first frame: they may cache that it had none. */
 static uint32_t try_fault(uint32_t pid, uint64_t address, bool write, struct tower_reply *reply) {
-    uint32_t near = address >> 32 ? UINT32_MAX : (uint32_t)address;
-    struct tower_event event = write ? tower_store(pid, near, 1, 0) : tower_load(pid, near, 1);
+    struct tower_event event = {.call = write ? TOWER_STORE : TOWER_LOAD};
     struct tower_ended will_end = {0}, ended = {0};
-    need(tower_ends(&core, &event, &will_end), "an access is an event");
+    need(tower_touch_ends(&core, pid, address, write, &will_end), "an access is an event");
     set which = before_event(&event, will_end);
     uint32_t handled = tower_shadow_fault(&core, &shadow, pid, address, write, reply, &ended);
     after_event(&event, ended, which);

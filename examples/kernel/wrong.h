@@ -49,7 +49,7 @@
 #define WRONG_MOST 0 /* all processes lose their tables when the pool is full, and not the one that has taken most */
 #endif
 #ifndef WRONG_LEAST
-#define WRONG_LEAST 0 /* the pool has less than one instruction on each of four processors can need */
+#define WRONG_LEAST 0 /* the pool has one frame less than an instruction on each of four processors can need */
 #endif
 #ifndef WRONG_ROOT
 #define WRONG_ROOT 0 /* the tables of a process that exits are freed while its root is in CR3 */

@@ -4,7 +4,7 @@ ghost use Rattle.std.specs.Prelude.{◌<◌};
 use crate::comparing::same;
 use byteorder::{ByteOrder, LittleEndian};
 use page_words::{Frame, Page, Pid};
-use shadow_tables::{LongEnd, ShadowTables, long_walk};
+use shadow_tables::{LongEnd, ShadowTables, is_kernel_half, long_walk};
 use std::alloc::Global;
 use std::process::Abort;
 use std::test::Fail;
@@ -110,9 +110,12 @@ fn shadow_of(alloc: Global, frames: u32) -> Result<ShadowTables, Fail>
     requires { frames < 16 }
 {
     let bytes = vec![in alloc; 7u8; 4096 * frames as usize]?;
-    let kernel = vec![in alloc; 9u8; 2048]?;
+    let kernel = vec![in alloc; 8u8; 2048]?;
     if bytes.len() != 4096 * frames as usize || kernel.len() != 2048 {
         return Err("a vector has another length".into());
+    }
+    if !is_kernel_half(&kernel) {
+        return Err("no word of the half is present".into());
     }
     Ok(ShadowTables::new(alloc, bytes, frames, POOL, BLOCK, kernel)?)
 }
@@ -163,6 +166,11 @@ fn fills_and_forgets(rt: HostRuntime) -> Result<(), Fail> {
         &rt,
         &shadow.fill(other, Page(0x40124), Frame(1), false).is_err(),
         &true,
+    );
+    same(
+        &rt,
+        &(shadow.needed(other, Page(0x40124)), shadow.root(other)),
+        &(4, None),
     );
     shadow.forget_page(pid, Page(0x40123));
     same(
@@ -226,6 +234,6 @@ fn uses_its_frames_again(rt: HostRuntime) -> Result<(), Fail> {
         &end_at(&shadow, pid, 0xc0000000, Access::Read),
         &Some(Err(LongEnd::Missing)),
     );
-    same(&rt, &last_of_root(&shadow, pid), &Some(9));
+    same(&rt, &last_of_root(&shadow, pid), &Some(8));
     Ok(())
 }

@@ -3,7 +3,8 @@ use crate::common::same;
 use kernel_calls::{Call, Core, Event, Reply};
 use page_words::{Page, Pid, Size, Vaddr};
 use shadow_core::{Handled, ShadowedCore};
-use shadow_tables::{LongEnd, ShadowTables, long_walk};
+use shadow_tables::{LEAST_FRAMES, LongEnd, ShadowTables, is_kernel_half, long_walk};
+use std::alloc::Global;
 use std::process::Abort;
 use std::test::Fail;
 use table_walk::Access;
@@ -11,6 +12,9 @@ use table_walk::Access;
 const POOL: u64 = 0x10000;
 
 const BLOCK: u64 = 0x1_0000_0000;
+
+/// The last page of the user range.
+const LAST: u64 = 0xefff_f000;
 
 fn event_of(pid: Pid, call: Call) -> Event {
     Event { cpu: 0, pid, call }
@@ -51,12 +55,23 @@ fn check_event<R: Abort>(rt: &R, shadowed: &mut ShadowedCore, pid: Pid, call: Ca
     same(rt, &shadowed.event(&event_of(pid, call)).0, &Reply::Done);
 }
 
+/// A core with shadow tables over the least pool.
+fn shadowed_core(alloc: Global) -> Result<ShadowedCore, Fail> {
+    let bytes = vec![in alloc; 0u8; 45056]?;
+    let kernel = vec![in alloc; 0u8; 2048]?;
+    if bytes.len() != 45056 || kernel.len() != 2048 {
+        return Err("a vector has another length".into());
+    }
+    if !is_kernel_half(&kernel) {
+        return Err("no word of the half is present".into());
+    }
+    let shadow = ShadowTables::new(alloc, bytes, LEAST_FRAMES, POOL, BLOCK, kernel)?;
+    Ok(ShadowedCore::new(Core::boot(alloc, 32)?, shadow))
+}
+
 #[test]
 fn serves_faults_of_mapped_pages(rt: HostRuntime) -> Result<(), Fail> {
-    let bytes = vec![in rt.alloc(); 0u8; 32768]?;
-    let kernel = vec![in rt.alloc(); 0u8; 2048]?;
-    let shadow = ShadowTables::new(rt.alloc(), bytes, 8, POOL, BLOCK, kernel)?;
-    let mut shadowed = ShadowedCore::new(Core::boot(rt.alloc(), 32)?, shadow);
+    let mut shadowed = shadowed_core(rt.alloc())?;
     let pid = Pid::new(0).ok_or("the root")?;
     let page = Page(0x40000);
     let at = 0x40000123;
@@ -80,10 +95,7 @@ fn serves_faults_of_mapped_pages(rt: HostRuntime) -> Result<(), Fail> {
 
 #[test]
 fn marks_a_page_before_it_may_be_written(rt: HostRuntime) -> Result<(), Fail> {
-    let bytes = vec![in rt.alloc(); 0u8; 32768]?;
-    let kernel = vec![in rt.alloc(); 0u8; 2048]?;
-    let shadow = ShadowTables::new(rt.alloc(), bytes, 8, POOL, BLOCK, kernel)?;
-    let mut shadowed = ShadowedCore::new(Core::boot(rt.alloc(), 32)?, shadow);
+    let mut shadowed = shadowed_core(rt.alloc())?;
     let pid = Pid::new(0).ok_or("the root")?;
     let at = 0x40000123;
     check_fault(&rt, &mut shadowed, pid, at, Access::Read, Handled::Filled);
@@ -99,10 +111,7 @@ fn marks_a_page_before_it_may_be_written(rt: HostRuntime) -> Result<(), Fail> {
 
 #[test]
 fn stops_faults_outside_and_in_a_full_pool(rt: HostRuntime) -> Result<(), Fail> {
-    let bytes = vec![in rt.alloc(); 0u8; 16384]?;
-    let kernel = vec![in rt.alloc(); 0u8; 2048]?;
-    let shadow = ShadowTables::new(rt.alloc(), bytes, 4, POOL, BLOCK, kernel)?;
-    let mut shadowed = ShadowedCore::new(Core::boot(rt.alloc(), 32)?, shadow);
+    let mut shadowed = shadowed_core(rt.alloc())?;
     let pid = Pid::new(0).ok_or("the root")?;
     let outside = Handled::Fault {
         addr: Vaddr(u32::MAX),
@@ -116,28 +125,24 @@ fn stops_faults_outside_and_in_a_full_pool(rt: HostRuntime) -> Result<(), Fail> 
         Access::Read,
         outside,
     );
-    check_fault(
-        &rt,
-        &mut shadowed,
-        pid,
-        0x4000_0000,
-        Access::Read,
-        Handled::Filled,
-    );
+    for page in 0..12u64 {
+        shadowed.fault(pid, 0x4000_0000 + 0x20_0000 * page, Access::Read);
+    }
+    check_fault(&rt, &mut shadowed, pid, LAST, Access::Write, Handled::Full);
     check_fault(
         &rt,
         &mut shadowed,
         pid,
         0x4000_0000,
         Access::Write,
-        Handled::Full,
+        Handled::Filled,
     );
     shadowed.forget_all();
     check_fault(
         &rt,
         &mut shadowed,
         pid,
-        0x4000_0000,
+        LAST,
         Access::Write,
         Handled::Filled,
     );

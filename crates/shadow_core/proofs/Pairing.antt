@@ -1,6 +1,6 @@
 -- What an event, a fault and a walk are to a core and its shadow.
 use Rattle.std.proofs.Common.{◌≡◌, ◌≢◌, ℕ, zero, suc, ◌+◌, ◌*◌, ◌%◌, ◌^◌, ◌<◌, ◌≤◌, inl, inr, Bool, true, false, not, cond, List, [], ◌∷◌, length, Option, Some, None, Result, Ok, Err, refl, sym, ap, subst, ◌∙◌, arith}
-use Rattle.std.specs.Prelude.{◌==◌, if◌then◌else◌, ◌&&◌, IsSome, IfSome, sum, slice_set}
+use Rattle.std.specs.Prelude.{◌⊎◌, ◌==◌, if◌then◌else◌, ◌&&◌, IsSome, IfSome, sum, slice_set}
 use Rattle.std.specs.Option.{option_map}
 use Rattle.std.proofs.lemmas.Bool.{cases_eq}
 use Rattle.std.proofs.lemmas.List.Sums.{sum_by-cons}
@@ -32,6 +32,7 @@ use Rattle.kernel_calls.specs.Kept.{Serves, ServesCall}
 use Rattle.kernel_calls.specs.declared.calls.Call.{Call}
 use Rattle.kernel_calls.specs.declared.calls.Call.TheVariants as call
 use Rattle.kernel_calls.specs.declared.calls.Reply.{Reply}
+use Rattle.kernel_calls.specs.declared.calls.Reply.TheVariants as reply
 use Rattle.table_walk.specs.declared.WalkEnd.{WalkEnd}
 use Rattle.page_words.specs.Addresses.{second_page, start_number, EachTouched}
 use Rattle.page_words.specs.declared.addresses.Size.{Size}
@@ -42,16 +43,17 @@ use Rattle.std.specs.Prelude.{nat_lt}
 use Rattle.process_table.specs.Image.{memory_of}
 use Rattle.process_table.specs.View.{View}
 use Rattle.kernel_calls.specs.Translations as kept
-use Rattle.kernel_calls.specs.Translations.{translation, IsGiven, WalkGives, Ends, ended_by, is_all_of, of_pages, of_plan, page_filled, second_filled, is_ended, AreRead}
+use Rattle.kernel_calls.specs.Translations.{translation, IsGiven, WalkGives, Ends, ended_by, if_lazy, is_all_of, of_call, of_pages, is_ended, AreRead}
 use Rattle.kernel_calls.specs.declared.translations.Ended.{Ended}
 use Rattle.kernel_calls.specs.declared.translations.Ended.TheVariants as end
 use Rattle.kernel_calls.proofs.Leaving.{left_read, nothing_ends}
 use Rattle.kernel_calls.specs.Processors.{IsCore}
-use Rattle.shadow_tables.specs.Laws.{WalksAgree}
+use Rattle.shadow_tables.specs.Laws.{WalksAgree, UpperHalvesAreClosed}
+use Rattle.shadow_tables.specs.Needs.{frames_needed}
 use Rattle.shadow_tables.specs.Shadow.{Shadow, Translations, at_page, slot_order, root_frame, root_of, frame_address, shadow_end}
 use Rattle.shadow_tables.specs.declared.tables.Translation.{Translation}
 use Rattle.shadow_tables.specs.declared.walk.LongEnd.{LongEnd}
-use Rattle.shadow_core.specs.Paired.{kept_at, IsShadowed, left_by, HasEntered, HasFilled, RootsStay, WalksAreTheCores, Reaches, ReachesCall, AccessesAreServed, IsServed}
+use Rattle.shadow_core.specs.Paired.{kept_at, IsShadowed, left_by, HasEntered, HasFilled, RootsStay, lacks_frames, AreApart, PoolIsOutOfReach, WalksAreTheCores, Reaches, ReachesCall, stop_of, AccessesAreServed, IsServed}
 
 none_some : {X : Type 0} (x : X) → ◌≡◌ {A = Option X} None (Some x) → ⊥
 none_some x e = cc
@@ -145,8 +147,9 @@ shadowed_left v s u ended shadowed left size = record {
 -- ---- Walks
 
 -- how the shadow's walk ends, the core's walk gives
-pub walks_are_the_cores : (v : View) (s : Shadow) → IsShadowed v s → WalksAgree s → WalksAreTheCores (record { core = v; shadow = s })
-walks_are_the_cores v s shadowed agree p root address physical access is lower walk =
+pub walks_are_the_cores : (v : View) (s : Shadow) → IsShadowed v s → WalksAgree s → UpperHalvesAreClosed s → WalksAreTheCores (record { core = v; shadow = s })
+walks_are_the_cores v s shadowed agree closed p root address physical access is (inr upper) walk = absurd (closed p root address physical access is upper.0 upper.1 walk)
+walks_are_the_cores v s shadowed agree closed p root address physical access is (inl lower) walk =
     by (map.get s.translations (at_page p (page_number address))) refl access refl (sym (agree p root address access is lower) ∙ walk)
   where
     small : (page : ℕ) → page_number address ≡ page → page < 2 ^ 20 → address < 2 ^ 32
@@ -202,6 +205,17 @@ same_page bytes directory a b frame access other e may is =
 
 pub frame_inside : (bytes : List ℕ) (directory address frame : ℕ) (access : Access) → walk_of bytes directory address access ≡ Ok frame → 4096 * frame < length bytes
 frame_inside bytes directory address frame access is = ((walks_find_what_leads bytes directory address access frame).0 is).inside
+
+-- where the frames of the pool and those of the core lie apart, no walk ends in the pool
+pub out_of_reach : (v : View) (s : Shadow) (frames : ℕ) → WalksAreTheCores (record { core = v; shadow = s }) → length v.bytes ≡ 4096 * frames → PoolIsOutOfReach (record { core = v; shadow = s })
+out_of_reach v s frames cores whole apart p root address physical access is canonical walk =
+    let found = cores p root address physical access is canonical walk in
+    let inside : 4096 * found.1 < length v.bytes = frame_inside v.bytes found.0 address found.1 access found.2.1 in
+    by found.1 apart (omega (arith, inside, whole)) found.3
+  where
+    by : (frame : ℕ) → AreApart (record { core = v; shadow = s }) → 4096 * frame + 4096 ≤ length v.bytes → physical ≡ s.block + 4096 * frame + offset_number address → (physical < s.pool) ⊎ (s.pool + length s.bytes ≤ physical)
+    by frame (inl below) within e = inr (omega (arith, below, e))
+    by frame (inr above) within e = inl (omega (arith, above, within, e))
 
 -- what the walk finds for a page whose flags are set is given
 pub is_given : (v : View) (p address directory : ℕ) (t : Translation) (cell : spaces.Cell) → IsUserPage (page_number address) → directory_at (memory_of v) p ≡ Some directory
@@ -402,6 +416,10 @@ shadowed_fill w s u p address page t same shadowed inserted size given =
 
 -- ---- A fault
 
+-- what a fault at a user page doesn't lack is there
+pub has_frames : (s : Shadow) (p address : ℕ) → IsUserPage (page_number address) → lacks_frames s p address ≡ false → frames_needed s p (page_number address) ≤ s.free
+has_frames s p address user e = grind (arith, nat_tests)
+
 -- where nothing changes
 pub still_ends : (v : View) → IsCore v → Ends end.Nothing v v
 still_ends v now = nothing_ends v v now now refl (record {
@@ -425,19 +443,22 @@ touch_keeps_roots v s p address q Write = by (completes (answer v.state (touch_o
     pages None (Some y) = refl
     pages (Some x) (Some y) = refl
 
-    plans : (x : Plan) → is_all_of (of_plan p (near address) One x) q ≡ false
-    plans (plan.Ready first second) = pages (page_filled (page_number (near address)) first) (second_filled (second_page (near address) One) second)
-    plans _ = refl
-
-    by : (b : Bool) → is_all_of (if b then of_plan p (near address) One (plan_at v p (near address) One Write) else end.Nothing) q ≡ false
-    by true = plans (plan_at v p (near address) One Write)
+    by : (b : Bool) → is_all_of (if b then of_call v p (touch_of s p address Write).call else end.Nothing) q ≡ false
+    by true = pages (if_lazy (memory_of v) p (page_number (near address))) (option_and_then (if_lazy (memory_of v) p) (second_page (near address) One))
     by false = refl
 
--- roots stay where no process is gone, and then where a translation is filled
-pub roots_then : (ended : Ended) (s t u : Shadow) → ((q : ℕ) → is_all_of ended q ≡ false) → ((q : ℕ) → is_all_of ended q ≡ false → root_frame t q ≡ root_frame s q) → RootsStay t u → RootsStay s u
-roots_then ended s t u none forgotten filled q frame is = filled q frame (forgotten q (none q) ∙ is)
+-- a reply that doesn't stop a fault is one that completes
+pub goes_on : (r : Reply) → stop_of r ≡ None → completes r ≡ true
+goes_on (reply.Fault addr code) e = cc
+goes_on (reply.Refused cause) e = cc
+goes_on _ e = refl
 
--- ---- A reply that stops a fault
+-- roots stay where no process is gone, and then where a translation is filled
+pub roots_then : (ended : Ended) (s t u : Shadow) (p : ℕ) → ((q : ℕ) → is_all_of ended q ≡ false) → ((q : ℕ) → is_all_of ended q ≡ false → root_frame t q ≡ root_frame s q) → RootsStay t p u → RootsStay s p u
+roots_then ended s t u p none forgotten filled = record {
+  stay = λ q frame is. filled.stay q frame (forgotten q (none q) ∙ is);
+  others = λ q other. filled.others q other ∙ forgotten q (none q);
+}
 
 -- ---- Accesses
 

@@ -1,8 +1,9 @@
 -- A core and shadow tables of it: each translation of the shadow is one that the core's walk gives now.
-use Rattle.std.proofs.Common.{◌≡◌, ℕ, ◌+◌, ◌*◌, ◌^◌, ◌<◌, ◌≤◌, ◌⊎◌, not, ◌==◌, ◌&&◌, length, Option, Some, None, Ok, refl}
+use Rattle.std.specs.Prelude.{nat_lt}
+use Rattle.std.proofs.Common.{◌≡◌, ◌≢◌, ℕ, ◌+◌, ◌*◌, ◌^◌, ◌<◌, ◌≤◌, ◌⊎◌, Bool, not, ◌==◌, ◌&&◌, length, Option, Some, None, Ok, refl}
 use Rattle.std.specs.Coded.{Coded, code_by, coded×}
 use Rattle.std.specs.Option.{unwrap_or}
-use Rattle.page_words.specs.Addresses.{page_number, offset_number, start_number, EachTouched}
+use Rattle.page_words.specs.Addresses.{is_user_page, page_number, offset_number, start_number, EachTouched}
 use Rattle.page_words.specs.FiniteMap as map
 use Rattle.table_walk.specs.declared.Access.{Access}
 use Rattle.table_walk.specs.declared.Access.TheVariants.{Read, Write}
@@ -21,11 +22,13 @@ use Rattle.kernel_calls.specs.declared.calls.Call.TheVariants as call
 use Rattle.kernel_calls.specs.declared.calls.Event.{Event}
 use Rattle.kernel_calls.specs.declared.translations.Ended.{Ended}
 use Rattle.kernel_calls.specs.declared.translations.Ended.TheVariants as end
+use Rattle.shadow_tables.specs.Kernel.{IsCanonical}
 use Rattle.shadow_tables.specs.LongWalk.{long_walk}
+use Rattle.shadow_tables.specs.Needs.{frames_needed}
 use Rattle.shadow_tables.specs.Shadow.{Shadow, shadow_code, Translations, at_page, frame_address, root_frame}
 use Rattle.shadow_tables.specs.declared.tables.Translation.{Translation}
 use Rattle.shadow_core.specs.declared.pairs.Handled.{Handled}
-use Rattle.shadow_core.specs.declared.pairs.Handled.TheVariants.{Filled, Full, Fault, Refused}
+use Rattle.shadow_core.specs.declared.pairs.Handled.TheVariants.{Filled, Fault, Refused}
 
 -- a core, and the shadow of its tables
 pub record Paired : Type 0 where
@@ -41,10 +44,14 @@ abbrev pub kept_at : ℕ → ℕ → Translation → kept.Translation
 kept_at p page t = record { slot = spaces.at_page p page; frame = t.frame; write = t.write; dirty = t.write }
 
 -- The core's walks give each translation of the shadow, at each address of its page, and its flags are set. The pool
--- has frames for the tables of a page.
+-- has the frames that one processor needs.
 pub record IsShadowed (v : View) (s : Shadow) : Type 0 where
   pub given : (p page : ℕ) (t : Translation) → map.get s.translations (at_page p page) ≡ Some t → IsGiven v (kept_at p page t)
-  pub enough : 16384 ≤ length s.bytes
+  pub enough : 4096 * 11 ≤ length s.bytes
+
+-- whether a fault at an address of the user range needs more frames of the pool than are free
+abbrev pub lacks_frames : Shadow → ℕ → ℕ → Bool
+lacks_frames s p address = is_user_page (page_number address) && nat_lt s.free (frames_needed s p (page_number address))
 
 -- the translations that are left where an event ended these
 abbrev pub left_by : Ended → Translations → Translations
@@ -60,10 +67,20 @@ pub record HasEntered (old : Translations) (p page : ℕ) (t : Translation) (new
 
 -- where a processor's walk of the shadow reaches a page, the core's walk gives the frame there
 abbrev pub WalksAreTheCores : Paired → Type 0
-WalksAreTheCores w = (p root address physical : ℕ) (access : Access) → root_frame w.shadow p ≡ Some root → address < 2 ^ 47
+WalksAreTheCores w = (p root address physical : ℕ) (access : Access) → root_frame w.shadow p ≡ Some root → IsCanonical address
     → long_walk w.shadow.bytes w.shadow.pool (frame_address w.shadow.pool root) address access ≡ Ok physical
     → (directory frame : ℕ) × WalkGives (memory_of w.core) p directory address access frame
     × (physical ≡ w.shadow.block + 4096 * frame + offset_number address)
+
+-- the frames of the pool and those of the core lie apart
+abbrev pub AreApart : Paired → Type 0
+AreApart w = (w.shadow.pool + length w.shadow.bytes ≤ w.shadow.block) ⊎ (w.shadow.block + length w.core.bytes ≤ w.shadow.pool)
+
+-- then no address leads a process into the pool
+abbrev pub PoolIsOutOfReach : Paired → Type 0
+PoolIsOutOfReach w = AreApart w → (p root address physical : ℕ) (access : Access) → root_frame w.shadow p ≡ Some root → IsCanonical address
+    → long_walk w.shadow.bytes w.shadow.pool (frame_address w.shadow.pool root) address access ≡ Ok physical
+    → (physical < w.shadow.pool) ⊎ (w.shadow.pool + length w.shadow.bytes ≤ physical)
 
 -- walks of the core read each translation that the shadow keeps
 abbrev pub TranslationsAreRead : Paired → Type 0
@@ -120,6 +137,7 @@ pub record HasFilled (w : View) (before : Translations) (u : Shadow) (p address 
 abbrev pub IsLess : Shadow → Shadow → Type 0
 IsLess old new = (p page : ℕ) (t : Translation) → map.get new.translations (at_page p page) ≡ Some t → map.get old.translations (at_page p page) ≡ Some t
 
--- each root stays
-abbrev pub RootsStay : Shadow → Shadow → Type 0
-RootsStay old new = (p frame : ℕ) → root_frame old p ≡ Some frame → root_frame new p ≡ Some frame
+-- each root stays, and only this process may get one
+pub record RootsStay (old : Shadow) (pid : ℕ) (new : Shadow) : Type 0 where
+  pub stay : (p frame : ℕ) → root_frame old p ≡ Some frame → root_frame new p ≡ Some frame
+  pub others : (p : ℕ) → p ≢ pid → root_frame new p ≡ root_frame old p

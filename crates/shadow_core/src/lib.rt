@@ -4,7 +4,7 @@
 //! shadow forgets them. When the processor faults, the translation is filled if the core lets the access through.
 #![tactic(auto)]
 
-ghost use Rattle.std.specs.Prelude.{◌≡◌, ℕ, ◌<◌, ◌≤◌, ◌*◌, ◌↔◌, not, ◌==◌, false, None, length, replicate, slice_set};
+ghost use Rattle.std.specs.Prelude.{◌≡◌, ℕ, ◌+◌, ◌≤◌, ◌*◌, ◌↔◌, not, ◌==◌, true, false, None, length, replicate, slice_set};
 ghost use Rattle.page_words.specs.FiniteMap as map;
 ghost use Rattle.kernel_calls.specs.declared.translations.Ended.TheVariants as end;
 ghost use Rattle.address_space.specs.Spaces.{byte_at};
@@ -12,15 +12,17 @@ ghost use Rattle.process_table.specs.Image.{StandsFor, image_of};
 ghost use Rattle.kernel_calls.specs.Machine.{answer, next};
 ghost use Rattle.kernel_calls.specs.Translations.{Ends, ended_by, is_all_of};
 ghost use Rattle.kernel_acts.specs.Touched.{touch_of};
+ghost use Rattle.page_words.specs.Addresses.{page_number};
+ghost use Rattle.shadow_tables.specs.Needs.{frames_needed};
 ghost use Rattle.shadow_tables.specs.Shadow.{IsFixed, root_frame};
-ghost use Rattle.shadow_core.specs.Paired.{Paired, IsShadowed, left_by, HasFilled, IsStopped, handled_of, TranslationsAreRead, WalksAreTheCores, AccessesAreServed, RootsStay};
+ghost use Rattle.shadow_core.specs.Paired.{Paired, IsShadowed, left_by, HasFilled, IsStopped, handled_of, lacks_frames, TranslationsAreRead, WalksAreTheCores, PoolIsOutOfReach, AccessesAreServed, RootsStay};
 
 mod pairs;
 
 use kernel_calls::{Core, Ended, Event, Reply};
 use page_words::Pid;
-pub use pairs::{Handled, LEAST_FREE, carry_out, forget, handle_fault, walks};
-use shadow_tables::ShadowTables;
+pub use pairs::{Handled, carry_out, forget, handle_fault, walks};
+use shadow_tables::{LEAST_FRAMES, ShadowTables};
 use std::marker::Model;
 use table_walk::Access;
 
@@ -46,10 +48,11 @@ impl Model for ShadowedCore {
 }
 
 impl ShadowedCore {
-    /// A core and its shadow, which has no translation yet.
+    /// A core and its shadow, which has no translation yet. The pool has `LEAST_FRAMES` frames for each processor that is
+    /// to walk it: those that one instruction may need at the same time.
     pub fn new(core: Core, shadow: ShadowTables) -> ShadowedCore
         requires empty { shadow.translations ≡ map.empty }
-        requires enough { 16384 ≤ length shadow.bytes }
+        requires enough { 4096 * LEAST_FRAMES ≤ length shadow.bytes }
         ensures { result ≡ record { core = core; shadow = shadow } }
     {
         ShadowedCore { core, shadow }
@@ -91,17 +94,17 @@ impl ShadowedCore {
     /// what ended: each processor that cached it invalidates it, and what it cached of the page that faulted, before
     /// anything else is done.
     ///
-    /// Full if fewer than four frames of the pool are free: nothing changes then. The caller has all processors leave
-    /// the roots that it frees, calls `forget_all` or `forget_process`, and repeats the fault. A fault of the process or
-    /// a refusal changes nothing either.
+    /// Full if the fill needs more frames of the pool than are free: nothing changes then. The caller has all processors
+    /// leave the roots that it frees, calls `forget_all` or `forget_process`, and repeats the fault. A fault of the
+    /// process or a refusal changes nothing either.
     pub fn fault(&mut self, pid: Pid, address: u64, access: Access) -> (Handled, Ended)
-        ensures full { (result.0 ≡ Handled.Full) ↔ (self.old.shadow.free < LEAST_FREE) }
-        ensures unchanged { self.old.shadow.free < LEAST_FREE → (result.1 ≡ end.Nothing) × (self.new ≡ self.old) }
-        ensures handled { LEAST_FREE ≤ self.old.shadow.free → result.0
+        ensures full { (result.0 ≡ Handled.Full) ↔ (lacks_frames self.old.shadow pid address ≡ true) }
+        ensures unchanged { lacks_frames self.old.shadow pid address ≡ true → (result.1 ≡ end.Nothing) × (self.new ≡ self.old) }
+        ensures handled { lacks_frames self.old.shadow pid address ≡ false → result.0
             ≡ handled_of (answer self.old.core.state (touch_of self.old.core.state pid address access)) }
-        ensures ended { LEAST_FREE ≤ self.old.shadow.free
+        ensures ended { lacks_frames self.old.shadow pid address ≡ false
             → result.1 ≡ ended_by self.old.core (touch_of self.old.core.state pid address access) }
-        ensures state { LEAST_FREE ≤ self.old.shadow.free → self.new.core.state
+        ensures state { lacks_frames self.old.shadow pid address ≡ false → self.new.core.state
             ≡ next self.old.core.state (touch_of self.old.core.state pid address access) }
         ensures ends { Ends result.1 self.old.core self.new.core }
         ensures bytes { (p at : ℕ) → byte_at self.new.core.state.spaces p at
@@ -109,8 +112,10 @@ impl ShadowedCore {
         ensures stopped { IsStopped result.0 → self.new ≡ self.old }
         ensures filled { result.0 ≡ Handled.Filled → HasFilled self.new.core
             (left_by result.1 self.old.shadow.translations) self.new.shadow pid address access }
+        ensures spent { result.0 ≡ Handled.Filled → self.old.shadow.free
+            ≡ self.new.shadow.free + frames_needed self.old.shadow pid (page_number address) }
         ensures stands { StandsFor (image_of self.new.core) self.new.core.state }
-        ensures roots { RootsStay self.old.shadow self.new.shadow }
+        ensures roots { RootsStay self.old.shadow pid self.new.shadow }
         ensures fixed { IsFixed self.old.shadow self.new.shadow }
     {
         handle_fault(&mut self.core, &mut self.shadow, pid, address, access)
@@ -127,24 +132,28 @@ impl ShadowedCore {
         self.shadow.forget_process(pid);
     }
 
-    /// Forgets all translations. All frames of the pool become free: no processor may have a root.
+    /// Forgets all translations. All frames of the pool become free, so that no next fault is Full: no processor may have
+    /// a root.
     pub fn forget_all(&mut self)
         ensures core { self.new.core ≡ self.old.core }
         ensures translations { self.new.shadow.translations ≡ map.empty }
         ensures roots { self.new.shadow.roots ≡ replicate 64 None }
         ensures free { 4096 * self.new.shadow.free ≡ length self.new.shadow.bytes }
+        ensures room { (p address : ℕ) → lacks_frames self.new.shadow p address ≡ false }
         ensures fixed { IsFixed self.old.shadow self.new.shadow }
     {
         self.shadow.forget_all();
     }
 
     /// Walks of the core read all that the shadow keeps. Where a processor's walk of the shadow reaches a page, the
-    /// core's walk gives the frame there, now. An access that a processor completes through the shadow is served as by
+    /// core's walk gives the frame there, now. If the pool and the core's frames lie apart, that is no frame of the pool.
+    /// An access that a processor completes through the shadow is served as by
     /// translations that it kept from walks of the core. Such an access is its event, as
     /// `kernel_calls::kept_translations_serve_accesses` states.
     pub fn walks(&self)
         ensures read { TranslationsAreRead self.now }
         ensures walks { WalksAreTheCores self.now }
+        ensures apart { PoolIsOutOfReach self.now }
         ensures accesses { AccessesAreServed self.now }
     {
         walks(&self.core, &self.shadow);

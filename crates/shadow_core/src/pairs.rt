@@ -1,6 +1,6 @@
 //! A core and shadow tables of it, each with its own owner: what an event and a fault are to both.
 
-ghost use Rattle.std.specs.Prelude.{◌≡◌, ℕ, ◌<◌, ◌≤◌, ◌^◌, ◌&&◌, ◌↔◌, true, false, sum};
+ghost use Rattle.std.specs.Prelude.{◌≡◌, ℕ, ◌+◌, ◌<◌, ◌≤◌, ◌^◌, ◌&&◌, ◌↔◌, true, false, sum};
 ghost use Rattle.page_words.specs.Addresses.{IsUserPage, page_number};
 ghost use Rattle.table_walk.specs.declared.Access.TheVariants as access;
 ghost use Rattle.address_space.specs.ByWalk.{finds_at};
@@ -12,26 +12,24 @@ ghost use Rattle.kernel_calls.specs.Translations.{Ends, ended_by, is_all_of, IsG
 ghost use Rattle.kernel_calls.specs.declared.translations.Ended.TheVariants as end;
 ghost use Rattle.kernel_acts.specs.Touched.{touch_of, AreMarked};
 ghost use Rattle.shadow_tables.specs.Shadow.{IsFixed, root_frame};
-ghost use Rattle.shadow_core.specs.Paired.{IsShadowed, kept_at, left_by, stop_of, handled_of, IsStopped, HasFilled, RootsStay};
-ghost use Rattle.shadow_core.specs.Paired.{TranslationsAreRead, WalksAreTheCores, AccessesAreServed};
+ghost use Rattle.shadow_core.specs.Paired.{IsShadowed, kept_at, left_by, lacks_frames, stop_of, handled_of, IsStopped, HasFilled, RootsStay};
+ghost use Rattle.shadow_tables.specs.Needs.{frames_needed};
+ghost use Rattle.shadow_core.specs.Paired.{TranslationsAreRead, WalksAreTheCores, PoolIsOutOfReach, AccessesAreServed};
 
 use kernel_acts::touch;
 use kernel_calls::{Core, Ended, Event, Reply};
-use page_words::{Frame, Pid, Vaddr, page_of};
+use page_words::{Frame, Pid, Vaddr, in_user_range, page_of};
 use process_table::Cause;
 use shadow_tables::{ShadowTables, Translation};
 use table_walk::{Access, walk};
-
-/// How many frames of the pool are free at least, where a fault is handled: a root and three tables.
-pub const LEAST_FREE: u32 = 4;
 
 /// How a fault of a processor was handled.
 #[derive(Clone, Copy, Debug, PartialEq, Eq)]
 pub enum Handled {
     /// The translation is there. The processor completes the access.
     Filled,
-    /// Fewer than four frames of the pool are free. Nothing changed: the core makes no event either. The caller forgets
-    /// all, or a process, and repeats the fault.
+    /// The fill needs more frames of the pool than are free. Nothing changed: the core makes no event either. The caller
+    /// forgets all, or a process, and repeats the fault.
     Full,
     /// The access is the process's fault, with the processor's error code. The address is the highest one for any of
     /// more than 32 bits.
@@ -45,6 +43,9 @@ pub fn forget(shadow: &mut ShadowTables, ended: &Ended)
     ensures translations { shadow.new.translations ≡ left_by ended.now shadow.old.translations }
     ensures roots { (p : ℕ) → is_all_of ended.now p ≡ false → root_frame shadow.new p ≡ root_frame shadow.old p }
     ensures free { shadow.old.free ≤ shadow.new.free }
+    ensures taken { ((p : ℕ) → is_all_of ended.now p ≡ false) → shadow.new.free ≡ shadow.old.free }
+    ensures needed { (p at : ℕ) → IsUserPage at → is_all_of ended.now p ≡ false
+        → frames_needed shadow.new p at ≡ frames_needed shadow.old p at }
     ensures fixed { IsFixed shadow.old shadow.new }
 {
     shadow.walks();
@@ -58,6 +59,9 @@ fn drop_ended(shadow: &mut ShadowTables, ended: &Ended)
     ensures translations { shadow.new.translations ≡ left_by ended.now shadow.old.translations }
     ensures roots { (p : ℕ) → is_all_of ended.now p ≡ false → root_frame shadow.new p ≡ root_frame shadow.old p }
     ensures taken { sum shadow.new.taken ≤ sum shadow.old.taken }
+    ensures pages { ((p : ℕ) → is_all_of ended.now p ≡ false) → shadow.new.free ≡ shadow.old.free }
+    ensures needed { (p at : ℕ) → IsUserPage at → is_all_of ended.now p ≡ false
+        → frames_needed shadow.new p at ≡ frames_needed shadow.old p at }
     ensures fixed { IsFixed shadow.old shadow.new }
 {
     match ended {
@@ -150,10 +154,11 @@ fn fill(core: &Core, shadow: &mut ShadowTables, pid: Pid, address: Vaddr, access
     requires user { IsUserPage (page_number address) }
     requires finds { finds_at (memory_of core.now) pid access address ≡ true }
     requires marked { AreMarked core.now.state.spaces (slot_at pid address) access }
-    requires room { LEAST_FREE ≤ shadow.old.free }
+    requires room { frames_needed shadow.old pid (page_number address) ≤ shadow.old.free }
     ensures kept { IsShadowed core.now shadow.new }
     ensures filled { HasFilled core.now shadow.old.translations shadow.new pid address access }
-    ensures roots { RootsStay shadow.old shadow.new }
+    ensures spent { shadow.old.free ≡ shadow.new.free + frames_needed shadow.old pid (page_number address) }
+    ensures roots { RootsStay shadow.old pid shadow.new }
     ensures fixed { IsFixed shadow.old shadow.new }
 {
     let translation = translation_of(core, pid, address);
@@ -161,6 +166,20 @@ fn fill(core: &Core, shadow: &mut ShadowTables, pid: Pid, address: Vaddr, access
         unreachable!()
     };
     shadow.walks();
+}
+
+/// Whether a fault at an address of the user range needs more frames of the pool than are free.
+fn lacks_frames(shadow: &ShadowTables, pid: Pid, address: u64) -> bool
+    ensures { result ≡ lacks_frames shadow.now pid address }
+{
+    if address >= 1 << 32 {
+        return false;
+    }
+    let page = page_of(Vaddr(address as u32));
+    if !in_user_range(page) {
+        return false;
+    }
+    shadow.free_count() < shadow.needed(pid, page)
 }
 
 /// How a fault ends at a reply that stops the access; None at any other.
@@ -182,7 +201,8 @@ fn stop_of(reply: &Reply) -> Option<Handled>
 /// The second result is what ended: each processor that cached it invalidates it, and what it cached of the page that
 /// faulted, before anything else is done.
 ///
-/// Full comes first: nothing changes then. A fault of the process or a refusal changes nothing either.
+/// Full comes first, exactly if the fill needs more frames than are free: nothing changes then. A fault of the process or
+/// a refusal changes nothing either. Only the page's translation is entered, and only frames that it needs are taken.
 pub fn handle_fault(
     core: &mut Core,
     shadow: &mut ShadowTables,
@@ -192,26 +212,28 @@ pub fn handle_fault(
 ) -> (Handled, Ended)
     requires { IsShadowed core.old shadow.old }
     ensures kept { IsShadowed core.new shadow.new }
-    ensures full { (result.0 ≡ Handled.Full) ↔ (shadow.old.free < LEAST_FREE) }
-    ensures unchanged { shadow.old.free < LEAST_FREE
+    ensures full { (result.0 ≡ Handled.Full) ↔ (lacks_frames shadow.old pid address ≡ true) }
+    ensures unchanged { lacks_frames shadow.old pid address ≡ true
         → (result.1 ≡ end.Nothing) × (core.new ≡ core.old) × (shadow.new ≡ shadow.old) }
-    ensures handled { LEAST_FREE ≤ shadow.old.free
+    ensures handled { lacks_frames shadow.old pid address ≡ false
         → result.0 ≡ handled_of (answer core.old.state (touch_of core.old.state pid address access)) }
-    ensures ended { LEAST_FREE ≤ shadow.old.free
+    ensures ended { lacks_frames shadow.old pid address ≡ false
         → result.1 ≡ ended_by core.old (touch_of core.old.state pid address access) }
-    ensures state { LEAST_FREE ≤ shadow.old.free
+    ensures state { lacks_frames shadow.old pid address ≡ false
         → core.new.state ≡ next core.old.state (touch_of core.old.state pid address access) }
     ensures ends { Ends result.1 core.old core.new }
     ensures bytes { (p at : ℕ) → byte_at core.new.state.spaces p at ≡ byte_at core.old.state.spaces p at }
     ensures stopped { IsStopped result.0 → (core.new ≡ core.old) × (shadow.new ≡ shadow.old) }
     ensures filled { result.0 ≡ Handled.Filled
         → HasFilled core.new (left_by result.1 shadow.old.translations) shadow.new pid address access }
+    ensures spent { result.0 ≡ Handled.Filled
+        → shadow.old.free ≡ shadow.new.free + frames_needed shadow.old pid (page_number address) }
     ensures stands { StandsFor (image_of core.new) core.new.state }
-    ensures roots { RootsStay shadow.old shadow.new }
+    ensures roots { RootsStay shadow.old pid shadow.new }
     ensures fixed { IsFixed shadow.old shadow.new }
 {
     core.stands();
-    if shadow.free_count() < LEAST_FREE {
+    if lacks_frames(shadow, pid, address) {
         return (Handled::Full, Ended::Nothing);
     }
     let (reply, ended) = touch(core, pid, address, access);
@@ -224,15 +246,16 @@ pub fn handle_fault(
 }
 
 /// Walks of the core read all that the shadow keeps. Where a processor's walk of the shadow reaches a page, the core's
-/// walk gives the frame there, now. An access that a processor completes through the shadow is served as by translations
+/// walk gives the frame there, now. If the pool and the core's frames lie apart, that is no frame of the pool. An access that a processor completes through the shadow is served as by translations
 /// that it kept from walks of the core. Such an access is its event, as
 /// `kernel_calls::kept_translations_serve_accesses` states.
 pub fn walks(core: &Core, shadow: &ShadowTables)
     requires { IsShadowed core.now shadow.now }
     ensures read { TranslationsAreRead (record { core = core.now; shadow = shadow.now }) }
     ensures walks { WalksAreTheCores (record { core = core.now; shadow = shadow.now }) }
+    ensures apart { PoolIsOutOfReach (record { core = core.now; shadow = shadow.now }) }
     ensures accesses { AccessesAreServed (record { core = core.now; shadow = shadow.now }) }
 {
     shadow.walks();
-    let _ = core;
+    let _frames = core.frames();
 }

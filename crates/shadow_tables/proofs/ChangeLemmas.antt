@@ -17,7 +17,7 @@ use Rattle.shadow_tables.specs.Holdings.{Places, IsNth, AreHeld, IsReleased, rel
 use Rattle.shadow_tables.specs.Tables.{frames_of, word_of, index_at, way, translation_in, translation_at, translations_in, word_for, AreBlocks, AreTables, IsWord, IsTable, SameBlocks, SameButBytes, IsShadow, IsChanged}
 use Rattle.shadow_tables.proofs.HoldingLemmas.{released-other}
 use Rattle.shadow_tables.proofs.LongWordLemmas.{SaysEntry, says_entry}
-use Rattle.shadow_tables.proofs.WayLemmas.{IsAt, place_of_way, none_some, same_way, same_translation, nothing_after, process_of_way, prefix_at-last, user_lower, index_at-below}
+use Rattle.shadow_tables.proofs.WayLemmas.{IsAt, place_of_way, none_some, same_way, same_translation, nothing_after, process_of_way, no_way, prefix_at-last, user_lower, index_at-below}
 use Rattle.shadow_tables.proofs.SlotLemmas.{get-user}
 use Rattle.shadow_tables.proofs.TableLemmas.{Wrote, blocks_stay, table_stays, zero_word}
 
@@ -115,11 +115,28 @@ module _ (places : Places) (t v : Tables) (p page table word : ℕ) (entry : Opt
     ];
   })
 
+  ways_stay : (q other depth : ℕ) → q < 64 → IsUserPage other → depth ≤ 3 → way v q other depth ≡ way t q other depth
+  ways_stay q other depth process user deep = same_way t v q other depth (record {
+    blocks = blocks;
+    root = root_is q;
+    words = λ k g below is. words_above q other k g process (user_lower other user) (omega (arith, below, deep)) is;
+  })
+
+  -- of a process that is none, there are no tables
+  ways_all : (q other depth : ℕ) → IsUserPage other → depth ≤ 3 → way v q other depth ≡ way t q other depth
+  ways_all q other depth user deep = elim (cases_lt q 64) [
+    | inl process ↦ ways_stay q other depth process user deep
+    | inr past ↦
+        let none : way t q other 0 ≡ None = get_or_past t.roots q None (omega (arith, l.are.blocks.roots, past)) in
+        no_way v q other depth (root_is q ∙ none) ∙ sym (no_way t q other depth none)
+  ]
+
   pub change : IsChanged t p page entry v
   change = record {
     stands = (places, tables_after);
     is = own_translation;
     others = other_translation;
+    ways = ways_all;
     same = l.same;
   }
 
@@ -224,6 +241,9 @@ module _ (places : Places) (t v : Tables) (p root : ℕ) (l : Forgetting places 
 
   pub others_stay : (q page : ℕ) → q ≢ p → translation_at v q page ≡ translation_at t q page
   others_stay q page n = same_translation t v q page (record { blocks = l.blocks; root = other_root q n; words = λ k g _ _. word_is g (index_at k page) })
+
+  pub ways_of_others : (q page depth : ℕ) → q ≢ p → way v q page depth ≡ way t q page depth
+  ways_of_others q page depth n = same_way t v q page depth (record { blocks = l.blocks; root = other_root q n; words = λ k g _ _. word_is g (index_at k page) })
 
 -- a translation is entered, or none is left
 pub changed : (places : Places) (t v : Tables) (p page table : ℕ) (entry : Option Translation) → AreTables places t → IsUserPage page → way t p page 3 ≡ Some table → IfSome entry (λ e. e.frame < 2 ^ 20)

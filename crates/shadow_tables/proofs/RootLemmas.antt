@@ -2,16 +2,18 @@
 use Rattle.std.proofs.Common.{◌≡◌, ◌≢◌, ℕ, ◌+◌, ◌*◌, ◌^◌, ◌<◌, ◌≤◌, length, Some, None, sym, ap, subst, ◌∙◌, arith, inl, inr}
 use Rattle.std.specs.Prelude.{slice_index, slice_set, slice_index_or}
 use Rattle.std.specs.List.{splice}
+use Rattle.std.specs.Option.{option_and_then}
+use Rattle.page_words.specs.Addresses.{IsUserPage}
 use Rattle.std.proofs.lemmas.Bool.{cases_eq, cases_lt}
 use Rattle.std.proofs.lemmas.List.{get_or-set_same, get_or-set_other, length-set}
 use Rattle.phys_memory.proofs.Words.{byte-splice_below, byte-splice_in, byte-splice_above}
 use Rattle.shadow_tables.specs.declared.tables.Tables.{Tables}
 use Rattle.shadow_tables.specs.LongWords.{long_place}
 use Rattle.shadow_tables.specs.Holdings.{Places, with_place, next_place, count_of, AreHeld}
-use Rattle.shadow_tables.specs.Tables.{frames_of, word_of, index_at, way, translation_at, AreTables, IsTable, IsRoot, SameBlocks, IsFresh, IsStep}
+use Rattle.shadow_tables.specs.Tables.{frames_of, word_of, named_by, index_at, way, missing_in, WaysStay, translation_at, AreTables, IsTable, IsRoot, SameBlocks, IsFresh, IsStep}
 use Rattle.shadow_tables.proofs.HoldingLemmas.{with_place-same, with_place-other}
 use Rattle.shadow_tables.proofs.LongWordLemmas.{long_by_bytes}
-use Rattle.shadow_tables.proofs.WayLemmas.{place_of_way, none_some, some_same, same_translation, nothing_after, nothing_at, user_lower, index_at-below, index_at-root}
+use Rattle.shadow_tables.proofs.WayLemmas.{place_of_way, none_some, some_same, process_of_way, same_way, rooted_way, same_translation, nothing_after, nothing_at, missing_past, missing_all, user_lower, index_at-below, index_at-root}
 use Rattle.shadow_tables.proofs.TableLemmas.{Cleared, then_blocks, blocks_stay, table_stays}
 
 -- what there is before and after: a frame is taken and cleared, and its upper half is written
@@ -169,8 +171,29 @@ module _ (places : Places) (t u v : Tables) (p frame : ℕ) (l : Rooting places 
     })
   ]
 
-  pub rooting_step : (page : ℕ) → IsStep t p page 0 1 (Some frame) v
-  rooting_step page = record {
+  -- one table less is missing
+  missing_is : (page : ℕ) → page < 2 ^ 35 → missing_in t p page ≡ missing_in v p page + 1
+  missing_is page lower =
+      let old = missing_all t p page l.missing in
+      let new = missing_past v p page 0 frame (omega arith) root_is (λ _.
+      ap (option_and_then (λ f. named_by v (word_of v f (index_at 0 page)))) root_is ∙ ap (named_by v) (new_word (index_at 0 page) (index_at-root page lower))) in
+      omega (arith, old, new)
+
+  -- the tables of the others lead on, and the process had none
+  ways_more : WaysStay t v
+  ways_more q at d g user deep is = let process = process_of_way t q at d g l.are.blocks is in elim (cases_eq q p) [
+    | inl e ↦ absurd (rooted_way t q at d g is (ap (λ q. way t q 0 0) e ∙ l.missing))
+    | inr n ↦ same_way t v q at d (record {
+      blocks = blocks;
+      root = other_root q n;
+      words = λ k h below way.
+          let its = place_of_way places t l.are q at process (user_lower at user) k h (omega (arith, below, deep)) way in
+          other_word h (index_at k at) (index_at-below k at) (owned h (omega (arith, its.owner, process)));
+    }) ∙ is
+  ]
+
+  pub rooting_step : (page : ℕ) → IsUserPage page → IsStep t p page 0 (Some frame) v
+  rooting_step page user = record {
     process = l.process;
     stands = (after, tables_after);
     same = record {
@@ -179,6 +202,7 @@ module _ (places : Places) (t u v : Tables) (p frame : ℕ) (l : Rooting places 
         | inl e ↦ absurd (none_some g (sym l.missing ∙ ap (λ q. way t q 0 0) (sym e) ∙ is))
         | inr n ↦ other_root q n ∙ is
       ];
+      ways = ways_more;
       blocks = blocks;
     };
     others = record {
@@ -186,6 +210,6 @@ module _ (places : Places) (t u v : Tables) (p frame : ℕ) (l : Rooting places 
       counts = λ q n m. ap (λ h. count_of h q) l.holdings ∙ l.fresh.taken.others q n m;
     };
     way_is = root_is;
-    most = let e = ap (λ h. count_of h 64) l.holdings in omega (arith, e, l.fresh.taken.free);
+    spent = let e = ap (λ h. count_of h 64) l.holdings in omega (arith, e, l.fresh.taken.free, missing_is page (user_lower page user));
     none = tt;
   }

@@ -1,5 +1,5 @@
 -- The steps of a fill: a table that is missing is taken, zero, and linked; a root that is missing is taken.
-use Rattle.std.proofs.Common.{◌≡◌, ◌≢◌, ℕ, suc, ◌+◌, ◌^◌, ◌<◌, ◌≤◌, true, length, Option, Some, None, refl, sym, ap, subst, ◌∙◌, arith, inl, inr}
+use Rattle.std.proofs.Common.{◌≡◌, ◌≢◌, ℕ, zero, suc, ◌+◌, ◌^◌, ◌<◌, ◌≤◌, true, length, Option, Some, None, refl, sym, ap, subst, ◌∙◌, arith, inl, inr}
 use Rattle.std.specs.Prelude.{slice_index_or, IfNone}
 use Rattle.std.specs.Option.{option_and_then}
 use Rattle.std.proofs.lemmas.Bool.{cases_eq}
@@ -7,20 +7,20 @@ use Rattle.shadow_tables.specs.declared.tables.Tables.{Tables}
 use Rattle.shadow_tables.specs.LongWords.{entry_word}
 use Rattle.shadow_tables.specs.Shadow.{frame_address}
 use Rattle.shadow_tables.specs.Holdings.{Places, with_place, next_place, count_of, AreHeld}
-use Rattle.shadow_tables.specs.Tables.{frames_of, word_of, named_by, index_at, prefix_at, way, translation_at, AreTables, LinksTo, IsWord, IsTable, SameBlocks, SameButBytes, IsFresh, IsStep}
+use Rattle.shadow_tables.specs.Tables.{frames_of, word_of, named_by, index_at, prefix_at, way, missing_in, translation_at, AreTables, LinksTo, IsWord, IsTable, IsShadow, SameBlocks, SameButBytes, IsFresh, IsStep}
 use Rattle.shadow_tables.proofs.HoldingLemmas.{with_place-same, with_place-other}
-use Rattle.shadow_tables.proofs.WayLemmas.{IsAt, place_of_way, next_at, named_by-link, none_some, same_way, same_translation, nothing_at, rooted_way, some_or_not, user_lower, index_at-below, index_at-root, prefix_at-next}
+use Rattle.shadow_tables.proofs.WayLemmas.{IsAt, place_of_way, process_of_way, next_at, named_by-link, named_by-same, none_some, then_some, same_way, same_translation, nothing_at, missing_past, rooted_way, some_or_not, user_lower, index_at-below, index_at-root, prefix_at-next}
 use Rattle.shadow_tables.proofs.TableLemmas.{Wrote, Cleared, then_blocks, blocks_stay, table_stays, zero_word}
 
 -- two steps in sequence
-pub then_step : (t u v : Tables) (p page first second cost more frame : ℕ) (found : Option ℕ) → IsStep t p page first cost (Some frame) u → IsStep u p page second more found v
-    → IsStep t p page second (cost + more) found v
-then_step t u v p page first second cost more frame found a b = record {
+pub then_step : (t u v : Tables) (p page first second frame : ℕ) (found : Option ℕ) → IsStep t p page first (Some frame) u → IsStep u p page second found v → IsStep t p page second found v
+then_step t u v p page first second frame found a b = record {
   process = a.process;
   stands = b.stands;
   same = record {
     at = λ q at process user. b.same.at q at process user ∙ a.same.at q at process user;
     roots = λ q frame e. b.same.roots q frame (a.same.roots q frame e);
+    ways = λ q at d frame user deep e. b.same.ways q at d frame user deep (a.same.ways q at d frame user deep e);
     blocks = then_blocks t u v a.same.blocks b.same.blocks;
   };
   others = record {
@@ -28,24 +28,36 @@ then_step t u v p page first second cost more frame found a b = record {
     counts = λ q n m. b.others.counts q n m ∙ a.others.counts q n m;
   };
   way_is = b.way_is;
-  most = omega (arith, a.most, b.most);
+  spent = omega (arith, a.spent, b.spent);
   none = none_of found b.none;
 }
   where
-    none_of : (found : Option ℕ) → IfNone found ((count_of v.holdings 64 ≡ 0) × (count_of u.holdings 64 < more)) → IfNone found ((count_of v.holdings 64 ≡ 0) × (count_of t.holdings 64 < cost + more))
+    none_of : (found : Option ℕ) → IfNone found (count_of u.holdings 64 < missing_in u p page) → IfNone found (count_of t.holdings 64 < missing_in t p page)
     none_of (Some frame) h = tt
-    none_of None h = (h.0, omega (arith, h.1, a.most))
+    none_of None h = omega (arith, h, a.spent)
 
 -- a step that found no frame, in a longer sequence
-pub stopped : (t u : Tables) (p page first second cost more : ℕ) → IsStep t p page first cost None u → IsStep t p page second (cost + more) None u
-stopped t u p page first second cost more a = record {
+pub stopped : (t u : Tables) (p page first second : ℕ) → IsStep t p page first None u → IsStep t p page second None u
+stopped t u p page first second a = record {
   process = a.process;
   stands = a.stands;
   same = a.same;
   others = a.others;
   way_is = tt;
-  most = omega (arith, a.most);
-  none = (a.none.0, omega (arith, a.none.1));
+  spent = a.spent;
+  none = a.none;
+}
+
+-- a step that changes nothing, as no frame is free
+pub none_left : (t : Tables) (p page d : ℕ) → IsShadow t → p < 64 → count_of t.holdings 64 ≡ 0 → 0 < missing_in t p page → IsStep t p page d None t
+none_left t p page d stands process none missing = record {
+  process = process;
+  stands = stands;
+  same = record { at = λ _ _ _ _. refl; roots = λ _ _ e. e; ways = λ _ _ _ _ _ _ e. e; blocks = record { pool = refl; block = refl; kernel = refl; length = refl; frames = refl } };
+  others = record { roots = λ _ _. refl; counts = λ _ _ _. refl };
+  way_is = tt;
+  spent = refl;
+  none = omega (arith, none, missing);
 }
 
 -- ---- A table is linked
@@ -217,20 +229,42 @@ module _ (places : Places) (t u v : Tables) (p page d table frame : ℕ) (l : Li
         words = λ k g below is. above q at_page k g process lower (omega (arith, below)) is (apart k g (omega (arith, below)) is);
       })
 
-  pub linking_step : IsStep t p page (suc d) 1 (Some frame) v
+  -- each table that there was leads on
+  ways_more : (q at_page k g : ℕ) → q < 64 → at_page < 2 ^ 35 → k ≤ 3 → way t q at_page k ≡ Some g → way v q at_page k ≡ Some g
+  ways_more q at_page zero g process lower deep is = ap (λ r. slice_index_or r q None) roots_is ∙ is
+  ways_more q at_page (suc k) g process lower deep is =
+      let step = then_some (λ f. named_by t (word_of t f (index_at k at_page))) (way t q at_page k) g is in
+      let same = above q at_page k step.0 process lower (omega (arith, deep)) step.1 (λ e i.
+      none_some g (sym (ap (named_by t) (ap (λ h. word_of t h (index_at k at_page)) e ∙ ap (word_of t table) i ∙ was_zero)) ∙ step.2)) in
+      ap (option_and_then (λ f. named_by v (word_of v f (index_at k at_page)))) (ways_more q at_page k step.0 process lower (omega (arith, deep)) step.1)
+      ∙ named_by-same t v (word_of t step.0 (index_at k at_page)) (word_of v step.0 (index_at k at_page)) blocks same ∙ step.2
+
+  new_way : way v p page (suc d) ≡ Some frame
+  new_way = way_after p page l.process l.lower l.way_is refl
+
+  -- one table less is missing
+  missing_is : missing_in t p page ≡ missing_in v p page + 1
+  missing_is =
+      let old = missing_past t p page d table (omega (arith, l.deep)) l.way_is (λ _. ap (option_and_then (λ f. named_by t (word_of t f (index_at d page)))) l.way_is ∙ l.missing) in
+      let new = missing_past v p page (suc d) frame (omega (arith, l.deep)) new_way (λ _.
+      ap (option_and_then (λ f. named_by v (word_of v f (index_at (suc d) page)))) new_way ∙ ap (named_by v) (new_word (index_at (suc d) page) (index_at-below (suc d) page))) in
+      omega (arith, old, new)
+
+  pub linking_step : IsStep t p page (suc d) (Some frame) v
   linking_step = record {
     process = l.process;
     stands = (after, tables_after);
     same = record {
       at = λ q at_page process user. translation_is q at_page process (user_lower at_page user);
       roots = λ q g is. ap (λ r. slice_index_or r q None) roots_is ∙ is;
+      ways = λ q at_page k g user deep is. ways_more q at_page k g (process_of_way t q at_page k g l.are.blocks is) (user_lower at_page user) deep is;
       blocks = blocks;
     };
     others = record {
       roots = λ q _. ap (λ r. slice_index_or r q None) roots_is;
       counts = λ q n m. ap (λ h. count_of h q) l.same.holdings ∙ l.fresh.taken.others q n m;
     };
-    way_is = way_after p page l.process l.lower l.way_is refl;
-    most = let e = ap (λ h. count_of h 64) l.same.holdings in omega (arith, e, l.fresh.taken.free);
+    way_is = new_way;
+    spent = let e = ap (λ h. count_of h 64) l.same.holdings in omega (arith, e, l.fresh.taken.free, missing_is);
     none = tt;
   }

@@ -1,11 +1,12 @@
 -- What a write of one word, and zeros in a frame, leave of the tables.
-use Rattle.std.proofs.Common.{◌≡◌, ◌≢◌, ℕ, suc, ◌+◌, ◌*◌, ◌%◌, ◌^◌, ◌<◌, ◌≤◌, ◌⊎◌, true, length, replicate, refl, sym, ap, ◌∙◌, arith, inl, inr}
+use Rattle.std.proofs.Common.{◌≡◌, ◌≢◌, ℕ, suc, ◌+◌, ◌*◌, ◌%◌, ◌^◌, ◌<◌, ◌≤◌, ◌⊎◌, true, length, replicate, refl, sym, ap, subst, ◌∙◌, arith, inl, inr}
 use Rattle.std.specs.Prelude.{slice_index}
 use Rattle.std.specs.List.{splice}
 use Rattle.std.proofs.lemmas.Bool.{cases_eq, cases_lt}
 use Rattle.shadow_tables.specs.declared.tables.Tables.{Tables}
 use Rattle.shadow_tables.specs.declared.tables.Translation.{Translation}
 use Rattle.shadow_tables.specs.LongWords.{long_at, with_long, long_place, entry_word}
+use Rattle.shadow_tables.specs.Kernel.{IsKernelWord}
 use Rattle.shadow_tables.specs.Shadow.{frame_address}
 use Rattle.shadow_tables.specs.Holdings.{Places}
 use Rattle.shadow_tables.specs.Tables.{frames_of, word_of, AreBlocks, LinksTo, Translates, IsWord, IsTable, SameBlocks}
@@ -80,6 +81,7 @@ blocks_stay t t' are same roots =
     record {
       bytes = same.length ∙ are.bytes ∙ ap (λ n. 4096 * n) (sym frames);
       kernel = ap (λ v. length v.items) same.kernel ∙ are.kernel;
+      words = λ k below. subst (λ v. IsKernelWord (long_at v.items (8 * k))) (sym same.kernel) (are.words k below);
       roots = roots;
       pool = ap (λ n. n % 4096) pool ∙ are.pool;
       pool_end = omega (arith, are.pool_end, pool, frames);

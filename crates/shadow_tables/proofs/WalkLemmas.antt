@@ -1,6 +1,6 @@
 -- The processor's walk of the pool, from a root, ends as the translation of the page says.
-use Rattle.std.proofs.Common.{◌≡◌, ℕ, suc, ◌+◌, ◌-◌, ◌*◌, ◌/◌, ◌%◌, ◌^◌, ◌<◌, ◌≤◌, ◌⊎◌, Bool, true, false, not, ◌&&◌, List, length, take, drop, Option, Some, None, Result, Ok, Err, refl, sym, ap, subst, ◌∙◌, arith, inl, inr, length-drop}
-use Rattle.std.specs.Prelude.{if◌then◌else◌, slice_index_or, sum}
+use Rattle.std.proofs.Common.{◌≡◌, ℕ, suc, ◌+◌, ◌-◌, ◌*◌, ◌/◌, ◌%◌, ◌^◌, ◌<◌, ◌≤◌, ◌⊎◌, Bool, true, false, not, ◌&&◌, List, [], ◌∷◌, length, take, drop, Option, Some, None, Result, Ok, Err, refl, sym, ap, subst, ◌∙◌, arith, inl, inr, length-drop}
+use Rattle.std.specs.Prelude.{if◌then◌else◌, slice_index, slice_index_or, sum}
 use Rattle.std.specs.List.{slice_range}
 use Rattle.std.specs.Option.{option_and_then}
 use Rattle.std.proofs.lemmas.Bool.{cases_lt}
@@ -10,17 +10,19 @@ use Rattle.std.proofs.lemmas.List.Sums.{sum_by_more}
 use Rattle.page_words.specs.Addresses.{IsUserPage}
 use Rattle.table_walk.specs.declared.Access.{Access}
 use Rattle.table_walk.specs.declared.Access.TheVariants.{Read, Write}
-use Rattle.table_walk.specs.Walk.{is_write}
+use Rattle.table_walk.specs.Walk.{is_write, first_that_applies}
+use Rattle.page_words.specs.Words.{is_present, is_writable}
 use Rattle.shadow_tables.specs.declared.tables.Tables.{Tables}
 use Rattle.shadow_tables.specs.declared.walk.LongEnd.{LongEnd}
-use Rattle.shadow_tables.specs.declared.walk.LongEnd.TheVariants.{Missing, Denied}
-use Rattle.shadow_tables.specs.LongWords.{long_at, long_place, entry_word}
-use Rattle.shadow_tables.specs.LongWalk.{holds_table, way_word, step_of, and_on, from_table, from_directory, from_pointers, long_walk}
+use Rattle.shadow_tables.specs.declared.walk.LongEnd.TheVariants.{Missing, Denied, Unmarked, Foreign}
+use Rattle.shadow_tables.specs.LongWords.{long_at, long_place, target_of, is_foreign, entry_word}
+use Rattle.shadow_tables.specs.LongWalk.{holds_table, way_word, allows, is_marked, step_of, and_on, from_table, from_directory, from_pointers, long_walk}
 use Rattle.shadow_tables.specs.Shadow.{at_page, frame_address, shadow_end}
 use Rattle.shadow_tables.specs.Holdings.{Places, count_of}
 use Rattle.shadow_tables.specs.Tables.{word_of, named_by, index_at, way, translation_in, translation_at, seen_as, AreTables, IsTable}
-use Rattle.shadow_tables.specs.Laws.{WalksAgree, KernelHalves}
-use Rattle.shadow_tables.proofs.LongWordLemmas.{SaysEntry, says_entry}
+use Rattle.shadow_tables.specs.Laws.{WalksAgree, KernelHalves, UpperHalvesAreClosed}
+use Rattle.shadow_tables.specs.Kernel.{IsKernelWord}
+use Rattle.shadow_tables.proofs.LongWordLemmas.{SaysEntry, says_entry, long_by_bytes}
 use Rattle.shadow_tables.proofs.WayLemmas.{place_of_way, next_at, named_by-link, nothing_at, nothing_after, prefix_at-last, index_at-below}
 use Rattle.shadow_tables.proofs.ChangeLemmas.{translation_in-entry}
 use Rattle.shadow_tables.proofs.SlotLemmas.{get-user, get-out}
@@ -191,6 +193,44 @@ kernel_halves places t are p root is =
     ext_get_or 0 _ _ (size ∙ sym are.blocks.kernel) (λ k l.
     get_or-take (4096 * root + 4096 - (4096 * root + 2048)) (drop (4096 * root + 2048) t.bytes.items) k 0 (omega (arith, size)) ∙ get_or-drop (4096 * root + 2048) t.bytes.items k 0
     ∙ table.kernel its.depth k (omega (arith, size)))
+
+-- a word of a root's upper half is the kernel's
+upper_word : (places : Places) (t : Tables) (p root k : ℕ) → AreTables places t → way t p 0 0 ≡ Some root → k < 256 → word_of t root (256 + k) ≡ long_at t.kernel.items (8 * k)
+upper_word places t p root k are is below =
+    let process = rooted_process places t p root are is in
+    let its = are.roots p root process is in
+    let table : IsTable places t root = are.tables root its.inside (omega (arith, its.owner, process)) in
+    long_by_bytes t.bytes.items t.kernel.items (long_place root (256 + k)) (8 * k) (λ i b.
+    let e : long_place root (256 + k) + i ≡ 4096 * root + 2048 + (8 * k + i) = omega arith in
+    ap (slice_index t.bytes.items) e ∙ table.kernel its.depth (8 * k + i) (omega arith))
+
+lines_end : (held present foreign allowed marked : Bool) (next target : ℕ) → (present ≡ true → allowed ≡ false)
+    → (let r : Result ℕ LongEnd = first_that_applies ((not held, Err Foreign) ∷ (not present, Err Missing) ∷ (foreign, Err Foreign) ∷ (not allowed, Err Denied) ∷ (not marked, Err Unmarked) ∷ []) (Ok next) in r ≡ Ok target) → ⊥
+lines_end false present foreign allowed marked next target closed e = cc
+lines_end true false foreign allowed marked next target closed e = cc
+lines_end true true true allowed marked next target closed e = cc
+lines_end true true false true marked next target closed e = let no = closed refl in cc
+lines_end true true false false marked next target closed e = cc
+
+step_closed : (bytes : List ℕ) (pool table address target : ℕ) (access : Access) (shift word : ℕ) → way_word bytes pool table address shift ≡ word → IsKernelWord word
+    → step_of bytes pool table address access shift false ≡ Ok target → ⊥
+step_closed bytes pool table address target access shift word is closed e =
+    let w = way_word bytes pool table address shift in
+    let its : IsKernelWord w = subst IsKernelWord (sym is) closed in
+    lines_end (holds_table bytes pool table) (is_present w) (is_foreign w) (allows w access) (is_marked w access false) (target_of w) target (λ p. ap (λ u. u && not (is_write access && not (is_writable w))) (its.closed p)) e
+
+and_on-ok : (more : ℕ → Result ℕ LongEnd) (r : Result ℕ LongEnd) (physical : ℕ) → and_on more r ≡ Ok physical → (target : ℕ) × (r ≡ Ok target)
+and_on-ok more (Ok target) physical e = (target, refl)
+and_on-ok more (Err end) physical e = absurd (cc)
+
+pub upper_halves : (places : Places) (t : Tables) → AreTables places t → UpperHalvesAreClosed (seen_as t)
+unfolding long_walk
+upper_halves places t are p root address physical access is least most e =
+    let found = and_on-ok (from_pointers t.bytes.items t.pool address access) (step_of t.bytes.items t.pool (frame_address t.pool root) address access 39 false) physical e in
+    let k = address / 2 ^ 39 % 512 - 256 in
+    let below : k < 256 = omega arith in
+    let place : frame_address t.pool root - t.pool + 8 * (address / 2 ^ 39 % 512) ≡ long_place root (256 + k) = omega (arith, least, most) in
+    step_closed t.bytes.items t.pool (frame_address t.pool root) address found.0 access 39 (long_at t.kernel.items (8 * k)) (ap (long_at t.bytes.items) place ∙ upper_word places t p root k are is below) (are.blocks.words k below) found.1
 
 pub all_frames : (places : Places) (t : Tables) → AreTables places t → 4096 * (count_of t.holdings 64 + sum (take 64 t.holdings.counts)) ≡ length t.bytes.items
 all_frames places t are =

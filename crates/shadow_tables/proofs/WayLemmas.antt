@@ -1,5 +1,5 @@
 -- The way from a root to the table of a page: where its tables have their places, and which changes leave it.
-use Rattle.std.proofs.Common.{◌≡◌, ℕ, zero, suc, ◌+◌, ◌*◌, ◌/◌, ◌^◌, ◌<◌, ◌≤◌, ◌⊎◌, true, Option, Some, None, refl, sym, ap, subst, ◌∙◌, arith, inl, inr}
+use Rattle.std.proofs.Common.{◌≡◌, ℕ, zero, suc, ◌+◌, ◌*◌, ◌/◌, ◌^◌, ◌<◌, ◌≤◌, ◌⊎◌, true, length, Option, Some, None, refl, sym, ap, subst, ◌∙◌, arith, inl, inr}
 use Rattle.std.proofs.lemmas.Bool.{cases_eq, cases_lt}
 use Rattle.std.proofs.lemmas.List.{get_or_past}
 use Rattle.std.proofs.lemmas.Bool.Decides.{nat_tests}
@@ -9,7 +9,8 @@ use Rattle.shadow_tables.specs.declared.tables.Tables.{Tables}
 use Rattle.shadow_tables.specs.LongWords.{entry_word}
 use Rattle.shadow_tables.specs.Shadow.{frame_address}
 use Rattle.shadow_tables.specs.Holdings.{Places}
-use Rattle.shadow_tables.specs.Tables.{frames_of, word_of, named_by, index_at, prefix_at, way, translation_in, translation_at, AreBlocks, AreTables, LinksTo, IsTable, SameBlocks}
+use Rattle.shadow_tables.specs.Tables.{frames_of, word_of, named_by, index_at, prefix_at, way, missing_in, shared_in, WaysStay, translation_in, translation_at, seen_as, AreBlocks, AreTables, LinksTo, IsTable, SameBlocks}
+use Rattle.shadow_tables.specs.Needs.{if_missing, table_at, table_named, named_within, frames_needed, shared_missing}
 use Rattle.shadow_tables.proofs.LongWordLemmas.{SaysEntry, says_entry}
 
 -- ---- Steps of an option
@@ -107,7 +108,7 @@ pub record SamePath (t t' : Tables) (p page depth : ℕ) : Type 0 where
   pub root : way t' p 0 0 ≡ way t p 0 0
   pub words : (k frame : ℕ) → k < depth → way t p page k ≡ Some frame → word_of t' frame (index_at k page) ≡ word_of t frame (index_at k page)
 
-named_by-same : (t t' : Tables) (word word' : ℕ) → SameBlocks t t' → word' ≡ word → named_by t' word' ≡ named_by t word
+pub named_by-same : (t t' : Tables) (word word' : ℕ) → SameBlocks t t' → word' ≡ word → named_by t' word' ≡ named_by t word
 named_by-same t t' word word' same e = let a = same.pool in let b = same.frames in rw (a, b, e) refl
 
 shorter : (t t' : Tables) (p page d : ℕ) → SamePath t t' p page (suc d) → SamePath t t' p page d
@@ -133,6 +134,128 @@ same_translation t t' p page same =
 
 pub no_next : (t : Tables) (p page d : ℕ) → way t p page d ≡ None → way t p page (suc d) ≡ None
 no_next t p page d e = ap (option_and_then (λ f. named_by t (word_of t f (index_at d page)))) e
+
+-- the table that leads to one
+before : (t : Tables) (p page d frame : ℕ) → way t p page (suc d) ≡ Some frame → (g : ℕ) × (way t p page d ≡ Some g)
+before t p page d frame is = let step = then_some (λ f. named_by t (word_of t f (index_at d page))) (way t p page d) frame is in (step.0, step.1)
+
+-- how many tables are missing, where the way ends after that many
+pub missing_past : (t : Tables) (p page d frame : ℕ) → d ≤ 3 → way t p page d ≡ Some frame → (d < 3 → way t p page (suc d) ≡ None) → missing_in t p page + d ≡ 3
+missing_past t p page zero frame h is ends =
+    let one = ends (omega arith) in
+    let two = no_next t p page 1 one in
+    omega (arith, ap if_missing is, ap if_missing one, ap if_missing two, ap if_missing (no_next t p page 2 two))
+missing_past t p page (suc zero) frame h is ends =
+    let root = before t p page 0 frame is in
+    let two = ends (omega arith) in
+    omega (arith, ap if_missing root.1, ap if_missing is, ap if_missing two, ap if_missing (no_next t p page 2 two))
+missing_past t p page (suc (suc zero)) frame h is ends =
+    let one = before t p page 1 frame is in
+    let root = before t p page 0 one.0 one.1 in
+    omega (arith, ap if_missing root.1, ap if_missing one.1, ap if_missing is, ap if_missing (ends (omega arith)))
+missing_past t p page (suc (suc (suc zero))) frame h is ends =
+    let two = before t p page 2 frame is in
+    let one = before t p page 1 two.0 two.1 in
+    let root = before t p page 0 one.0 one.1 in
+    omega (arith, ap if_missing root.1, ap if_missing one.1, ap if_missing two.1, ap if_missing is)
+missing_past t p page (suc (suc (suc (suc d)))) frame h is ends = absurd (omega arith)
+
+-- without a root, all four are missing
+pub missing_all : (t : Tables) (p page : ℕ) → way t p page 0 ≡ None → missing_in t p page ≡ 4
+missing_all t p page none =
+    let one = no_next t p page 0 none in
+    let two = no_next t p page 1 one in
+    omega (arith, ap if_missing none, ap if_missing one, ap if_missing two, ap if_missing (no_next t p page 2 two))
+
+-- tables that lead as before are missing as before
+pub missing_same : (t v : Tables) (p page : ℕ) → ((d : ℕ) → d ≤ 3 → way v p page d ≡ way t p page d) → missing_in v p page ≡ missing_in t p page
+missing_same t v p page same =
+    omega (arith, ap if_missing (same 0 (omega arith)), ap if_missing (same 1 (omega arith)), ap if_missing (same 2 (omega arith)), ap if_missing (same 3 (omega arith)))
+
+less_missing : (o o' : Option ℕ) → ((f : ℕ) → o ≡ Some f → o' ≡ Some f) → if_missing o' ≤ if_missing o
+less_missing None None h = omega arith
+less_missing None (Some g) h = omega arith
+less_missing (Some f) o' h = let e = ap if_missing (h f refl) in omega (arith, e)
+
+-- tables that lead on as before are no more missing
+pub missing_less : (t v : Tables) (p page : ℕ) → IsUserPage page → WaysStay t v → missing_in v p page ≤ missing_in t p page
+missing_less t v p page user stay =
+    let less = λ (d : ℕ) (deep : d ≤ 3). less_missing (way t p page d) (way v p page d) (λ f. stay p page d f user deep) in
+    omega (arith, less 0 (omega arith), less 1 (omega arith), less 2 (omega arith), less 3 (omega arith))
+
+-- without a root there is no way
+pub no_way : (t : Tables) (p page d : ℕ) → way t p page 0 ≡ None → way t p page d ≡ None
+no_way t p page zero none = none
+no_way t p page (suc d) none = no_next t p page d (no_way t p page d none)
+
+-- the tables of a page are those of its GiB
+way_one : (t : Tables) (p page other : ℕ) → index_at 0 page ≡ index_at 0 other → way t p page 1 ≡ way t p other 1
+way_one t p page other e = ap (λ i. option_and_then (λ f. named_by t (word_of t f i)) (way t p 0 0)) e
+
+way_two : (t : Tables) (p page other : ℕ) → index_at 0 page ≡ index_at 0 other → index_at 1 page ≡ index_at 1 other → way t p page 2 ≡ way t p other 2
+way_two t p page other e f =
+    ap (λ i. option_and_then (λ f. named_by t (word_of t f i)) (way t p page 1)) f
+    ∙ ap (option_and_then (λ f. named_by t (word_of t f (index_at 1 other)))) (way_one t p page other e)
+
+-- what a page needs of the shared tables is no longer missing
+module _ (t v : Tables) (p page table : ℕ) (user : IsUserPage page) (stay : WaysStay t v) (filled : way v p page 3 ≡ Some table) where
+  less : (other d : ℕ) → IsUserPage other → d ≤ 3 → if_missing (way v p other d) ≤ if_missing (way t p other d)
+  less other d its deep = less_missing (way t p other d) (way v p other d) (λ f. stay p other d f its deep)
+
+  no_more : missing_in v p page ≡ 0
+  no_more = let past = missing_past v p page 3 table (omega arith) filled (λ h. absurd (omega (arith, h))) in omega (arith, past)
+
+  one : (u : Tables) → way u p page 1 ≡ way u p 0x40000 1
+  one u = way_one u p page 0x40000 (omega (arith, user.1))
+
+  two : (other : ℕ) → IsUserPage other → page / 2 ^ 18 ≡ other / 2 ^ 18 → (u : Tables) → if_missing (way u p page 2) ≡ if_missing (way u p other 2)
+  two other its same u = ap if_missing (way_two u p page other (omega (arith, user.1, its.1)) (omega (arith, same)))
+
+  last : if_missing (way t p page 3) ≤ 1
+  last = at_most (way t p page 3)
+    where
+      at_most : (o : Option ℕ) → if_missing o ≤ 1
+      at_most None = omega arith
+      at_most (Some f) = omega arith
+
+  by_region : (page / 2 ^ 18 ≡ 1) ⊎ ((page / 2 ^ 18 ≡ 2) ⊎ (page / 2 ^ 18 ≡ 3)) → shared_in v p + missing_in t p page ≤ shared_in t p + 1
+  by_region (inl is) =
+      let same = two 0x40000 (omega arith, omega arith) (omega (arith, is)) in
+      let b = less 0x80000 2 (omega arith, omega arith) (omega arith) in
+      let c = less 0xc0000 2 (omega arith, omega arith) (omega arith) in
+      omega (arith, no_more, ap if_missing (one v), ap if_missing (one t), same v, same t, b, c, last)
+  by_region (inr (inl is)) =
+      let same = two 0x80000 (omega arith, omega arith) (omega (arith, is)) in
+      let a = less 0x40000 2 (omega arith, omega arith) (omega arith) in
+      let c = less 0xc0000 2 (omega arith, omega arith) (omega arith) in
+      omega (arith, no_more, ap if_missing (one v), ap if_missing (one t), same v, same t, a, c, last)
+  by_region (inr (inr is)) =
+      let same = two 0xc0000 (omega arith, omega arith) (omega (arith, is)) in
+      let a = less 0x40000 2 (omega arith, omega arith) (omega arith) in
+      let b = less 0x80000 2 (omega arith, omega arith) (omega arith) in
+      omega (arith, no_more, ap if_missing (one v), ap if_missing (one t), same v, same t, a, b, last)
+
+  pub shared_less : shared_in v p + missing_in t p page ≤ shared_in t p + 1
+  shared_less = by_region (which page user)
+    where
+      which : (page : ℕ) → IsUserPage page → (page / 2 ^ 18 ≡ 1) ⊎ ((page / 2 ^ 18 ≡ 2) ⊎ (page / 2 ^ 18 ≡ 3))
+      which page user = grind (arith, cases_eq)
+
+-- the way as a contract sees it
+pub table_at-way : (t : Tables) (p page d : ℕ) → AreBlocks t → table_at (seen_as t) p page d ≡ way t p page d
+table_at-way t p page zero are = refl
+table_at-way t p page (suc d) are =
+    let frames : length t.bytes.items / 4096 ≡ frames_of t = omega (arith, are.bytes) in
+    ap (option_and_then (λ f. table_named (seen_as t) (word_of t f (index_at d page)))) (table_at-way t p page d are)
+    ∙ ap (λ n. option_and_then (λ f. named_within t.pool n (word_of t f (index_at d page))) (way t p page d)) frames
+
+pub shared-missing : (t : Tables) (p : ℕ) → AreBlocks t → shared_missing (seen_as t) p ≡ shared_in t p
+shared-missing t p are =
+    omega (arith, ap if_missing (table_at-way t p 0x40000 0 are), ap if_missing (table_at-way t p 0x40000 1 are), ap if_missing (table_at-way t p 0x40000 2 are), ap if_missing (table_at-way t p 0x80000 2 are), ap if_missing (table_at-way t p 0xc0000 2 are))
+
+pub needed-missing : (t : Tables) (p page : ℕ) → AreBlocks t → frames_needed (seen_as t) p page ≡ missing_in t p page
+needed-missing t p page are =
+    omega (arith, ap if_missing (table_at-way t p page 0 are), ap if_missing (table_at-way t p page 1 are), ap if_missing (table_at-way t p page 2 are), ap if_missing (table_at-way t p page 3 are))
 
 -- a way that ends leads to no translation
 pub nothing_after : (t : Tables) (p page d : ℕ) → d ≤ 3 → way t p page d ≡ None → translation_at t p page ≡ None

@@ -1,5 +1,5 @@
 -- The laws of shadow tables: what the walk of a processor over the pool gives.
-use Rattle.std.specs.Prelude.{◌≡◌, ℕ, ◌+◌, ◌*◌, ◌^◌, ◌<◌, true, is_some, Some}
+use Rattle.std.specs.Prelude.{◌≡◌, ℕ, ◌+◌, ◌-◌, ◌*◌, ◌^◌, ◌<◌, ◌≤◌, true, is_some, Some, Ok}
 use Rattle.std.specs.List.{slice_range}
 use Rattle.page_words.specs.Addresses.{page_number, IsUserPage}
 use Rattle.page_words.specs.FiniteMap as map
@@ -16,6 +16,11 @@ WalksAgree s = (p root address : ℕ) (access : Access) → root_frame s p ≡ S
 -- the upper half of each root is the kernel's, in the entries 256 to 511
 abbrev pub KernelHalves : Shadow → Type 0
 KernelHalves s = (p root : ℕ) → root_frame s p ≡ Some root → slice_range s.bytes (4096 * root + 2048) (4096 * root + 4096) ≡ s.kernel
+
+-- the walk of no address of the upper half reaches a page
+abbrev pub UpperHalvesAreClosed : Shadow → Type 0
+UpperHalvesAreClosed s = (p root address physical : ℕ) (access : Access) → root_frame s p ≡ Some root → 2 ^ 64 - 2 ^ 47 ≤ address → address < 2 ^ 64
+    → long_walk s.bytes s.pool (frame_address s.pool root) address access ≡ Ok physical → ⊥
 
 -- only user pages of the 64 processes have translations
 abbrev pub UserPagesOnly : Shadow → Type 0

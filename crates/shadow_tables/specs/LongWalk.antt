@@ -1,4 +1,6 @@
--- The walk of a four-level page map for a user-mode access, on any bytes, as a processor makes it that writes nothing.
+-- The walk of a four-level page map for a user-mode access, on any bytes, as a processor makes it that writes nothing. In
+-- its CR4, LA57, PKE and CET are clear. The addresses in words are below its MAXPHYADDR. A fetch is a read, as no word has
+-- bit 63.
 use Rattle.std.specs.Prelude.{ℕ, ◌+◌, ◌-◌, ◌*◌, ◌/◌, ◌%◌, ◌^◌, Bool, true, false, not, ◌&&◌, nat_le, List, [], ◌∷◌, length, Result, Ok, Err}
 use Rattle.page_words.specs.Words.{is_present, is_writable, is_user, is_accessed, is_dirty}
 use Rattle.table_walk.specs.declared.Access.{Access}

@@ -21,7 +21,8 @@ long_place frame index = 4096 * frame + 8 * index
 abbrev pub target_of : ℕ → ℕ
 target_of word = 4096 * (word / 4096)
 
--- a word of another kind: bit 7 is set, so that it names a large page, or one of the bits from 52 on
+-- A word of a kind that shadow tables don't have: bit 7 is set, or one of those from 52 on. A processor ignores some of
+-- the latter. Bit 7 names a large page, or in a last table a kind of memory.
 abbrev pub is_foreign : ℕ → Bool
 is_foreign word = flag word 7 || nat_le (2 ^ 52) word
 

@@ -1,5 +1,5 @@
 -- The tables in the pool: what a frame of each place holds, and the translations that lie in the tables.
-use Rattle.std.specs.Prelude.{◌≡◌, ◌≢◌, ℕ, zero, suc, ◌+◌, ◌-◌, ◌*◌, ◌/◌, ◌%◌, ◌^◌, ◌<◌, ◌≤◌, ◌⊎◌, true, ◌&&◌, nat_le, nat_lt, if◌then◌else◌, IfSome, IfNone, List, [], ◌∷◌, ◌++◌, take, length, replicate, slice_index, slice_index_or, Option, Some, None}
+use Rattle.std.specs.Prelude.{◌≡◌, ◌≢◌, ℕ, zero, suc, ◌+◌, ◌-◌, ◌*◌, ◌/◌, ◌%◌, ◌^◌, ◌<◌, ◌≤◌, ◌⊎◌, true, if◌then◌else◌, IfSome, IfNone, List, [], ◌∷◌, ◌++◌, take, length, replicate, slice_index, slice_index_or, Option, Some, None}
 use Rattle.std.specs.List.{splice}
 use Rattle.std.specs.Option.{option_and_then}
 use Rattle.page_words.specs.Addresses.{IsUserPage}
@@ -7,6 +7,9 @@ use Rattle.page_words.specs.Words.{is_present, is_writable}
 use Rattle.page_words.specs.FiniteMap as map
 use Rattle.shadow_tables.specs.LongWords.{long_at, long_place, entry_word}
 use Rattle.shadow_tables.specs.Shadow.{Slot, at_page, Translations, Shadow, frame_address}
+use Rattle.shadow_tables.specs.Kernel.{AreKernelWords}
+pub use Rattle.shadow_tables.specs.Needs.{index_at}
+use Rattle.shadow_tables.specs.Needs.{named_within, if_missing}
 use Rattle.shadow_tables.specs.Holdings.{Places, count_of, frame_count, AreHeld, IsTakenBy}
 use Rattle.shadow_tables.specs.declared.tables.Tables.{Tables}
 use Rattle.shadow_tables.specs.declared.tables.Translation.{Translation}
@@ -21,11 +24,7 @@ word_of t frame index = long_at t.bytes.items (long_place frame index)
 
 -- the frame of the pool that a word names, where it names one
 abbrev pub named_by : Tables → ℕ → Option ℕ
-named_by t word = if is_present word && (nat_le (t.pool / 4096) (word / 4096) && nat_lt (word / 4096) (t.pool / 4096 + frames_of t)) then Some (word / 4096 - t.pool / 4096) else None
-
--- the index of a page's word in the table that this many tables lead to
-abbrev pub index_at : ℕ → ℕ → ℕ
-index_at depth page = page / 2 ^ (27 - 9 * depth) % 512
+named_by t word = named_within t.pool (frames_of t) word
 
 -- the bits of a page's number above that index
 abbrev pub prefix_at : ℕ → ℕ → ℕ
@@ -35,6 +34,18 @@ prefix_at depth page = page / 2 ^ (36 - 9 * depth)
 abbrev pub way : Tables → ℕ → ℕ → ℕ → Option ℕ
 way t p page zero = slice_index_or t.roots p None
 way t p page (suc depth) = option_and_then (λ frame. named_by t (word_of t frame (index_at depth page))) (way t p page depth)
+
+-- how many of the four tables for a page are missing
+abbrev pub missing_in : Tables → ℕ → ℕ → ℕ
+missing_in t p page = if_missing (way t p page 0) + if_missing (way t p page 1) + if_missing (way t p page 2) + if_missing (way t p page 3)
+
+-- how many of the five tables that pages of a process share are missing
+abbrev pub shared_in : Tables → ℕ → ℕ
+shared_in t p = if_missing (way t p 0x40000 0) + if_missing (way t p 0x40000 1) + if_missing (way t p 0x40000 2) + if_missing (way t p 0x80000 2) + if_missing (way t p 0xc0000 2)
+
+-- each table that there was leads on as before
+abbrev pub WaysStay : Tables → Tables → Type 0
+WaysStay old new = (q at depth frame : ℕ) → IsUserPage at → depth ≤ 3 → way old q at depth ≡ Some frame → way new q at depth ≡ Some frame
 
 -- the translation in a word
 abbrev pub translation_in : ℕ → ℕ → Option Translation
@@ -108,6 +119,7 @@ pub record IsRoot (places : Places) (t : Tables) (p frame : ℕ) : Type 0 where
 pub record AreBlocks (t : Tables) : Type 0 where
   pub bytes : length t.bytes.items ≡ 4096 * frames_of t
   pub kernel : length t.kernel.items ≡ 2048
+  pub words : AreKernelWords t.kernel.items
   pub roots : length t.roots ≡ 64
   pub pool : t.pool % 4096 ≡ 0
   pub pool_end : t.pool + 4096 * frames_of t ≤ 2 ^ 52
@@ -153,6 +165,7 @@ pub record IsFresh (old : Tables) (p frame : ℕ) (new : Tables) : Type 0 where
 pub record SameTranslations (old new : Tables) : Type 0 where
   pub at : (p page : ℕ) → p < 64 → IsUserPage page → translation_at new p page ≡ translation_at old p page
   pub roots : (p frame : ℕ) → way old p 0 0 ≡ Some frame → way new p 0 0 ≡ Some frame
+  pub ways : WaysStay old new
   pub blocks : SameBlocks old new
 
 -- nothing of other processes changes
@@ -160,19 +173,21 @@ pub record SameOthers (old new : Tables) (p : ℕ) : Type 0 where
   pub roots : (q : ℕ) → q ≢ p → way new q 0 0 ≡ way old q 0 0
   pub counts : (q : ℕ) → q ≢ p → q ≢ 64 → count_of new.holdings q ≡ count_of old.holdings q
 
--- the table for a page is found or made, with at most so many free frames, or there were too few
-pub record IsStep (old : Tables) (p page depth cost : ℕ) (found : Option ℕ) (new : Tables) : Type 0 where
+-- The table for a page is found or made. Each frame that is taken is one less that is missing. If none is found, there were
+-- too few.
+pub record IsStep (old : Tables) (p page depth : ℕ) (found : Option ℕ) (new : Tables) : Type 0 where
   pub process : p < 64
   pub stands : IsShadow new
   pub same : SameTranslations old new
   pub others : SameOthers old new p
   pub way_is : IfSome found (λ frame. way new p page depth ≡ Some frame)
-  pub most : count_of old.holdings 64 ≤ count_of new.holdings 64 + cost
-  pub none : IfNone found ((count_of new.holdings 64 ≡ 0) × (count_of old.holdings 64 < cost))
+  pub spent : count_of old.holdings 64 + missing_in new p page ≡ count_of new.holdings 64 + missing_in old p page
+  pub none : IfNone found (count_of old.holdings 64 < missing_in old p page)
 
 -- the translation of a page is another, or none; no other changes
 pub record IsChanged (old : Tables) (p page : ℕ) (entry : Option Translation) (new : Tables) : Type 0 where
   pub stands : IsShadow new
   pub is : translation_at new p page ≡ entry
   pub others : (q at : ℕ) → q < 64 → IsUserPage at → (q ≡ p → at ≢ page) → translation_at new q at ≡ translation_at old q at
+  pub ways : (q at depth : ℕ) → IsUserPage at → depth ≤ 3 → way new q at depth ≡ way old q at depth
   pub same : SameButBytes old new

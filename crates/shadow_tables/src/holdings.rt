@@ -6,7 +6,7 @@ ghost use Rattle.shadow_tables.specs.Holdings.{Places, with_place, count_of, fra
 use std::alloc::{AllocError, Global};
 
 /// The place in the lists of the free frames.
-const FREE: usize = 64;
+pub(crate) const FREE: usize = 64;
 
 /// For each process the list of its frames, and the list of the free ones.
 #[derive(Drop)]

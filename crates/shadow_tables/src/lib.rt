@@ -5,29 +5,38 @@
 //! translation stale. A caller may forget more at any time. The tables lie in a pool of frames that the caller gives.
 //!
 //! The words are those of the Intel SDM, volume 3, 4-level paging, with 4 KiB pages. Each word has its accessed flag
-//! set beforehand, and its dirty flag if it is writable, so that a processor writes none of them.
+//! set beforehand, and its dirty flag if it is writable, so that a processor writes none of them. That takes CR0.WP.
+//!
+//! Other processors may walk the tables while one is filled. A table is cleared before a word leads to it, and each word
+//! that a walk can reach is written by one store. Of the moments within a call no clause says anything.
 #![tactic(auto)]
 
-ghost use Rattle.std.specs.Prelude.{◌≡◌, ◌≢◌, ℕ, ◌+◌, ◌*◌, ◌%◌, ◌^◌, ◌<◌, ◌≤◌, not, ◌==◌, IfOk, IfErr, IsOk, IsSome, Some, None, length, sum, replicate, slice_set, slice_index};
+ghost use Rattle.std.specs.Prelude.{◌≡◌, ◌≢◌, ℕ, ◌+◌, ◌*◌, ◌%◌, ◌^◌, ◌<◌, ◌≤◌, ◌↔◌, not, ◌==◌, IfOk, IfErr, IsOk, IsSome, Some, None, length, sum, replicate, slice_set, slice_index};
 ghost use Rattle.page_words.specs.FiniteMap as map;
 ghost use Rattle.page_words.specs.Addresses.{IsUserPage};
+ghost use Rattle.shadow_tables.specs.Kernel.{AreKernelWords};
 ghost use Rattle.shadow_tables.specs.Shadow.{at_page, root_frame, root_of, opening, IsFixed};
-ghost use Rattle.shadow_tables.specs.Laws.{WalksAgree, KernelHalves, UserPagesOnly};
+ghost use Rattle.shadow_tables.specs.Needs.{frames_needed, shared_missing};
+ghost use Rattle.shadow_tables.specs.Laws.{WalksAgree, KernelHalves, UpperHalvesAreClosed, UserPagesOnly};
 
+mod halves;
 mod holdings;
 mod tables;
 mod walk;
 
+pub use halves::is_kernel_half;
 use page_words::{Frame, Page, Pid};
 use std::alloc::{AllocError, Global};
 use std::marker::Model;
 use tables::Tables;
-pub use tables::Translation;
+pub use tables::{Full, Translation};
 pub use walk::{LongEnd, long_walk};
 
-/// No frame of the pool is free.
-#[derive(Clone, Copy, Debug, PartialEq, Eq)]
-pub struct Full;
+/// The fewest frames of a pool, for each processor that walks it. An instruction accesses three places at most: its own
+/// bytes, a source and a destination, each in at most two pages. The pages of a process share five tables: its root, the
+/// table below it, and a directory for each of the three GiB of the user range. Each of the six pages needs one more. With
+/// fewer frames, an instruction may fault for ever: each fill forgets what it needs, too.
+pub const LEAST_FRAMES: u32 = 11;
 
 /// The shadow tables of 64 processes.
 #[derive(Drop)]
@@ -52,7 +61,7 @@ impl Model for ShadowTables {
 impl ShadowTables {
     /// Shadow tables in these bytes, which lie at the physical address `pool`, in frames of 4,096 bytes. No process has
     /// a root. Frame 0 of the translations lies at the physical address `block`. Each root gets `kernel` as its upper
-    /// half, as it is.
+    /// half, as it is. `is_kernel_half` tells whether the words of a half are as they are to be.
     pub fn new(
         alloc: Global,
         bytes: Vec<u8>,
@@ -67,6 +76,7 @@ impl ShadowTables {
         requires block { block % 4096 ≡ 0 }
         requires block_end { block + 2 ^ 32 ≤ 2 ^ 52 }
         requires half { length kernel.items ≡ 2048 }
+        requires words { AreKernelWords kernel.items }
         ensures { IfOk result (λ shadow. shadow ≡ opening bytes.items frames pool block kernel.items) }
     {
         Ok(ShadowTables {
@@ -88,27 +98,36 @@ impl ShadowTables {
         self.tables.translation(pid, page)
     }
 
+    /// How many frames of the pool a fill of a user page of a process takes: one for each table on the way to it that is
+    /// missing, at most four.
+    pub fn needed(&self, pid: Pid, page: Page) -> u32
+        requires { IsUserPage page }
+        ensures value { result ≡ frames_needed self.now pid page }
+        ensures most { result ≤ 4 }
+    {
+        self.tables.missing(pid, page)
+    }
+
     /// Enters the translation of a user page of a process, in place of any other. It makes the root and the tables that
-    /// are missing. Full if no frame is left for one; no translation changes then.
+    /// are missing, and takes no other frame. Full if fewer frames are free than that needs; nothing changes then.
     pub fn fill(&mut self, pid: Pid, page: Page, frame: Frame, write: bool) -> Result<(), Full>
         requires user { IsUserPage page }
         requires frame { frame < 2 ^ 20 }
         ensures filled { IfOk result (λ _. self.new.translations
             ≡ map.insert self.old.translations (at_page pid page) (record { frame = frame; write = write })) }
         ensures root { IfOk result (λ _. IsSome (root_of self.new pid)) }
-        ensures full { IfErr result (λ _. self.new.free ≡ 0) }
-        ensures kept { IfErr result (λ _. self.new.translations ≡ self.old.translations) }
-        ensures enough { 4 ≤ self.old.free → IsOk result }
+        ensures enough { IsOk result ↔ (frames_needed self.old pid page ≤ self.old.free) }
+        ensures spent { IfOk result (λ _. self.old.free ≡ self.new.free + frames_needed self.old pid page) }
+        ensures shared { IfOk result (λ _. shared_missing self.new pid + frames_needed self.old pid page
+            ≤ shared_missing self.old pid + 1) }
+        ensures less { (p at : ℕ) → IsUserPage at → frames_needed self.new p at ≤ frames_needed self.old p at }
+        ensures kept { IfErr result (λ _. self.new ≡ self.old) }
         ensures roots { (p frame : ℕ) → root_frame self.old p ≡ Some frame → root_frame self.new p ≡ Some frame }
         ensures others { (p : ℕ) → p ≢ pid → root_frame self.new p ≡ root_frame self.old p }
         ensures taken { (p : ℕ) → p ≢ pid → slice_index self.new.taken p ≡ slice_index self.old.taken p }
         ensures fixed { IsFixed self.old self.new }
     {
-        if self.tables.fill(pid, page, frame, write) {
-            Ok(())
-        } else {
-            Err(Full)
-        }
+        self.tables.fill(pid, page, frame, write)
     }
 
     /// Forgets the translation of a page of a process, if there is one.
@@ -116,6 +135,8 @@ impl ShadowTables {
         ensures translations { self.new.translations ≡ map.remove self.old.translations (at_page pid page) }
         ensures roots { self.new.roots ≡ self.old.roots }
         ensures taken { self.new.taken ≡ self.old.taken }
+        ensures free { self.new.free ≡ self.old.free }
+        ensures needed { (p at : ℕ) → IsUserPage at → frames_needed self.new p at ≡ frames_needed self.old p at }
         ensures fixed { IsFixed self.old self.new }
     {
         self.tables.forget_page(pid, page);
@@ -127,6 +148,7 @@ impl ShadowTables {
             ≡ map.retain_keys self.old.translations (λ slot. not (slot.pid == pid)) }
         ensures roots { self.new.roots ≡ slice_set self.old.roots pid None }
         ensures taken { self.new.taken ≡ slice_set self.old.taken pid 0 }
+        ensures needed { (p at : ℕ) → p ≢ pid → frames_needed self.new p at ≡ frames_needed self.old p at }
         ensures fixed { IsFixed self.old self.new }
     {
         self.tables.forget_process(pid);
@@ -170,10 +192,12 @@ impl ShadowTables {
     }
 
     /// The walk of each address of the lower half ends as the translation of its page says, which is one of the user
-    /// range. The upper half of each root is the kernel's. Each frame is free or taken.
+    /// range. The upper half of each root is the kernel's, through which no walk reaches a page. Each frame is free or
+    /// taken.
     pub fn walks(&self)
         ensures walks { WalksAgree self.now }
         ensures kernel { KernelHalves self.now }
+        ensures closed { UpperHalvesAreClosed self.now }
         ensures user { UserPagesOnly self.now }
         ensures frames { 4096 * (self.now.free + sum self.now.taken) ≡ length self.now.bytes }
     {

@@ -1,15 +1,16 @@
 //! The tables of all processes, as words in the frames of the pool.
-ghost use Rattle.std.specs.Prelude.{◌≡◌, ◌≢◌, ℕ, suc, ◌+◌, ◌*◌, ◌%◌, ◌^◌, ◌<◌, ◌≤◌, not, ◌==◌, IfOk, IfSome, IfNone, IsTrue, IsSome, IsNone, true, false, Some, None, length, replicate, take, slice_set, slice_index_or};
+ghost use Rattle.std.specs.Prelude.{◌≡◌, ◌≢◌, ℕ, suc, ◌+◌, ◌*◌, ◌%◌, ◌^◌, ◌<◌, ◌≤◌, ◌↔◌, not, ◌==◌, IfOk, IfErr, IsOk, IfSome, IfNone, IsTrue, IsSome, IsNone, true, false, Some, None, length, replicate, take, slice_set, slice_index_or};
 ghost use Rattle.std.specs.List.{splice};
 ghost use Rattle.std.specs.Option.{option_map};
 ghost use Rattle.page_words.specs.FiniteMap as map;
 ghost use Rattle.page_words.specs.Addresses.{IsUserPage};
 ghost use Rattle.shadow_tables.specs.LongWords.{entry_word, with_long, long_place};
+ghost use Rattle.shadow_tables.specs.Kernel.{AreKernelWords};
 ghost use Rattle.shadow_tables.specs.Shadow.{at_page, frame_address, opening, IsFixed};
 ghost use Rattle.shadow_tables.specs.Holdings.{count_of, frame_count, AreHeld, IsHeld, opening_places};
-ghost use Rattle.shadow_tables.specs.Tables.{IsShadow, AreBlocks, frames_of, word_of, named_by, index_at, way, translation_in, translations_in, word_for, seen_as, SameButBytes, SameBlocks, SameOthers, IsFresh, IsStep, IsChanged};
+ghost use Rattle.shadow_tables.specs.Tables.{IsShadow, AreBlocks, frames_of, word_of, named_by, index_at, way, missing_in, shared_in, WaysStay, translation_in, translations_in, word_for, seen_as, SameButBytes, SameBlocks, SameOthers, IsFresh, IsStep, IsChanged};
 
-use crate::holdings::Holdings;
+use crate::holdings::{FREE, Holdings};
 use crate::walk::long_at;
 use byteorder::{ByteOrder, LittleEndian};
 use page_words::{Frame, Page, Pid, in_user_range};
@@ -23,6 +24,10 @@ pub struct Translation {
     /// Whether a processor lets writes through.
     pub write: bool,
 }
+
+/// Fewer frames of the pool are free than are needed.
+#[derive(Clone, Copy, Debug, PartialEq, Eq)]
+pub struct Full;
 
 /// The tables of all processes.
 #[derive(Drop)]
@@ -85,6 +90,7 @@ fn opened(bytes: Vec<u8>, holdings: Holdings, pool: u64, block: u64, kernel: Vec
     requires block { block % 4096 ≡ 0 }
     requires block_end { block + 2 ^ 32 ≤ 2 ^ 52 }
     requires half { length kernel.items ≡ 2048 }
+    requires words { AreKernelWords kernel.items }
     ensures stands { IsShadow result }
     ensures seen { seen_as result ≡ opening bytes.items (frame_count holdings) pool block kernel.items }
 {
@@ -114,6 +120,7 @@ impl Tables {
         requires block { block % 4096 ≡ 0 }
         requires block_end { block + 2 ^ 32 ≤ 2 ^ 52 }
         requires half { length kernel.items ≡ 2048 }
+        requires words { AreKernelWords kernel.items }
         ensures stands { IfOk result (λ new. IsShadow new) }
         ensures seen { IfOk result (λ new. seen_as new ≡ opening bytes.items frames pool block kernel.items) }
     {
@@ -160,7 +167,8 @@ impl Tables {
         long_at(&self.bytes, frame as usize * 4096 + index as usize * 8)
     }
 
-    /// Writes the word of an index of a frame.
+    /// Writes the word of an index of a frame, by one store of eight bytes. A processor that walks the tables at the same
+    /// time finds the word before or the word after. That it is one store is no clause's: a test watches it.
     #[tactic(auto, unfolding(crate::specs::LongWords::with_long))]
     fn set_word(&mut self, frame: u32, index: u32, word: u64)
         requires blocks { AreBlocks self.old }
@@ -269,7 +277,7 @@ impl Tables {
     /// The root of a process, which is made where it is missing.
     fn root_for(&mut self, pid: Pid) -> Option<u32>
         requires stands { IsShadow self.old }
-        ensures step { (page : ℕ) → IsStep self.old pid page 0 1 result self.new }
+        ensures step { (page : ℕ) → IsUserPage page → IsStep self.old pid page 0 result self.new }
     {
         if let Some(frame) = self.root(pid) {
             return Some(frame);
@@ -286,7 +294,7 @@ impl Tables {
         requires user { IsUserPage page }
         requires depth { depth < 3 }
         requires way { way self.old pid page depth ≡ Some frame }
-        ensures step { IsStep self.old pid page (suc depth) 1 result self.new }
+        ensures step { IsStep self.old pid page (suc depth) result self.new }
     {
         let index = index_at(depth, page);
         if let Some(below) = self.named(self.word(frame, index)) {
@@ -302,7 +310,7 @@ impl Tables {
     fn table_for(&mut self, pid: Pid, page: Page) -> Option<u32>
         requires stands { IsShadow self.old }
         requires user { IsUserPage page }
-        ensures { IsStep self.old pid page 3 4 result self.new }
+        ensures { IsStep self.old pid page 3 result self.new }
     {
         let root = self.root_for(pid)?;
         let pointers = self.table_below(pid, page, 0, root)?;
@@ -310,27 +318,55 @@ impl Tables {
         self.table_below(pid, page, 2, directory)
     }
 
-    /// Enters the translation of a page, and returns whether there was a frame for each table that was missing.
-    pub fn fill(&mut self, pid: Pid, page: Page, frame: Frame, write: bool) -> bool
+    /// How many of the four tables for a page are missing.
+    pub fn missing(&self, pid: Pid, page: Page) -> u32
+        requires stands { IsShadow self.now }
+        requires user { IsUserPage page }
+        ensures { result ≡ missing_in self.now pid page }
+    {
+        let Some(root) = self.root(pid) else {
+            return 4;
+        };
+        let Some(pointers) = self.named(self.word(root, index_at(0, page))) else {
+            return 3;
+        };
+        let Some(directory) = self.named(self.word(pointers, index_at(1, page))) else {
+            return 2;
+        };
+        match self.named(self.word(directory, index_at(2, page))) {
+            Some(_) => 0,
+            None => 1,
+        }
+    }
+
+    /// Enters the translation of a page, if there is a frame for each table that is missing. Otherwise nothing changes.
+    pub fn fill(&mut self, pid: Pid, page: Page, frame: Frame, write: bool) -> Result<(), Full>
         requires stands { IsShadow self.old }
         requires user { IsUserPage page }
         requires frame { frame < 2 ^ 20 }
-        ensures filled { IsTrue result → translations_in self.new ≡ map.insert (translations_in self.old)
-            (at_page pid page) (record { frame = frame; write = write }) }
-        ensures kept { result ≡ false → translations_in self.new ≡ translations_in self.old }
-        ensures full { result ≡ false → count_of self.new.holdings 64 ≡ 0 }
-        ensures enough { 4 ≤ count_of self.old.holdings 64 → result ≡ true }
-        ensures root { result ≡ true → IsSome (way self.new pid 0 0) }
+        ensures filled { IfOk result (λ _. translations_in self.new ≡ map.insert (translations_in self.old)
+            (at_page pid page) (record { frame = frame; write = write })) }
+        ensures kept { IfErr result (λ _. self.new ≡ self.old) }
+        ensures enough { IsOk result ↔ (missing_in self.old pid page ≤ count_of self.old.holdings 64) }
+        ensures spent { IfOk result (λ _. count_of self.old.holdings 64
+            ≡ count_of self.new.holdings 64 + missing_in self.old pid page) }
+        ensures shared { IfOk result (λ _. shared_in self.new pid + missing_in self.old pid page
+            ≤ shared_in self.old pid + 1) }
+        ensures ways { WaysStay self.old self.new }
+        ensures root { IfOk result (λ _. IsSome (way self.new pid 0 0)) }
         ensures roots { (p frame : ℕ) → way self.old p 0 0 ≡ Some frame → way self.new p 0 0 ≡ Some frame }
         ensures others { SameOthers self.old self.new pid }
         ensures blocks { SameBlocks self.old self.new }
         ensures stands { IsShadow self.new }
     {
+        if self.missing(pid, page) > self.holdings.counts[FREE] {
+            return Err(Full);
+        }
         let Some(table) = self.table_for(pid, page) else {
-            return false;
+            unreachable!()
         };
         self.change(pid, page, table, Some(Translation { frame, write }));
-        true
+        Ok(())
     }
 
     /// Forgets the translation of a page.
@@ -338,6 +374,7 @@ impl Tables {
         requires stands { IsShadow self.old }
         ensures translations { translations_in self.new ≡ map.remove (translations_in self.old) (at_page pid page) }
         ensures same { SameButBytes self.old self.new }
+        ensures missing { (p at : ℕ) → IsUserPage at → missing_in self.new p at ≡ missing_in self.old p at }
         ensures stands { IsShadow self.new }
     {
         if !in_user_range(page) {
@@ -382,6 +419,7 @@ impl Tables {
         ensures roots { self.new.roots ≡ slice_set self.old.roots pid None }
         ensures taken { take 64 self.new.holdings.counts ≡ slice_set (take 64 self.old.holdings.counts) pid 0 }
         ensures bytes { self.new.bytes ≡ self.old.bytes }
+        ensures missing { (p at : ℕ) → p ≢ pid → missing_in self.new p at ≡ missing_in self.old p at }
         ensures blocks { SameBlocks self.old self.new }
         ensures stands { IsShadow self.new }
     {

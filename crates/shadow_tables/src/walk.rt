@@ -15,8 +15,8 @@ pub enum LongEnd {
     Denied,
     /// The processor would first set an accessed or a dirty flag on the way.
     Unmarked,
-    /// A table on the way isn't in the pool, or a word is of another kind: it names a large page, or has a bit from 52
-    /// on.
+    /// A table on the way isn't in the pool, or a word is of a kind that shadow tables don't have: bit 7 is set, or one
+    /// from 52 on. A processor may go on there.
     Foreign,
 }
 

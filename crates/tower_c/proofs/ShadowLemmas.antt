@@ -1,7 +1,7 @@
 -- A fault of a core with shadow tables, in numbers.
-use Rattle.std.proofs.Common.{◌≡◌, ℕ, ◌<◌, ◌≤◌, Bool, Option, Some, inl, inr, refl, ap, sym, subst, ◌∙◌, arith}
+use Rattle.std.proofs.Common.{◌≡◌, ℕ, ◌+◌, Bool, true, false, Option, Some, refl, ap, sym, subst, ◌∙◌}
 use Rattle.std.specs.Prelude.{◌↔◌}
-use Rattle.std.proofs.lemmas.Bool.{cases_lt}
+use Rattle.page_words.specs.Addresses.{page_number}
 use Rattle.table_walk.specs.declared.Access.{Access}
 use Rattle.address_space.specs.Spaces.{byte_at}
 use Rattle.process_table.specs.View.{View}
@@ -10,8 +10,9 @@ use Rattle.kernel_calls.specs.Translations.{ended_by}
 use Rattle.kernel_calls.specs.declared.translations.Ended.{Ended}
 use Rattle.kernel_calls.specs.declared.translations.Ended.TheVariants as end
 use Rattle.kernel_acts.specs.Touched.{touch_of}
+use Rattle.shadow_tables.specs.Needs.{frames_needed}
 use Rattle.shadow_tables.specs.Shadow.{Shadow, IsFixed}
-use Rattle.shadow_core.specs.Paired.{HasFilled, IsStopped, RootsStay, handled_of, left_by}
+use Rattle.shadow_core.specs.Paired.{lacks_frames, HasFilled, IsStopped, RootsStay, handled_of, left_by}
 use Rattle.shadow_core.specs.declared.pairs.Handled.{Handled}
 use Rattle.shadow_core.specs.declared.pairs.Handled.TheVariants.{Filled, Full, Fault, Refused}
 use Rattle.tower_c.specs.Border.{access_of, ended_numbers}
@@ -38,14 +39,14 @@ stopped_number (Fault addr code) e = tt
 stopped_number (Refused cause) e = tt
 
 pub handles : (v : View) (s : Shadow) (p address : ℕ) (write : Bool) (h : Handled) (ended : Ended) (w : View) (u : Shadow)
-    → (h ≡ Full) ↔ (s.free < 4) → (s.free < 4 → (ended ≡ end.Nothing) × (w ≡ v) × (u ≡ s))
-    → (4 ≤ s.free → h ≡ handled_of (answer v.state (touch_of v.state p address (access_of write))))
-    → (4 ≤ s.free → ended ≡ ended_by v (touch_of v.state p address (access_of write)))
-    → (4 ≤ s.free → w.state ≡ next v.state (touch_of v.state p address (access_of write)))
+    → (h ≡ Full) ↔ (lacks_frames s p address ≡ true) → (lacks_frames s p address ≡ true → (ended ≡ end.Nothing) × (w ≡ v) × (u ≡ s))
+    → (lacks_frames s p address ≡ false → h ≡ handled_of (answer v.state (touch_of v.state p address (access_of write))))
+    → (lacks_frames s p address ≡ false → ended ≡ ended_by v (touch_of v.state p address (access_of write)))
+    → (lacks_frames s p address ≡ false → w.state ≡ next v.state (touch_of v.state p address (access_of write)))
     → ((q at : ℕ) → byte_at w.state.spaces q at ≡ byte_at v.state.spaces q at) → (IsStopped h → (w ≡ v) × (u ≡ s))
-    → (h ≡ Filled → HasFilled w (left_by ended s.translations) u p address (access_of write)) → RootsStay s u → IsFixed s u
+    → (h ≡ Filled → HasFilled w (left_by ended s.translations) u p address (access_of write)) → (h ≡ Filled → s.free ≡ u.free + frames_needed s p (page_number address)) → RootsStay s p u → IsFixed s u
     → Handles v s p address write (status_of h) (told_of h) (ended_numbers ended) w u
-handles v s p address write h ended w u full unchanged handled ended_is state bytes stopped filled roots fixed = record {
+handles v s p address write h ended w u full unchanged handled ended_is state bytes stopped filled spent roots fixed = record {
   full = (λ e. full.0 (full_number h e), λ few. ap status_of (full.1 few));
   unchanged = λ few. let all = unchanged few in (all.1, all.2, ap ended_numbers all.0);
   status_is = λ room. ap status_of (handled room);
@@ -57,15 +58,13 @@ handles v s p address write h ended w u full unchanged handled ended_is state by
   filled = λ e.
       let is = filled_number h e in
       subst (λ (x : Ended). HasFilled w (left_by x s.translations) u p address (access_of write)) (ended_is (room is)) (filled is);
+  spent = λ e. spent (filled_number h e);
   roots = roots;
   fixed = fixed;
 }
   where
-    room : h ≡ Filled → 4 ≤ s.free
-    room is = elim (cases_lt s.free 4) [
-      | inl few ↦ absurd (let both = full.1 few in apart h is both)
-      | inr enough ↦ omega (arith, enough)
-    ]
+    room : h ≡ Filled → lacks_frames s p address ≡ false
+    room is = by (lacks_frames s p address) refl
       where
         apart : (h : Handled) → h ≡ Filled → h ≡ Full → ⊥
         apart Filled a b = cc
@@ -73,16 +72,20 @@ handles v s p address write h ended w u full unchanged handled ended_is state by
         apart (Fault addr code) a b = cc
         apart (Refused cause) a b = cc
 
+        by : (b : Bool) → lacks_frames s p address ≡ b → lacks_frames s p address ≡ false
+        by true e = absurd (apart h is (full.1 e))
+        by false e = e
+
 pub handles_as : (v : View) (s : Shadow) (o : Option ℕ) (p address : ℕ) (write : Bool) (access : Access) (h : Handled) (ended : Ended) (status : ℕ) (a : TowerReply) (b : TowerEnded) (w : View) (u : Shadow)
     → Some p ≡ o → access ≡ access_of write → status ≡ status_of h → a ≡ told_of h → b ≡ ended_numbers ended
-    → (h ≡ Full) ↔ (s.free < 4) → (s.free < 4 → (ended ≡ end.Nothing) × (w ≡ v) × (u ≡ s))
-    → (4 ≤ s.free → h ≡ handled_of (answer v.state (touch_of v.state p address access)))
-    → (4 ≤ s.free → ended ≡ ended_by v (touch_of v.state p address access))
-    → (4 ≤ s.free → w.state ≡ next v.state (touch_of v.state p address access))
+    → (h ≡ Full) ↔ (lacks_frames s p address ≡ true) → (lacks_frames s p address ≡ true → (ended ≡ end.Nothing) × (w ≡ v) × (u ≡ s))
+    → (lacks_frames s p address ≡ false → h ≡ handled_of (answer v.state (touch_of v.state p address access)))
+    → (lacks_frames s p address ≡ false → ended ≡ ended_by v (touch_of v.state p address access))
+    → (lacks_frames s p address ≡ false → w.state ≡ next v.state (touch_of v.state p address access))
     → ((q at : ℕ) → byte_at w.state.spaces q at ≡ byte_at v.state.spaces q at) → (IsStopped h → (w ≡ v) × (u ≡ s))
-    → (h ≡ Filled → HasFilled w (left_by ended s.translations) u p address access) → RootsStay s u → IsFixed s u
+    → (h ≡ Filled → HasFilled w (left_by ended s.translations) u p address access) → (h ≡ Filled → s.free ≡ u.free + frames_needed s p (page_number address)) → RootsStay s p u → IsFixed s u
     → HandlesIn v s o address write status a b w u
-handles_as v s o p address write access h ended status a b w u there same number numbers ends_numbers full unchanged handled ended_is state bytes stopped filled roots fixed =
+handles_as v s o p address write access h ended status a b w u there same number numbers ends_numbers full unchanged handled ended_is state bytes stopped filled spent roots fixed =
     subst (λ (o : Option ℕ). HandlesIn v s o address write status a b w u) there
     (subst (λ (n : ℕ). Handles v s p address write n a b w u) (sym number)
     (subst (λ (r : TowerReply). Handles v s p address write (status_of h) r b w u) (sym numbers)
@@ -91,4 +94,4 @@ handles_as v s o p address write access h ended status a b w u there same number
     (λ room. handled room ∙ ap (λ k. handled_of (answer v.state (touch_of v.state p address k))) same)
     (λ room. ended_is room ∙ ap (λ k. ended_by v (touch_of v.state p address k)) same)
     (λ room. state room ∙ ap (λ k. next v.state (touch_of v.state p address k)) same)
-    bytes stopped (λ is. subst (λ (k : Access). HasFilled w (left_by ended s.translations) u p address k) same (filled is)) roots fixed))))
+    bytes stopped (λ is. subst (λ (k : Access). HasFilled w (left_by ended s.translations) u p address k) same (filled is)) spent roots fixed))))

@@ -1,34 +1,40 @@
 -- Shadow tables of a core, in numbers.
-use Rattle.std.specs.Prelude.{◌≡◌, ℕ, ◌+◌, ◌*◌, ◌%◌, ◌^◌, ◌<◌, ◌≤◌, ◌↔◌, ◌==◌, if◌then◌else◌, Bool, Option, Some, None, length, slice_index}
+use Rattle.std.specs.Prelude.{◌≡◌, ℕ, ◌+◌, ◌*◌, ◌%◌, ◌^◌, ◌≤◌, ◌↔◌, ◌==◌, if◌then◌else◌, Bool, true, false, List, Option, Some, None, length, slice_index}
 use Rattle.std.specs.Option.{option_map}
+use Rattle.page_words.specs.Addresses.{page_number}
 use Rattle.page_words.specs.FiniteMap as map
 use Rattle.address_space.specs.Spaces.{byte_at}
 use Rattle.process_table.specs.View.{View}
 use Rattle.kernel_calls.specs.Machine.{answer, next}
-use Rattle.kernel_calls.specs.Translations.{ended_by, Ends}
-use Rattle.kernel_calls.specs.declared.calls.Event.{Event}
+use Rattle.kernel_calls.specs.Translations.{ended_by, is_all_of}
 use Rattle.kernel_calls.specs.declared.translations.Ended.{Ended}
 use Rattle.kernel_calls.specs.declared.translations.Ended.TheVariants as end
 use Rattle.kernel_acts.specs.Touched.{touch_of}
-use Rattle.shadow_tables.specs.Shadow.{Shadow, at_page, root_of, IsFixed}
+use Rattle.shadow_tables.specs.Shadow.{Shadow, at_page, root_frame, root_of, IsFixed}
+use Rattle.shadow_tables.specs.Kernel.{AreKernelWords}
+use Rattle.shadow_tables.specs.Needs.{frames_needed}
 use Rattle.shadow_tables.specs.declared.tables.Translation.{Translation}
-use Rattle.shadow_core.specs.Paired.{IsShadowed, HasFilled, RootsStay, handled_of, left_by}
+use Rattle.shadow_core.specs.Paired.{IsShadowed, lacks_frames, HasFilled, RootsStay, handled_of, left_by}
 use Rattle.shadow_core.specs.declared.pairs.Handled.{Handled}
 use Rattle.shadow_core.specs.declared.pairs.Handled.TheVariants.{Filled, Full, Fault, Refused}
-use Rattle.tower_c.specs.Border.{pid_of, access_of, numbers, no_event, refused_numbers, ends_in, ended_numbers}
+use Rattle.tower_c.specs.Border.{pid_of, access_of, numbers, no_event, refused_numbers, ended_numbers}
 use Rattle.tower_c.specs.declared.numbers.TowerReply.{TowerReply}
 use Rattle.tower_c.specs.declared.numbers.TowerEnded.{TowerEnded}
 use Rattle.tower_c.specs.declared.shadows.TowerTranslation.{TowerTranslation}
 
--- numbers of a pool with these frames at a physical address, of a block at another, and of the half of a root
-pub record ArePlaces (frames pool block half : ℕ) : Type 0 where
-  pub least : 4 ≤ frames
+-- numbers of a pool with these frames at a physical address, and of a block at another; it has what one processor needs
+pub record AreNumbers (frames pool block : ℕ) : Type 0 where
+  pub least : 11 ≤ frames
   pub most : frames ≤ 1048576
   pub pool_begin : pool % 4096 ≡ 0
   pub pool_end : pool + 4096 * frames ≤ 2 ^ 52
   pub block_begin : block % 4096 ≡ 0
   pub block_end : block + 2 ^ 32 ≤ 2 ^ 52
-  pub long : half ≡ 2048
+
+-- half a root, of words that no processor writes, and through which no process reaches anything
+pub record IsHalf (half : List ℕ) : Type 0 where
+  pub long : length half ≡ 2048
+  pub words : AreKernelWords half
 
 -- tables, where there are any, are shadow tables of a core: its walks give each of their translations
 abbrev pub AreShadowed : Option View → Option Shadow → Type 0
@@ -51,19 +57,21 @@ told_of _ = numbers 0 0 0 0
 
 -- a fault of a process was handled
 pub record Handles (v : View) (s : Shadow) (p address : ℕ) (write : Bool) (status : ℕ) (told : TowerReply) (ended : TowerEnded) (w : View) (u : Shadow) : Type 0 where
-  -- nothing changed, exactly if fewer than four frames of the pool were free
-  pub full : (status ≡ 1) ↔ (s.free < 4)
-  pub unchanged : s.free < 4 → (w ≡ v) × (u ≡ s) × (ended ≡ ended_numbers end.Nothing)
+  -- nothing changed, exactly if the fill needs more frames of the pool than were free
+  pub full : (status ≡ 1) ↔ (lacks_frames s p address ≡ true)
+  pub unchanged : lacks_frames s p address ≡ true → (w ≡ v) × (u ≡ s) × (ended ≡ ended_numbers end.Nothing)
   -- otherwise the core made the event
-  pub status_is : 4 ≤ s.free → status ≡ status_of (handled_of (answer v.state (touch_of v.state p address (access_of write))))
-  pub reply : 4 ≤ s.free → told ≡ told_of (handled_of (answer v.state (touch_of v.state p address (access_of write))))
-  pub ended_is : 4 ≤ s.free → ended ≡ ended_numbers (ended_by v (touch_of v.state p address (access_of write)))
-  pub state : 4 ≤ s.free → w.state ≡ next v.state (touch_of v.state p address (access_of write))
+  pub status_is : lacks_frames s p address ≡ false → status ≡ status_of (handled_of (answer v.state (touch_of v.state p address (access_of write))))
+  pub reply : lacks_frames s p address ≡ false → told ≡ told_of (handled_of (answer v.state (touch_of v.state p address (access_of write))))
+  pub ended_is : lacks_frames s p address ≡ false → ended ≡ ended_numbers (ended_by v (touch_of v.state p address (access_of write)))
+  pub state : lacks_frames s p address ≡ false → w.state ≡ next v.state (touch_of v.state p address (access_of write))
   pub bytes : (q at : ℕ) → byte_at w.state.spaces q at ≡ byte_at v.state.spaces q at
   pub stopped : status ≡ 2 → (w ≡ v) × (u ≡ s)
   -- the page's translation is there, and a processor's walk completes the access
   pub filled : status ≡ 0 → HasFilled w (left_by (ended_by v (touch_of v.state p address (access_of write))) s.translations) u p address (access_of write)
-  pub roots : RootsStay s u
+  -- and no more frames are taken than it needs
+  pub spent : status ≡ 0 → s.free ≡ u.free + frames_needed s p (page_number address)
+  pub roots : RootsStay s p u
   pub fixed : IsFixed s u
 
 -- a fault of the process with that number; of any other number nothing changes
@@ -74,6 +82,7 @@ HandlesIn v s None address write status told ended w u = (status ≡ 2) × (told
 -- the translations that are left where these numbers ended some, and the roots where no process is gone
 pub record Forgets (s : Shadow) (ended : Ended) (u : Shadow) : Type 0 where
   pub translations : u.translations ≡ left_by ended s.translations
+  pub roots : (p : ℕ) → is_all_of ended p ≡ false → root_frame u p ≡ root_frame s p
   pub free : s.free ≤ u.free
   pub fixed : IsFixed s u
 

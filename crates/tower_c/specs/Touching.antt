@@ -8,7 +8,7 @@ use Rattle.process_table.specs.View.{View}
 use Rattle.kernel_calls.specs.Translations.{Ends}
 use Rattle.kernel_calls.specs.declared.calls.Event.{Event}
 use Rattle.kernel_acts.specs.Touched.{touch_of}
-use Rattle.tower_c.specs.Border.{access_of, reply_in, state_after, is_carried_out, ends_in, ended_numbers}
+use Rattle.tower_c.specs.Border.{access_of, reply_in, state_after, is_carried_out, ended_in, ends_in, ended_numbers}
 use Rattle.tower_c.specs.declared.numbers.TowerReply.{TowerReply}
 use Rattle.tower_c.specs.declared.numbers.TowerEnded.{TowerEnded}
 
@@ -16,6 +16,11 @@ use Rattle.tower_c.specs.declared.numbers.TowerEnded.{TowerEnded}
 abbrev pub touch_in : State → Option ℕ → ℕ → Bool → Option Event
 touch_in s (Some p) address write = Some (touch_of s p address (access_of write))
 touch_in s None address write = None
+
+-- what that event will end, in numbers: None without a core or a process
+abbrev pub touch_ends : Option View → Option ℕ → ℕ → Bool → Option TowerEnded
+touch_ends (Some v) p address write = ended_in (Some v) (touch_in v.state p address write)
+touch_ends None p address write = None
 
 -- the walk lets the access of the process with that number through
 abbrev pub LetsThrough : View → Option ℕ → ℕ → Bool → Type 0

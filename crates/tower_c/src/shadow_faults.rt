@@ -86,8 +86,8 @@ fn fault(
 /// so that the processor completes the access: 0. `ended` becomes what it ended; whoever caches that invalidates it, and
 /// what was cached of the page that faulted, before anything else is done.
 ///
-/// 1 if fewer than four frames of the pool are free: nothing changed then, and the caller forgets all, or a process, and
-/// repeats. 2 if the core stopped the access: `reply` becomes its fault or its refusal, or no event if the number is no
+/// 1 if the fill needs more frames of the pool than are free: nothing changed then, and the caller forgets all, or a
+/// process, and repeats. 2 if the core stopped the access: `reply` becomes its fault or its refusal, or no event if the number is no
 /// process; nothing changed then. 3 if one of the handles has nothing.
 #[unsafe(no_mangle)]
 pub extern "C" fn tower_shadow_fault(

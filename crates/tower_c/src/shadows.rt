@@ -5,14 +5,14 @@ ghost use Rattle.page_words.specs.FiniteMap as map;
 ghost use Rattle.shadow_tables.specs.Shadow.{opening, IsFixed};
 ghost use Rattle.c_handle.specs.ShadowHandle.{IsTowerShadow};
 ghost use Rattle.tower_c.specs.Border.{given, pid_of};
-ghost use Rattle.tower_c.specs.Shadows.{ArePlaces, Forgets, ended_from, root_in, translation_at, translation_in, free_in, taken_in, pool_in};
+ghost use Rattle.tower_c.specs.Shadows.{AreNumbers, IsHalf, Forgets, ended_from, root_in, translation_at, translation_in, free_in, taken_in, pool_in};
 
 use crate::memory::TowerMemory;
 use crate::numbers::{TowerEnded, pid_from};
 use c_handle::{TowerShadow, put_tables, take_tables};
 use kernel_calls::Ended;
 use page_words::Page;
-use shadow_tables::ShadowTables;
+use shadow_tables::{LEAST_FRAMES, ShadowTables, is_kernel_half};
 use std::alloc::{AllocError, Global};
 
 /// The statuses of an opening.
@@ -24,9 +24,7 @@ const NO_MEMORY: u32 = 2;
 
 const HAS_TABLES: u32 = 3;
 
-/// The fewest frames of a pool, and the most.
-const LEAST: u32 = 4;
-
+/// The most frames of a pool.
 const MOST: u32 = 1048576;
 
 /// The bytes of half a root.
@@ -42,16 +40,23 @@ pub struct TowerTranslation {
     pub write: bool,
 }
 
-/// Whether these are numbers of a pool, a block and half a root.
-fn are_places(frames: u32, pool: u64, block: u64, half: usize) -> bool
-    ensures { IsTrue result ↔ ArePlaces frames pool block half }
+/// Whether these are numbers of a pool and a block.
+fn are_numbers(frames: u32, pool: u64, block: u64) -> bool
+    ensures { IsTrue result ↔ AreNumbers frames pool block }
 {
-    if frames < LEAST || frames > MOST || half != HALF_BYTES {
+    if frames < LEAST_FRAMES || frames > MOST {
         return false;
     }
     let most = (1 << 52) - 4096 * u64::from(frames);
     let places = pool % 4096 == 0 && pool <= most && block % 4096 == 0;
     places && block <= (1 << 52) - (1 << 32)
+}
+
+/// Whether this is half a root of a kernel's.
+fn is_half(half: &[u8]) -> bool
+    ensures { IsTrue result ↔ IsHalf half.now }
+{
+    half.len() == HALF_BYTES && is_kernel_half(half)
 }
 
 /// Shadow tables without a translation, over a pool of zeros.
@@ -62,7 +67,8 @@ fn tables_over(
     block: u64,
     half: &[u8],
 ) -> Result<ShadowTables, AllocError>
-    requires { ArePlaces frames pool block (length half.now) }
+    requires numbers { AreNumbers frames pool block }
+    requires half { IsHalf half.now }
     ensures { IfOk result (λ tables. tables
         ≡ opening (replicate (4096 * frames) 0) frames pool block half.now) }
 {
@@ -73,8 +79,9 @@ fn tables_over(
 
 /// Opens shadow tables without a translation, over a pool of that many frames, which are zeros: 0. They are of any
 /// core. The pool lies at the physical address `pool`, and frame 0 of the core at the physical address `block`. Each
-/// root gets `half` as its upper half. 1 if the numbers are none of a pool, a block and half a root; 2 where there is no
-/// memory; 3 where the handle has tables already. All but 0 leave the handle as it was.
+/// root gets `half` as its upper half. Each word of it that is present has accessed set, and isn't one of user mode.
+/// 1 if the numbers are none of a pool and a block, or the half is none; 2 where there is no memory; 3 where the handle
+/// has tables already. All but 0 leave the handle as it was.
 #[unsafe(no_mangle)]
 pub extern "C" fn tower_shadow_open(
     alloc: Global,
@@ -90,14 +97,14 @@ pub extern "C" fn tower_shadow_open(
     ensures opening { result ≡ 0 → IfSome shadow.new.hold.tables
         (λ tables. tables ≡ opening (replicate (4096 * frames) 0) frames pool block half.now) }
     ensures live { result ≡ 0 → shadow.new.live ≡ true }
-    ensures places { result ≡ 1 ↔ (shadow.old.live ≡ false) × (ArePlaces frames pool block (length half.now) → ⊥) }
+    ensures places { result ≡ 1 ↔ (shadow.old.live ≡ false) × (AreNumbers frames pool block × IsHalf half.now → ⊥) }
     ensures busy { result ≡ 3 ↔ shadow.old.live ≡ true }
     ensures otherwise { result ≢ 0 → shadow.new ≡ shadow.old }
 {
     if shadow.live {
         return HAS_TABLES;
     }
-    if !are_places(frames, pool, block, half.len()) {
+    if !are_numbers(frames, pool, block) || !is_half(half) {
         return BAD_PLACES;
     }
     match tables_over(alloc, frames, pool, block, half) {

@@ -3,7 +3,7 @@
 //! It allocates with `rattle_alloc`, and frees all of it before it ends.
 #![tactic(auto)]
 
-ghost use Rattle.std.specs.Prelude.{◌≡◌, ◌≢◌, ◌↔◌, ◌≤◌, ◌<◌, length, take, drop};
+ghost use Rattle.std.specs.Prelude.{◌≡◌, ◌≢◌, ℕ, ◌↔◌, ◌≤◌, ◌<◌, List, length, take, drop};
 ghost use Rattle.script_film.specs.Film.{IsFilm};
 ghost use Rattle.script_film.specs.declared.ends.End.{End};
 
@@ -32,8 +32,8 @@ fn copy_to_front(from: &[u8], to: &mut [u8])
 
 /// Writes the rows of the film of a script (specs/Rows.antt of script_film), on a machine of so many frames, at the
 /// start of `rows`, and their length to `size`. Returns 0. Otherwise `rows` stays. 1: the number of frames is not 16 to
-/// 4,096. 2: memory ran out. 3: the script has more than 16,777,216 bytes. 4: `rows` is too short; `size` is then the
-/// length that is needed.
+/// 4,096. 2: memory ran out. 3: the script has more than 16,777,216 bytes. 4: the film's rows are longer than `rows`;
+/// `size` is then their length.
 #[unsafe(no_mangle)]
 pub extern "C" fn tower_film(
     alloc: Global,
@@ -47,7 +47,10 @@ pub extern "C" fn tower_film(
     ensures statuses { result ≤ 4 }
     ensures size { result ≡ 1 ↔ (16 ≤ frames → frames ≤ 4096 → ⊥) }
     ensures long { result ≡ 3 ↔ (16 ≤ frames) × (frames ≤ 4096) × (16777216 < length script.now) }
+    ensures fits { result ≡ 0 → size.new ≤ length rows.old }
     ensures short { result ≡ 4 → length rows.old < size.new }
+    ensures needed { result ≡ 4 → (film : List ℕ) × (end : End) × IsFilm frames script.now film end
+        × (length film ≡ size.new) }
     ensures otherwise { result ≢ 0 → rows.new ≡ rows.old }
 {
     let film = match film_of(alloc, frames, script) {

@@ -1,10 +1,11 @@
-use Rattle.std.proofs.Common.{ap, ◌∙◌}
+use Rattle.std.proofs.Common.{ℕ, ap, sym, ◌∙◌, arith}
+use Rattle.page_words.specs.Addresses.{page_number}
 use Rattle.kernel_calls.specs.Translations.{is_all_of}
-use Rattle.shadow_core.proofs.Pairing.{still_ends, shadowed_after, roots_then, touch_keeps_roots}
+use Rattle.shadow_core.proofs.Pairing.{still_ends, shadowed_after, roots_then, touch_keeps_roots, goes_on, has_frames}
 use Rattle.shadow_core.proofs.pairs.handle_fault.Goals as goal
 
-pub returns-then-free_count-lt-LEAST_FREE-clause-ends : goal.returns-then-free_count-lt-LEAST_FREE-clause-ends
-returns-then-free_count-lt-LEAST_FREE-clause-ends c =
+pub returns-then-lacks_frames-clause-ends : goal.returns-then-lacks_frames-clause-ends
+returns-then-lacks_frames-clause-ends c =
     let now = c.stands.ensures in
     still_ends c.args.core.now now.core
 
@@ -16,6 +17,23 @@ fill-requires-clause-shadowed c =
 pub returns-clause-roots : goal.returns-clause-roots
 returns-clause-roots c =
     let v = c.args.core.now in
-    roots_then c.touch-reply.result.1 c.args.shadow.now c.forget.new.shadow c.fill.new.shadow
+    roots_then c.touch-reply.result.1 c.args.shadow.now c.forget.new.shadow c.fill.new.shadow c.args.pid
     (λ q. ap (λ e. is_all_of e q) c.touch-reply.ensures.ended ∙ touch_keeps_roots v v.state c.args.pid c.args.address q c.args.access)
     c.forget.ensures.roots c.fill.ensures.roots
+
+pub fill-requires-clause-room : goal.fill-requires-clause-room
+fill-requires-clause-room c =
+    let v = c.args.core.now in
+    let s = c.args.shadow.now in
+    let user = c.touch-reply.ensures.user (goes_on c.touch-reply.result.0 (sym c.stop_of.ensures ∙ c.in_default.is)) in
+    let none = λ (q : ℕ). ap (λ e. is_all_of e q) c.touch-reply.ensures.ended ∙ touch_keeps_roots v v.state c.args.pid c.args.address q c.args.access in
+    let needed = c.forget.ensures.needed c.args.pid (page_number c.args.address) user (none c.args.pid) in
+    omega (arith, needed, c.forget.ensures.free, has_frames s c.args.pid c.args.address user (sym c.lacks_frames.ensures ∙ c.if-lacks_frames.false))
+
+pub returns-clause-spent : goal.returns-clause-spent
+returns-clause-spent c =
+    let v = c.args.core.now in
+    let user = c.touch-reply.ensures.user (goes_on c.touch-reply.result.0 (sym c.stop_of.ensures ∙ c.in_default.is)) in
+    let none = λ (q : ℕ). ap (λ e. is_all_of e q) c.touch-reply.ensures.ended ∙ touch_keeps_roots v v.state c.args.pid c.args.address q c.args.access in
+    let needed = c.forget.ensures.needed c.args.pid (page_number c.args.address) user (none c.args.pid) in
+    λ _. omega (arith, needed, c.forget.ensures.taken none, c.fill.ensures.spent)

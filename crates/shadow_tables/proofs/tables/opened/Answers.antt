@@ -7,7 +7,7 @@ returns-clause-stands c = opened_stands _ (record {
   held = c.requires.held;
   counts = c.requires.counts;
   roots = refl;
-  blocks = record { bytes = c.requires.size; kernel = c.requires.half; roots = refl; pool = c.requires.pool; pool_end = c.requires.pool_end; block = c.requires.block; block_end = c.requires.block_end };
+  blocks = record { bytes = c.requires.size; kernel = c.requires.half; words = c.requires.words; roots = refl; pool = c.requires.pool; pool_end = c.requires.pool_end; block = c.requires.block; block_end = c.requires.block_end };
 })
 
 pub returns-clause-seen : goal.returns-clause-seen
@@ -15,5 +15,5 @@ returns-clause-seen c = opened_seen _ (record {
   held = c.requires.held;
   counts = c.requires.counts;
   roots = refl;
-  blocks = record { bytes = c.requires.size; kernel = c.requires.half; roots = refl; pool = c.requires.pool; pool_end = c.requires.pool_end; block = c.requires.block; block_end = c.requires.block_end };
+  blocks = record { bytes = c.requires.size; kernel = c.requires.half; words = c.requires.words; roots = refl; pool = c.requires.pool; pool_end = c.requires.pool_end; block = c.requires.block; block_end = c.requires.block_end };
 })

@@ -1,6 +1,6 @@
 use Rattle.std.proofs.Common.{sym, refl, arith}
 use Rattle.shadow_tables.specs.Shadow.{at_page}
-use Rattle.shadow_tables.proofs.WayLemmas.{nothing_after}
+use Rattle.shadow_tables.proofs.WayLemmas.{nothing_after, missing_same}
 use Rattle.shadow_tables.proofs.SlotLemmas.{false_true, translations-remove, remove-out, out_of}
 use Rattle.shadow_tables.proofs.tables.Tables.forget_page.Goals as goal
 
@@ -15,3 +15,7 @@ returns-in_default-clause-translations c =
 
 pub returns-then-not-in_user_range-clause-translations : goal.returns-then-not-in_user_range-clause-translations
 returns-then-not-in_user_range-clause-translations c = remove-out c.args.self.now (at_page c.args.pid c.args.page) (out_of c.args.pid c.args.page (λ user. absurd (false_true (c.if-not-in_user_range.ensures.1 user))))
+
+pub returns-in-Some-clause-missing : goal.returns-in-Some-clause-missing
+returns-in-Some-clause-missing c =
+    λ p at user. missing_same c.args.self.now c.change.new.self p at (λ d deep. c.change.ensures.ways p at d user deep)

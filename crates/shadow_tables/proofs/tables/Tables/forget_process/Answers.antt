@@ -3,9 +3,9 @@ use Rattle.std.specs.Prelude.{◌==◌, slice_set}
 use Rattle.page_words.specs.FiniteMap as map
 use Rattle.shadow_tables.specs.Holdings.{count_of}
 use Rattle.shadow_tables.specs.Tables.{translations_in}
-use Rattle.shadow_tables.proofs.WayLemmas.{nothing_after}
+use Rattle.shadow_tables.proofs.WayLemmas.{nothing_after, missing_same}
 use Rattle.shadow_tables.proofs.SlotLemmas.{translations-forget}
-use Rattle.shadow_tables.proofs.ChangeLemmas.{released_tables, forgetting, tables_left, own_gone, others_stay, taken_front, set_zero}
+use Rattle.shadow_tables.proofs.ChangeLemmas.{released_tables, forgetting, tables_left, own_gone, others_stay, ways_of_others, taken_front, set_zero}
 use Rattle.shadow_tables.proofs.tables.Tables.forget_process.Goals as goal
 
 pub release-requires-clause-held : goal.release-requires-clause-held
@@ -50,3 +50,11 @@ returns-in_default-clause-taken c =
     let none = c.requires.stands.1.rooted c.number-process.result c.number-process.ensures.bound c.in_default.is in
     set_zero t.holdings.counts c.number-process.result c.number-process.ensures.bound none
     ∙ ap (λ p. slice_set (take 64 t.holdings.counts) p 0) c.number-process.ensures.value
+
+pub returns-in-Some-clause-missing : goal.returns-in-Some-clause-missing
+returns-in-Some-clause-missing c =
+    let t = c.args.self.now in
+    let p = c.number-process.result in
+    let v = released_tables t c.release.new.self p in
+    let left = forgetting c.requires.stands.0 t c.release.new.self p c.in-Some.root c.requires.stands.1 c.number-process.ensures.bound c.in-Some.is c.release.ensures in
+    λ q at apart. missing_same t v q at (λ d _. ways_of_others c.requires.stands.0 t v p c.in-Some.root left q at d (λ e. apart (e ∙ c.number-process.ensures.value)))

@@ -27,7 +27,7 @@ returns c =
     let size : length c.put.new.bytes ≡ length u.bytes.items = ap length bytes ∙ length-splice u.bytes.items u.kernel.items (4096 * frame + 2048) (4096 * frame + 4096) (omega arith) room (omega (arith, half)) in
     let over = written_over u.bytes.items c.put.new.bytes u.bytes.len u.bytes.ok.0 size in
     record {
-      step = rooting_step c.requires.stands.0 t u _ p frame (record {
+      step = λ page user. rooting_step c.requires.stands.0 t u _ p frame (record {
         are = are;
         process = c.fresh.ensures.process;
         missing = none;
@@ -37,5 +37,5 @@ returns c =
         holdings = refl;
         bytes = over ∙ bytes;
         roots = ap (λ p. slice_set u.roots p (Some frame)) c.number.ensures.value;
-      });
+      }) page user;
     }

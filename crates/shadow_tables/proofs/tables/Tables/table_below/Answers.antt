@@ -1,10 +1,11 @@
-use Rattle.std.proofs.Common.{◌≡◌, ℕ, ◌<◌, true, length, None, sym, ap, subst, ◌∙◌, arith}
+use Rattle.std.proofs.Common.{◌≡◌, ℕ, suc, ◌<◌, true, length, Option, None, refl, sym, ap, subst, ◌∙◌, arith}
+use Rattle.std.specs.Option.{option_and_then}
 use Rattle.shadow_tables.specs.LongWords.{entry_word}
 use Rattle.shadow_tables.specs.Shadow.{frame_address}
-use Rattle.shadow_tables.specs.Tables.{frames_of, word_of, named_by, index_at, AreBlocks}
-use Rattle.shadow_tables.proofs.WayLemmas.{process_of_way, user_lower, way_inside}
+use Rattle.shadow_tables.specs.Tables.{frames_of, word_of, named_by, index_at, way, AreBlocks, IsStep}
+use Rattle.shadow_tables.proofs.WayLemmas.{process_of_way, missing_past, user_lower, way_inside}
 use Rattle.shadow_tables.proofs.TableLemmas.{Wrote, wrote, cleared, blocks_stay}
-use Rattle.shadow_tables.proofs.StepLemmas.{linking_step}
+use Rattle.shadow_tables.proofs.StepLemmas.{linking_step, none_left}
 use Rattle.shadow_tables.proofs.tables.Tables.table_below.Goals as goal
 
 pub word-requires-clause-inside : goal.word-requires-clause-inside
@@ -50,4 +51,23 @@ returns c =
         wrote = subst X word (subst W index written);
         same = c.set_word.ensures.others;
       });
+    }
+
+pub returns-in_err-below : goal.returns-in_err-below
+returns-in_err-below c =
+    let t = c.args.self.now in
+    let p = c.args.pid in
+    let page = c.args.page in
+    let d = c.args.depth in
+    let table = c.args.frame in
+    let kept = c.in_err-below.ensures.kept refl in
+    let index : c.index_at-index.result ≡ index_at d page = c.index_at-index.ensures.value in
+    let none : named_by t (word_of t table (index_at d page)) ≡ None =
+    ap (λ i. named_by t (word_of t table i)) (sym index) ∙ ap (named_by t) (sym c.word.ensures) ∙ sym c.in_default.ensures.value in
+    let ends : way t p page (suc d) ≡ None = ap (option_and_then (λ f. named_by t (word_of t f (index_at d page)))) c.requires.way ∙ none in
+    let missing = missing_past t p page d table (omega (arith, c.requires.depth)) c.requires.way (λ _. ends) in
+    let process = process_of_way t p page d table c.requires.stands.1.blocks c.requires.way in
+    let P : Option ℕ → Type 0 = λ found. IsStep t p page (suc d) found c.fresh.new.self in
+    record {
+      step = subst P (sym c.from_residual.ensures) (subst (λ v. IsStep t p page (suc d) None v) (sym kept) (none_left t p page (suc d) c.requires.stands process (c.in_err-below.ensures.none refl) (omega (arith, missing, c.requires.depth))));
     }
