@@ -14,6 +14,7 @@
 #include <unistd.h>
 
 #include "expect.h"
+#include "heap.h"
 #include "tower_region_images.h"
 
 enum { FRAMES = TOWER_WIDE_FRAMES, USED = 2560, CHILD = 1, OFFERED = TOWER_OFFERS, SECONDS = 2, BESIDE = 64 << 20 };
@@ -56,10 +57,6 @@ static size_t most_bytes(void) {
     struct rusage usage;
     EXPECT(getrusage(RUSAGE_SELF, &usage) == 0);
     return (size_t)usage.ru_maxrss * 1024;
-}
-
-static void write_all(int file, const uint8_t *bytes, size_t count) {
-    EXPECT(write(file, bytes, count) == (ssize_t)count);
 }
 
 /* Writes the image of a core: its front, then each frame's record. Returns how many records there are. */
@@ -129,6 +126,7 @@ int main(int count, char **words) {
     const size_t size = TOWER_RESTORE_WHOLE_BLOCK_BYTES(FRAMES);
     uint8_t *block = fresh_block(size);
     struct tower tower = TOWER_NONE, other = TOWER_NONE;
+    tower_set_other_heap(&counting_heap); /* for the list of offers that a store makes */
     EXPECT(tower_boot_over(FRAMES, &tower, block, size) == TOWER_BOOTED);
     zeros = zeros_end = NULL;
     fill(&tower);
@@ -152,7 +150,7 @@ int main(int count, char **words) {
     go_on(&other);
     tower_free(&tower);
     tower_free(&other);
-    EXPECT(!tower_holds(block) && !tower_holds(second) && munmap(block, size) == 0 && munmap(second, size) == 0);
+    EXPECT(heap_blocks == 0 && !tower_holds(block) && !tower_holds(second) && munmap(block, size) == 0 && munmap(second, size) == 0);
     fprintf(stderr, "stored in %.3f s, resumed in %.3f s, %zu KiB beside the blocks\n", stored - begun, resumed - again,
             beside / 1024);
     EXPECT(stored - begun + (resumed - again) < SECONDS && beside < BESIDE);
