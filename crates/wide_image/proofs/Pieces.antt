@@ -18,14 +18,14 @@ use Rattle.memory_image.specs.Refusals.{begins, process_fields}
 use Rattle.memory_image.specs.Reading.{process_in}
 use Rattle.memory_image.proofs.FieldLemmas.{none_both, none_each}
 use Rattle.memory_image.proofs.PieceLemmas.{number_spells, take-more}
-use Rattle.memory_image.proofs.ReadingLemmas.{chosen, no_fault, no_bad, or_none, not_less, unmapped, begins_so, records_spelled, process_fits, role_kept, role_owner}
+use Rattle.memory_image.proofs.ReadingLemmas.{chosen, no_fault, no_bad, or_none, not_less, unmapped, begins_so, records_spelled, process_fits, role_kept}
 use Rattle.wide_image.specs.declared.fronts.Front.{Front}
 use Rattle.wide_image.specs.declared.offers.PendingOffer.{PendingOffer}
 use Rattle.wide_image.specs.Faults.{front_fields, bad_field}
 use Rattle.wide_image.specs.Layout.{frames_text, frames_stored}
 use Rattle.wide_image.specs.Offers.{rank_of, IsPending, Rise, offer_bytes}
 use Rattle.wide_image.specs.Pieces.{front_text, IsFront, front_bad, front_fault, Begun, IsBegun, so_far, place_of, wanted, left, next_rank, next_frame, offer_piece, frame_piece, piece_fields, with_offer, with_frame}
-use Rattle.wide_image.specs.Reading.{offer_at, role_at, HasOwner, HasParties}
+use Rattle.wide_image.specs.Reading.{offer_at, role_at}
 use Rattle.wide_image.specs.Wide.{WideImage, IsWhole, Encodes, text}
 use Rattle.wide_image.proofs.FrameTexts.{frames_both, free_text, one_more, stored_both, none_stored, stored_more, blank_both, blank_free, blank_more}
 use Rattle.wide_image.proofs.Kept.{offer_kept, FrameKept, frame_kept}
@@ -117,21 +117,6 @@ module _ (xs : List ℕ) (small : (i : ℕ) → slice_index xs i < 256) (K : Fro
       ∙ (λ i. take 4 xs ++ joined xs 4 4 1548 i)
       ∙ take-more 4 1552 xs
 
--- before any piece
-pub begun_first : (f : Front) → IsFront f → IsBegun (record { front = f; offers = []; roles = []; bytes = [] })
-begun_first f K = record {
-  front = K;
-  offers = record { pending = λ i o h. cc; rise = tt };
-  offers_most = omega arith;
-  offers_first = λ _. refl;
-  inside = omega arith;
-  last = refl;
-  roles = λ i r h. cc;
-  size = refl;
-  blank = tt;
-  stored_most = omega arith;
-}
-
 pub text_first : (f : Front) (xs : List ℕ) → front_text f ≡ xs → so_far (record { front = f; offers = []; roles = []; bytes = [] }) ≡ xs
 unfolding so_far
 text_first f xs h = append-nil (front_text f) ∙ h
@@ -148,11 +133,6 @@ each_offer o K (suc i) p h = cc
 
 module _ (b : Begun) (K : IsBegun b) (bytes : List ℕ) (small : (i : ℕ) → slice_index bytes i < 256) (long : length bytes ≡ 16)
     (more : length b.offers < b.front.offers) (passes : first_failing (offer_piece bytes (next_rank 0 b.offers) (place_of b)) ≡ None) where
-  pub offer_parties : HasParties bytes 0
-  offer_parties =
-      let k = offer_kept (next_rank 0 b.offers) (place_of b) (word_at bytes 0) (word_at bytes 4) (word_at bytes 8) (word_at bytes 12) passes in
-      record { offerer = k.offerer; target = k.target }
-
   offer_spelled : offer_bytes (offer_at bytes 0) ≡ bytes
   offer_spelled =
       let k = offer_kept (next_rank 0 b.offers) (place_of b) (word_at bytes 0) (word_at bytes 4) (word_at bytes 8) (word_at bytes 12) passes in
@@ -209,15 +189,6 @@ module _ (b : Begun) (K : IsBegun b) (bytes : List ℕ) (small : (i : ℕ) → s
 
   kind : (role_bytes (role_at bytes 0) ≡ number (word_at bytes 4) ++ number (word_at bytes 8) ++ number (word_at bytes 12) ++ number (word_at bytes 16)) × IsRole (role_at bytes 0)
   kind = role_kept (place_of b + 4) (word_at bytes 4) (word_at bytes 8) (word_at bytes 12) (word_at bytes 16) kept.role (word_at-lt bytes 16 small)
-
-  pub frame_owner : HasOwner bytes 0
-  frame_owner = role_owner (place_of b + 4) (word_at bytes 4) (word_at bytes 8) (word_at bytes 12) (word_at bytes 16) kept.role
-
-  pub frame_from : length b.roles ≤ word_at bytes 0
-  frame_from = kept.from
-
-  pub frame_inside : word_at bytes 0 < b.front.frames
-  frame_inside = kept.inside
 
   frame_spelled : number (word_at bytes 0) ++ (role_bytes (role_at bytes 0) ++ take 4096 (drop 20 bytes)) ≡ bytes
   frame_spelled = piece bytes small 0 0 0 (omega arith) 0 (omega arith) kind.0 ∙ take_all 4116 bytes (omega arith)

@@ -28,6 +28,6 @@ pub use machines::{StoreFault, copy_frame_record, write_core, write_core_head};
 pub use offers::PendingOffer;
 pub use reader::WideReader;
 pub use reading::read_wide_image;
-pub use streams::{WideReadFault, read_wide_image_from};
+pub use streams::{WideReadFault, fill, read_wide_image_from};
 pub use text_output::WriteFailed;
 pub use writing::write_wide_image;

@@ -27,7 +27,7 @@ pub enum WideReadFault {
 /// Fills a buffer from its front on, as far as the reader has bytes. Returns how many there were.
 ///
 /// ReadFailed if a read answers an error other than an interruption.
-fn fill<R: Read>(reader: &mut R, buffer: &mut [u8]) -> Result<usize, WideReadFault>
+pub fn fill<R: Read>(reader: &mut R, buffer: &mut [u8]) -> Result<usize, WideReadFault>
     ensures length { length buffer.new ≡ length buffer.old }
     ensures most { IfOk result (λ count. count ≤ length buffer.new) }
     ensures bytes { IfOk result (λ count. Consumes (R.remaining reader.old) (R.remaining reader.new)
