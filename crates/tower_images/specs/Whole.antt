@@ -1,4 +1,4 @@
--- Images of version 3 in bytes, and what a check of them is told in numbers.
+-- Images of version 3 in bytes, and the verdict of a check in numbers.
 use Rattle.std.specs.Prelude.{◌≡◌, ◌≢◌, ◌≤◌, ℕ, min, List, Some}
 use Rattle.std.specs.Option.{option_map}
 use Rattle.kernel_calls.specs.declared.calls.Reply.{Reply}

@@ -119,6 +119,7 @@ fn check_named<R: AllocGlobal + Files, O: Write>(rt: &R, name: &str, output: &mu
 }
 
 /// The core of an image, and whether the image is of version 3.
+#[derive(Drop)]
 struct Resumed {
     core: Core,
     whole: bool,
@@ -242,7 +243,7 @@ fn resume_named<R: AllocGlobal + Files, I: Read, O: Write>(
         (O.contents output.new) }
 {
     match core_named(rt, name) {
-        Ok(resumed) => resume_replies(rt.alloc(), resumed.core, input, output),
+        Ok(Resumed { core, .. }) => resume_replies(rt.alloc(), core, input, output),
         Err(answer) => answer,
     }
 }

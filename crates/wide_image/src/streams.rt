@@ -103,9 +103,9 @@ fn end<R: Read>(reader: &mut R) -> Result<(), WideReadFault>
 /// Reads an image of version 3 to the reader's end, piece by piece: no copy of all bytes is kept. Frames that aren't
 /// stored are free, and hold zeros.
 ///
-/// ReadFailed if a read does. The other faults are NotRead: NoMemory if there is no memory for the image; otherwise the first
-/// reason against the bytes by the order in which they are read, so BadLength comes only where they end too early or too
-/// late.
+/// ReadFailed if a read does. The other faults are NotRead. NoMemory: there is no memory for the image. Otherwise it is the
+/// first reason against the bytes, in the order in which they are read. So BadLength comes only where they end too early or
+/// too late.
 pub fn read_wide_image_from<R: Read>(
     alloc: Global,
     reader: &mut R,
