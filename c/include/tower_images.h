@@ -156,6 +156,66 @@ static inline const char *tower_restore_status_name(uint32_t status) {
 TOWER_NODISCARD uint32_t tower_restore(const uint8_t *bytes, size_t byte_count, struct tower *tower,
                                        struct tower_verdict *verdict);
 
+/* ---- Images of version 3: a core of any size, with its pending offers. Free frames are not stored. */
+
+/* How many bytes the record of a frame has. */
+#define TOWER_RECORD_BYTES 4116
+
+/* The statuses of tower_store_front and tower_store_frame. */
+enum tower_store_status {
+    TOWER_STORED = 0,
+    TOWER_STORE_NO_CORE = 1,
+    TOWER_STORE_NO_MEMORY = 2,
+    TOWER_STORE_TOO_SHORT = 3,
+    TOWER_STORE_FREE_FRAME = 4, /* the frame is free, or there is none of that number: it has no record */
+};
+
+/* A status of tower_check_whole and tower_restore_whole: the machine refuses the image's offer `number`, counted from 0.
+ * Of the other statuses these have the same as tower_check_bytes and tower_restore, without TOWER_RESTORE_OLD_WORDS. */
+#define TOWER_OFFER_REFUSED 8
+
+/* The name of a status of tower_store_front and tower_store_frame; "" for a number that is no status. */
+static inline const char *tower_store_status_name(uint32_t status) {
+    switch (status) {
+    case TOWER_STORED: return "Stored";
+    case TOWER_STORE_NO_CORE: return "NoCore";
+    case TOWER_STORE_NO_MEMORY: return "NoMemory";
+    case TOWER_STORE_TOO_SHORT: return "TooShort";
+    case TOWER_STORE_FREE_FRAME: return "FreeFrame";
+    default: return "";
+    }
+}
+
+/* The name of a status of tower_check_whole and tower_restore_whole; "" for a number that is no status. */
+static inline const char *tower_whole_status_name(uint32_t status) {
+    switch (status) {
+    case TOWER_OFFER_REFUSED: return "OfferRefused";
+    case TOWER_RESTORE_OLD_WORDS: return "";
+    default: return tower_restore_status_name(status);
+    }
+}
+
+/* Writes what the image begins with, up to the records of frames, at the start of `bytes`. `size` becomes the number of
+ * bytes that this has, unless the status is TOWER_STORE_NO_CORE or TOWER_STORE_NO_MEMORY; call it with a count of 0 to get
+ * only the size. If the status is not TOWER_STORED, no byte is written. It changes nothing of the core. */
+TOWER_NODISCARD uint32_t tower_store_front(const struct tower *tower, uint8_t *bytes, size_t byte_count, size_t *size);
+
+/* Writes the record of a frame at the start of `bytes`, TOWER_RECORD_BYTES of them. If the status is not TOWER_STORED, no
+ * byte is written. The image of the core is what tower_store_front writes, and then the records of frames 0, 1, 2 and so on
+ * to the last. It changes nothing of the core. */
+TOWER_NODISCARD uint32_t tower_store_frame(const struct tower *tower, uint32_t frame, uint8_t *bytes,
+                                           size_t byte_count);
+
+/* Checks the image of version 3 that bytes encode, and its offers, by a core that is made of it and freed. The verdict is
+ * written as tower_check_bytes writes it; the place of a field past byte 4,294,967,295 is that number. */
+TOWER_NODISCARD uint32_t tower_check_whole(const uint8_t *bytes, size_t byte_count, struct tower_verdict *verdict);
+
+/* Restores a core from the image of version 3 that bytes encode, if the handle has no core: the machine that was stored,
+ * with its offers. With any status but TOWER_RESTORED the handle is unchanged. The verdict is written as
+ * tower_check_whole writes it. The bytes may be a file that is mapped: they are read once, from the front on. */
+TOWER_NODISCARD uint32_t tower_restore_whole(const uint8_t *bytes, size_t byte_count, struct tower *tower,
+                                             struct tower_verdict *verdict);
+
 /* As in tower.h: a program calls these without `_inline`. In place of NULL with a count of 0 they pass the address of
  * an object. */
 TOWER_NODISCARD static inline uint32_t tower_image_inline(const struct tower *tower, uint8_t *bytes, size_t byte_count,
@@ -176,9 +236,37 @@ TOWER_NODISCARD static inline uint32_t tower_restore_inline(const uint8_t *bytes
     return tower_restore(byte_count || bytes ? bytes : &byte, byte_count, tower, verdict);
 }
 
+TOWER_NODISCARD static inline uint32_t tower_store_front_inline(const struct tower *tower, uint8_t *bytes,
+                                                                size_t byte_count, size_t *size) {
+    uint8_t byte = 0;
+    return tower_store_front(tower, byte_count || bytes ? bytes : &byte, byte_count, size);
+}
+
+TOWER_NODISCARD static inline uint32_t tower_store_frame_inline(const struct tower *tower, uint32_t frame,
+                                                                uint8_t *bytes, size_t byte_count) {
+    uint8_t byte = 0;
+    return tower_store_frame(tower, frame, byte_count || bytes ? bytes : &byte, byte_count);
+}
+
+TOWER_NODISCARD static inline uint32_t tower_check_whole_inline(const uint8_t *bytes, size_t byte_count,
+                                                                struct tower_verdict *verdict) {
+    const uint8_t byte = 0;
+    return tower_check_whole(byte_count || bytes ? bytes : &byte, byte_count, verdict);
+}
+
+TOWER_NODISCARD static inline uint32_t tower_restore_whole_inline(const uint8_t *bytes, size_t byte_count,
+                                                                  struct tower *tower, struct tower_verdict *verdict) {
+    const uint8_t byte = 0;
+    return tower_restore_whole(byte_count || bytes ? bytes : &byte, byte_count, tower, verdict);
+}
+
 #define tower_image tower_image_inline
 #define tower_check_bytes tower_check_bytes_inline
 #define tower_restore tower_restore_inline
+#define tower_store_front tower_store_front_inline
+#define tower_store_frame tower_store_frame_inline
+#define tower_check_whole tower_check_whole_inline
+#define tower_restore_whole tower_restore_whole_inline
 
 #ifdef __cplusplus
 }

@@ -36,6 +36,8 @@ KINDS = ["done", "value", "child", "info", "quota", "fault", "refused", "no even
 # How many numbers a reply of each kind has.
 TELLS = [0, 1, 1, 1, 3, 2, 1, 0]
 NO_DIRECTORY = 0xFFFFFFFF
+# How many bytes the record of a frame has, in an image of version 3.
+RECORD = 4116
 
 
 def fields(**kinds):
@@ -193,6 +195,21 @@ def restored(library, image):
     return handle, (status, verdict.number, verdict.clause)
 
 
+def checked_whole(library, image):
+    """As `checked`, of an image of version 3."""
+    verdict = Verdict(77, 78)
+    status = library.tower_check_whole(image, ctypes.c_size_t(len(image)), ctypes.byref(verdict))
+    return status, verdict.number, verdict.clause
+
+
+def restored_whole(library, image):
+    """As `restored`, of an image of version 3."""
+    handle, verdict = Tower(False, None), Verdict(77, 78)
+    told = ctypes.byref(handle), ctypes.byref(verdict)
+    status = library.tower_restore_whole(image, ctypes.c_size_t(len(image)), *told)
+    return handle, (status, verdict.number, verdict.clause)
+
+
 def booted(library, frames):
     """The handle of a core that boots."""
     handle = Tower(False, None)
@@ -226,6 +243,23 @@ class Core:
         asked = ctypes.byref(self.handle), held, ctypes.c_size_t(count), ctypes.byref(length)
         status = self.library.tower_image(*asked)
         return bytes(held) if (status, length.value) == (0, count) else status
+
+    def whole_image(self):
+        """The bytes of its image of version 3: what it begins with, and then the record of each frame."""
+        handle, size, none = ctypes.byref(self.handle), ctypes.c_size_t(0), (ctypes.c_uint8 * 1)()
+        status = self.library.tower_store_front(handle, none, ctypes.c_size_t(0), ctypes.byref(size))
+        front, record = (ctypes.c_uint8 * size.value)(), (ctypes.c_uint8 * RECORD)()
+        again = self.library.tower_store_front(handle, front, size, ctypes.byref(size))
+        if (status, again) != (3, 0):
+            return status, again
+        parts, store = [bytes(front)], self.library.tower_store_frame
+        for frame in range(self.frames):
+            status = store(handle, ctypes.c_uint32(frame), record, ctypes.c_size_t(RECORD))
+            if status == 0:
+                parts.append(bytes(record))
+            elif status != 4:
+                return status
+        return b"".join(parts)
 
     def look(self):
         """Reads all roles, containers and directories."""

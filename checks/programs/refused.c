@@ -11,6 +11,9 @@
 enum { FRAMES = 32, LENGTH = TOWER_IMAGE_LENGTH(FRAMES), NONE = -1 };
 
 static uint8_t image[LENGTH], bytes[LENGTH];
+/* of version 3, with an offer */
+static uint8_t whole[LENGTH], front[LENGTH];
+static size_t whole_length;
 static struct tower tower = TOWER_NONE;
 
 static void need(bool holds, const char *name, const char *what) {
@@ -48,6 +51,21 @@ static uint32_t restore(void) {
     return tower_restore(image, LENGTH, &tower, &verdict);
 }
 
+static uint32_t store_front(void) {
+    size_t size = 0;
+    return tower_store_front(&tower, front, LENGTH, &size);
+}
+
+static uint32_t check_whole(void) {
+    struct tower_verdict verdict = {0};
+    return tower_check_whole(whole, whole_length, &verdict);
+}
+
+static uint32_t restore_whole(void) {
+    struct tower_verdict verdict = {0};
+    return tower_restore_whole(whole, whole_length, &tower, &verdict);
+}
+
 /* A function, what it returns where there is no memory, and whether it makes a core. It returns 0 where it succeeds. */
 static const struct trial {
     const char *name;
@@ -61,13 +79,30 @@ static const struct trial {
     {"tower_check", check, TOWER_CHECK_NO_MEMORY, false},
     {"tower_check_bytes", check_bytes, TOWER_CHECK_NO_MEMORY, false},
     {"tower_restore", restore, TOWER_RESTORE_NO_MEMORY, true},
+    {"tower_store_front", store_front, TOWER_STORE_NO_MEMORY, false},
+    {"tower_check_whole", check_whole, TOWER_CHECK_NO_MEMORY, false},
+    {"tower_restore_whole", restore_whole, TOWER_RESTORE_NO_MEMORY, true},
 };
 
-/* Boots a core for the functions that want one, with a page that was stored to. */
-static void open_core(void) {
-    struct tower_event store = tower_store(0, 0x40000000, 4, 7);
+static bool is_done(struct tower_event event) {
     struct tower_reply reply;
-    need(boot() == TOWER_BOOTED && tower_step(&tower, &store, &reply), "tower_boot", "a core");
+    return tower_step(&tower, &event, &reply) && (reply.kind == TOWER_DONE || reply.kind == TOWER_CHILD);
+}
+
+/* Boots a core for the functions that want one, with a page that was stored to and is offered. */
+static void open_core(void) {
+    need(boot() == TOWER_BOOTED && is_done(tower_store(0, 0x40000000, 4, 7)), "tower_boot", "a core");
+    need(is_done(tower_spawn(0, 3)) && is_done(tower_offer(0, 0x40000, 1, TOWER_READ_ONLY)), "tower_boot", "an offer");
+}
+
+/* Writes the core's image of version 3. */
+static void write_whole(void) {
+    need(tower_store_front(&tower, whole, LENGTH, &whole_length) == TOWER_STORED, "tower_store_front", "an image");
+    for (uint32_t frame = 0; frame < FRAMES; frame++) {
+        uint32_t status = tower_store_frame(&tower, frame, whole + whole_length, LENGTH - whole_length);
+        whole_length += status == TOWER_STORED ? TOWER_RECORD_BYTES : 0;
+        need(status == TOWER_STORED || status == TOWER_STORE_FREE_FRAME, "tower_store_frame", "a record");
+    }
 }
 
 /* Calls it with one allocation refused, and returns whether it got that far. */
@@ -98,6 +133,7 @@ int main(void) {
     open_core();
     need(write_image() == TOWER_IMAGE_WRITTEN, "tower_image", "an image");
     memcpy(image, bytes, LENGTH);
+    write_whole();
     tower_free(&tower);
     for (size_t at = 0; at < sizeof trials / sizeof *trials; at++) {
         long which = 0;

@@ -62,6 +62,16 @@ WRAP(uint32_t, tower_restore,
      (const uint8_t *bytes, size_t count, struct tower *tower, struct tower_verdict *verdict),
      (bytes, count, tower, verdict), note(bytes))
 
+WRAP(uint32_t, tower_store_front, (const struct tower *tower, uint8_t *bytes, size_t count, size_t *size),
+     (tower, bytes, count, size), note(bytes))
+WRAP(uint32_t, tower_store_frame, (const struct tower *tower, uint32_t frame, uint8_t *bytes, size_t count),
+     (tower, frame, bytes, count), note(bytes))
+WRAP(uint32_t, tower_check_whole, (const uint8_t *bytes, size_t count, struct tower_verdict *verdict),
+     (bytes, count, verdict), note(bytes))
+WRAP(uint32_t, tower_restore_whole,
+     (const uint8_t *bytes, size_t count, struct tower *tower, struct tower_verdict *verdict),
+     (bytes, count, tower, verdict), note(bytes))
+
 int main(void) {
     static struct tower tower, other;
     struct tower_reply reply = {0}, stop = {.kind = 99};
@@ -82,8 +92,12 @@ int main(void) {
     EXPECT(tower_image(&tower, NULL, 0, &size) == TOWER_IMAGE_TOO_SHORT && size == TOWER_IMAGE_LENGTH(FRAMES));
     EXPECT(tower_check_bytes(NULL, 0, &verdict) == TOWER_NOT_IMAGE && verdict.clause == TOWER_FAULT_NOT_IMAGE);
     EXPECT(tower_restore(NULL, 0, &other, &verdict) == TOWER_NOT_IMAGE && !other.live);
+    EXPECT(tower_store_front(&tower, NULL, 0, &size) == TOWER_STORE_TOO_SHORT && size == 1556);
+    EXPECT(tower_store_frame(&tower, 0, NULL, 0) == TOWER_STORE_TOO_SHORT);
+    EXPECT(tower_check_whole(NULL, 0, &verdict) == TOWER_NOT_IMAGE && verdict.clause == TOWER_FAULT_NOT_IMAGE);
+    EXPECT(tower_restore_whole(NULL, 0, &other, &verdict) == TOWER_NOT_IMAGE && !other.live);
     EXPECT(tower_run(&tower, &quota, 1, &reply, 1) && reply.kind == TOWER_USAGE && reply.second == 1);
-    EXPECT(calls == 15 && nulls == 0);
+    EXPECT(calls == 19 && nulls == 0);
     tower_free(&tower);
     puts("nulls: NULL with a count of 0 reaches no function of the archives");
     return 0;

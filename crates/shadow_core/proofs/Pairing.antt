@@ -5,6 +5,7 @@ use Rattle.std.specs.Option.{option_map}
 use Rattle.std.proofs.lemmas.Bool.{cases_eq}
 use Rattle.std.proofs.lemmas.List.Sums.{sum_by-cons}
 use Rattle.std.proofs.lemmas.Bool.Decides.{nat_tests}
+use Rattle.std.specs.Option.{option_and_then}
 use Rattle.page_words.specs.Addresses.{page_number, slot_number, index_number, offset_number, IsUserPage}
 use Rattle.page_words.specs.FiniteMap as map
 use Rattle.page_words.specs.FiniteMap.{same}
@@ -25,9 +26,6 @@ use Rattle.kernel_calls.specs.Cleaned.{is_dirty_at}
 use Rattle.kernel_calls.specs.Machine.{answer, completes}
 use Rattle.kernel_acts.specs.Touched.{near, touch_of, AreMarked}
 use Rattle.kernel_acts.specs.Transfers.{load_byte}
-use Rattle.fault_handler.specs.Plans.{plan_at}
-use Rattle.fault_handler.specs.declared.plans.Plan.{Plan}
-use Rattle.fault_handler.specs.declared.plans.Plan.TheVariants as plan
 use Rattle.kernel_calls.specs.Kept.{Serves, ServesCall}
 use Rattle.kernel_calls.specs.declared.calls.Call.{Call}
 use Rattle.kernel_calls.specs.declared.calls.Call.TheVariants as call

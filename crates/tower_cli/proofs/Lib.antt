@@ -1,3 +1,4 @@
 pub mod JobLemmas
 pub mod ValueLemmas
 pub mod CommandLemmas
+pub mod WholeLemmas

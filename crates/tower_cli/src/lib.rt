@@ -4,6 +4,8 @@
 
 mod images;
 mod jobs;
+mod whole;
 
 pub use images::{check_bytes, restore_bytes, write_resumed_image, write_script_image};
 pub use jobs::{Job, job_of};
+pub use whole::{check_whole, restore_whole, write_resumed_whole};

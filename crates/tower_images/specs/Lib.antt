@@ -1,2 +1,3 @@
 pub mod Audits
 pub mod Images
+pub mod Whole

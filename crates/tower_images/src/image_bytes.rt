@@ -41,7 +41,7 @@ fn core_bytes(alloc: Global, core: &Core) -> Option<Vec<u8>>
 }
 
 /// Copies bytes to the front of others.
-fn copy_to_front(from: &[u8], to: &mut [u8])
+pub(crate) fn copy_to_front(from: &[u8], to: &mut [u8])
     requires { length from.now ≤ length to.old }
     ensures front { take (length from.now) to.new ≡ from.now }
     ensures behind { drop (length from.now) to.new ≡ drop (length from.now) to.old }

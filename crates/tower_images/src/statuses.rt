@@ -20,3 +20,7 @@ pub const OLD_WORDS: u32 = 6;
 pub const HAS_CORE: u32 = 1;
 /// The core has more frames than an image.
 pub const TOO_MANY_FRAMES: u32 = 4;
+/// The frame is free, or there is none of that number: it has no record.
+pub const FREE_FRAME: u32 = 4;
+/// The machine refuses an offer of the image.
+pub const OFFER_REFUSED: u32 = 8;

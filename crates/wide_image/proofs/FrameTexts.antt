@@ -36,7 +36,7 @@ pub none_stored : (k : ℕ) → frames_stored (replicate k Free) ≡ 0
 none_stored zero = refl
 none_stored (suc k) = let h = none_stored k in omega (arith, h)
 
-record_text : (f : ℕ) (role : Role) (part : List ℕ) → is_free role ≡ false → frame_text f role part ≡ number f ++ (role_bytes role ++ part)
+pub record_text : (f : ℕ) (role : Role) (part : List ℕ) → is_free role ≡ false → frame_text f role part ≡ number f ++ (role_bytes role ++ part)
 record_text f role part used = ap (λ b. if b then [] else number f ++ (role_bytes role ++ part)) used
 
 -- after free frames, one that isn't

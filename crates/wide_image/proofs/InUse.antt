@@ -15,7 +15,7 @@ use Rattle.address_space.specs.Image as memory
 use Rattle.address_space.specs.Image.{directory_at, word_of, named_by, table_at, present_word, page_word, page_frame, IsCount, IsSoundImage, CellStands, SlotStands, StandsFor}
 use Rattle.address_space.specs.ImageWords.{is_lazy_word, own_frame, IsTableWord}
 use Rattle.process_table.specs.State.{State}
-use Rattle.memory_image.specs.Image.{Image, directory_from}
+use Rattle.memory_image.specs.Image.{directory_from}
 use Rattle.memory_image.specs.Sound.{account_from, shown_by}
 use Rattle.wide_image.specs.InUse.{FreeFramesDoNotMatter}
 use Rattle.process_table.specs.Image as machine

@@ -9,3 +9,4 @@ pub mod Whole
 pub mod InUse
 pub mod Told
 pub mod GatherLemmas
+pub mod Pieces

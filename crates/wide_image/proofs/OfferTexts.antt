@@ -1,5 +1,5 @@
 -- The offers in bytes, and those that are read of them.
-use Rattle.std.proofs.Common.{◌≡◌, ℕ, zero, suc, ◌+◌, ◌*◌, ◌-◌, ◌<◌, ◌≤◌, List, ◌++◌, length, map, take, drop, refl, sym, ap, subst, ◌∙◌, arith, inl, inr, None}
+use Rattle.std.proofs.Common.{◌≡◌, ℕ, zero, suc, ◌+◌, ◌*◌, ◌<◌, ◌≤◌, List, ◌++◌, length, map, take, drop, refl, sym, ap, subst, ◌∙◌, arith, inl, inr, None}
 use Rattle.std.specs.Prelude.{slice_index, ◌==◌}
 use Rattle.std.specs.List.{flat_map, range_with_len}
 use Rattle.std.proofs.lemmas.Bool.{cases_eq}
@@ -16,7 +16,7 @@ use Rattle.wide_image.proofs.Loops.{neither}
 use Rattle.wide_image.proofs.Kept.{OfferKept, offer_kept}
 use Rattle.wide_image.proofs.Records.{four_at}
 
-right_is : (w : ℕ) → w ≤ 1 → right_number (w == 1) ≡ w
+pub right_is : (w : ℕ) → w ≤ 1 → right_number (w == 1) ≡ w
 right_is zero h = refl
 right_is (suc zero) h = refl
 right_is (suc (suc w)) h = absurd (omega arith)

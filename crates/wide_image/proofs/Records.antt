@@ -35,7 +35,7 @@ each_free zero i r h = cc
 each_free (suc k) zero r h = let e : Free ≡ r = cc in subst IsRole e tt
 each_free (suc k) (suc i) r h = each_free k i r h
 
-each_one : (role : Role) → IsRole role → (i : ℕ) (r : Role) → slice_get (role ∷ []) i ≡ Some r → IsRole r
+pub each_one : (role : Role) → IsRole role → (i : ℕ) (r : Role) → slice_get (role ∷ []) i ≡ Some r → IsRole r
 each_one role K zero r h = let e : role ≡ r = cc in subst IsRole e K
 each_one role K (suc i) r h = cc
 
@@ -48,7 +48,7 @@ long_more roles f role low =
 
 module _ (xs : List ℕ) (small : (i : ℕ) → slice_index xs i < 256) (n start count : ℕ) (long : start + 4116 * count ≤ length xs) where
   -- the bytes of one record
-  piece : (at : ℕ) → at + 4116 ≤ length xs → role_bytes (role_at xs at) ≡ number (word_at xs (at + 4)) ++ number (word_at xs (at + 8)) ++ number (word_at xs (at + 12)) ++ number (word_at xs (at + 16))
+  pub piece : (at : ℕ) → at + 4116 ≤ length xs → role_bytes (role_at xs at) ≡ number (word_at xs (at + 4)) ++ number (word_at xs (at + 8)) ++ number (word_at xs (at + 12)) ++ number (word_at xs (at + 16))
       → number (word_at xs at) ++ (role_bytes (role_at xs at) ++ take 4096 (drop (at + 20) xs)) ≡ take 4116 (drop at xs)
   piece at inside kind =
       let numbers = four_at xs small (at + 4) (at + 8) (at + 12) (at + 16) (omega arith) (omega arith) (omega arith) (omega arith) in

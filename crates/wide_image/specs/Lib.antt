@@ -4,6 +4,9 @@ pub mod Wide
 pub mod Codes
 pub mod Faults
 pub mod Reading
+pub mod Pieces
+pub mod Begun
+pub mod Streams
 pub mod InUse
 pub mod Gathered
 pub mod Stored

@@ -1,6 +1,6 @@
 -- The offers and the frames that bytes encode, if they encode some: each field at its place.
-use Rattle.std.specs.Prelude.{◌≡◌, ℕ, ◌+◌, ◌*◌, ◌<◌, ◌≤◌, ◌==◌, ◌⊎◌, List, length, take, drop, map, Option, Some, None, slice_get, slice_index}
-use Rattle.std.specs.List.{range_with_len, flat_map}
+use Rattle.std.specs.Prelude.{◌≡◌, ℕ, ◌+◌, ◌*◌, ◌<◌, ◌≤◌, ◌==◌, ◌⊎◌, List, length, take, drop, map, Some, None, slice_get, slice_index}
+use Rattle.std.specs.List.{range_with_len}
 use Rattle.phys_memory.specs.Bytes.{word_at}
 use Rattle.alloc_table.specs.declared.Role.{Role}
 use Rattle.memory_image.specs.Image.{IsRole}
@@ -9,7 +9,7 @@ use Rattle.wide_image.specs.declared.faults.WideImageFault.{WideImageFault}
 use Rattle.wide_image.specs.declared.faults.WideImageFault.TheVariants.{NoMemory}
 use Rattle.wide_image.specs.declared.offers.PendingOffer.{PendingOffer}
 use Rattle.wide_image.specs.Layout.{frames_text, frames_stored, AreBlank}
-use Rattle.wide_image.specs.Faults.{bad_frame, fault_of}
+use Rattle.wide_image.specs.Faults.{fault_of}
 
 -- the offer at a place
 abbrev pub offer_at : List ℕ → ℕ → PendingOffer

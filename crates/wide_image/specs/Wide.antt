@@ -23,6 +23,10 @@ pub record HasWideFields (w : WideImage) : Type 0 where
   pub today : w.image.version ≡ 2
   pub offers : AreOffers w.offers
 
+-- all before the frames' records: place 0, 4, 8, 12, 1548, 1552 and 1556
+unfoldable pub head_text : WideImage → List ℕ
+head_text w = magic ++ (number 3 ++ (number (frames w.image) ++ (flat_map process_bytes w.image.processes ++ (number (length w.offers) ++ (number (frames_stored w.image.roles) ++ flat_map offer_bytes w.offers)))))
+
 -- place 0, 4, 8, 12, 1548, 1552, 1556, and 1556 and 16 for each offer
 unfoldable pub text : WideImage → List ℕ
 text w = magic ++ (number 3 ++ (number (frames w.image) ++ (flat_map process_bytes w.image.processes ++ (number (length w.offers) ++ (number (frames_stored w.image.roles) ++ (flat_map offer_bytes w.offers ++ frames_text 0 w.image.roles w.image.bytes))))))

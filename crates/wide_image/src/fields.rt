@@ -5,23 +5,27 @@ ghost use Rattle.phys_memory.specs.Bytes.{word_at};
 ghost use Rattle.memory_image.specs.Tests.{first_failing};
 ghost use Rattle.memory_image.specs.Refusals.{role_tests};
 ghost use Rattle.wide_image.specs.Offers.{rank};
-ghost use Rattle.wide_image.specs.Faults.{offer_fields, bad_offer, frame_fields, bad_frame, stored_field, front_fields, frames_place, first_bad, fault_by, fault_with, fault_of};
+ghost use Rattle.wide_image.specs.Pieces.{offer_piece, frame_piece, front_bad, front_fault, front_fault_with};
+ghost use Rattle.wide_image.specs.Faults.{offer_tests, offer_fields, bad_offer, frame_tests, frame_fields, bad_frame, stored_field, front_fields, frames_place, first_bad, fault_by, fault_with, fault_of};
 
 use crate::faults::WideImageFault;
 use crate::offers::rank;
 use memory_image::{bad_in_processes, begins, number_at};
 use page_words::is_wide_frame_count;
 
-/// The place of the first field of an offer that breaks its rule, after offers whose places are below `from`.
-pub(crate) fn bad_in_offer(bytes: &[u8], at: usize, from: u64) -> Option<u64>
-    requires { at + 16 ≤ length bytes.now }
-    ensures { result ≡ first_failing (offer_fields bytes.now from at) }
+/// The place of the first number of an offer that breaks its rule, after offers whose places are below `from`. Its
+/// numbers begin at a place.
+fn bad_in_numbers(
+    place: u64,
+    from: u64,
+    offerer: u32,
+    page: u32,
+    target: u32,
+    right: u32,
+) -> Option<u64>
+    requires { place + 16 < 2 ^ 64 }
+    ensures { result ≡ first_failing (offer_tests from place offerer page target right) }
 {
-    let place = at as u64;
-    let offerer = number_at(bytes, at);
-    let page = number_at(bytes, at + 4);
-    let target = number_at(bytes, at + 8);
-    let right = number_at(bytes, at + 12);
     if offerer >= 64 {
         Some(place)
     } else if page >= 983_040 {
@@ -35,6 +39,38 @@ pub(crate) fn bad_in_offer(bytes: &[u8], at: usize, from: u64) -> Option<u64>
     } else {
         None
     }
+}
+
+/// The place of the first field of the offer in these 16 bytes that breaks its rule. The bytes stand at a place, after
+/// offers whose places are below `from`.
+pub(crate) fn bad_in_offer_piece(piece: &[u8], place: u64, from: u64) -> Option<u64>
+    requires long { 16 ≤ length piece.now }
+    requires place { place + 16 < 2 ^ 64 }
+    ensures { result ≡ first_failing (offer_piece piece.now from place) }
+{
+    bad_in_numbers(
+        place,
+        from,
+        number_at(piece, 0),
+        number_at(piece, 4),
+        number_at(piece, 8),
+        number_at(piece, 12),
+    )
+}
+
+/// The place of the first field of an offer that breaks its rule, after offers whose places are below `from`.
+fn bad_in_offer(bytes: &[u8], at: usize, from: u64) -> Option<u64>
+    requires { at + 16 ≤ length bytes.now }
+    ensures { result ≡ first_failing (offer_fields bytes.now from at) }
+{
+    bad_in_numbers(
+        at as u64,
+        from,
+        number_at(bytes, at),
+        number_at(bytes, at + 4),
+        number_at(bytes, at + 8),
+        number_at(bytes, at + 12),
+    )
 }
 
 /// The place, among all that there can be, of the offer at a place of bytes.
@@ -86,27 +122,64 @@ fn bad_in_role(place: u64, role: u32, pid: u32, slot: u32, count: u32) -> Option
     }
 }
 
-/// The place of the first field of a frame's record that breaks its rule, after records of frames below `from`.
-pub(crate) fn bad_in_frame(bytes: &[u8], frames: u32, from: u64, at: usize) -> Option<u64>
-    requires { at + 20 ≤ length bytes.now }
-    ensures { result ≡ first_failing (frame_fields bytes.now frames from at) }
+/// The place of the first number of a frame's record that breaks its rule, after records of frames below `from`. Its
+/// numbers begin at a place.
+fn bad_in_record(
+    place: u64,
+    frames: u32,
+    from: u64,
+    frame: u32,
+    role: u32,
+    pid: u32,
+    slot: u32,
+    count: u32,
+) -> Option<u64>
+    requires { place + 20 < 2 ^ 64 }
+    ensures { result ≡ first_failing (frame_tests frames from place frame role pid slot count) }
 {
-    let place = at as u64;
-    let frame = number_at(bytes, at);
-    let role = number_at(bytes, at + 4);
     if u64::from(frame) < from || frame >= frames {
         Some(place)
     } else if role == 1 {
         Some(place + 4)
     } else {
-        bad_in_role(
-            place + 4,
-            role,
-            number_at(bytes, at + 8),
-            number_at(bytes, at + 12),
-            number_at(bytes, at + 16),
-        )
+        bad_in_role(place + 4, role, pid, slot, count)
     }
+}
+
+/// The place of the first field of the record in these bytes that breaks its rule. The bytes stand at a place, after
+/// records of frames below `from`.
+pub(crate) fn bad_in_frame_piece(piece: &[u8], frames: u32, from: u64, place: u64) -> Option<u64>
+    requires long { 20 ≤ length piece.now }
+    requires place { place + 20 < 2 ^ 64 }
+    ensures { result ≡ first_failing (frame_piece piece.now frames from place) }
+{
+    bad_in_record(
+        place,
+        frames,
+        from,
+        number_at(piece, 0),
+        number_at(piece, 4),
+        number_at(piece, 8),
+        number_at(piece, 12),
+        number_at(piece, 16),
+    )
+}
+
+/// The place of the first field of a frame's record that breaks its rule, after records of frames below `from`.
+fn bad_in_frame(bytes: &[u8], frames: u32, from: u64, at: usize) -> Option<u64>
+    requires { at + 20 ≤ length bytes.now }
+    ensures { result ≡ first_failing (frame_fields bytes.now frames from at) }
+{
+    bad_in_record(
+        at as u64,
+        frames,
+        from,
+        number_at(bytes, at),
+        number_at(bytes, at + 4),
+        number_at(bytes, at + 8),
+        number_at(bytes, at + 12),
+        number_at(bytes, at + 16),
+    )
 }
 
 /// The number after that of the frame whose record is at a place.
@@ -168,6 +241,48 @@ fn first_bad(bytes: &[u8], frames: u32, offers: u32, stored: u32) -> Option<u64>
         return bad;
     }
     bad_in_frames(bytes, frames, 1556 + 16 * offers as usize, stored)
+}
+
+/// The first field of a front that breaks its rule, where it says that it has so many frames.
+#[tactic(auto, unfolding(crate::specs::Pieces::front_bad))]
+fn front_bad(bytes: &[u8], frames: u32, stored: u32) -> Option<WideImageFault>
+    requires { 1556 ≤ length bytes.now }
+    ensures { result ≡ front_bad bytes.now frames stored }
+{
+    match bad_in_front(bytes, frames, stored) {
+        Some(offset) => Some(WideImageFault::BadField { offset }),
+        None => None,
+    }
+}
+
+/// The first fault of a front, which says that it has so many frames.
+fn front_fault_with(bytes: &[u8], frames: u32) -> Option<WideImageFault>
+    ensures { result ≡ front_fault_with bytes.now frames }
+{
+    if !is_wide_frame_count(frames) {
+        return Some(WideImageFault::BadField { offset: 8 });
+    }
+    if bytes.len() < 1556 {
+        return Some(WideImageFault::BadLength);
+    }
+    front_bad(bytes, frames, number_at(bytes, 1552))
+}
+
+/// Returns the first reason why bytes are no front of an image of version 3, which has 1,556: the reasons of `fault_in`
+/// against these, in its order. It reads none of the bytes after them.
+#[tactic(auto, unfolding(crate::specs::Pieces::front_fault))]
+pub(crate) fn fault_in_front(bytes: &[u8]) -> Option<WideImageFault>
+    ensures { result ≡ front_fault bytes.now }
+{
+    if !begins(bytes) {
+        Some(WideImageFault::NotImage)
+    } else if bytes.len() < 12 {
+        Some(WideImageFault::BadLength)
+    } else if number_at(bytes, 4) != 3 {
+        Some(WideImageFault::BadVersion)
+    } else {
+        front_fault_with(bytes, number_at(bytes, 8))
+    }
 }
 
 /// The first fault of bytes that say they have so many frames, offers and stored frames.

@@ -1,6 +1,6 @@
 //! The frames of an image of version 3, as they are read one after the other.
 
-ghost use Rattle.std.specs.Prelude.{◌≡◌, ◌+◌, ◌-◌, ◌*◌, ◌<◌, ◌≤◌, ◌++◌, ◌∷◌, [], true, None, IfSome, length, replicate, slice_index, ℕ, take, drop};
+ghost use Rattle.std.specs.Prelude.{◌≡◌, ◌+◌, ◌-◌, ◌*◌, ◌<◌, ◌≤◌, ◌++◌, ◌∷◌, [], true, None, IfSome, length, replicate, slice_index, ℕ, take, drop, vec_capacity};
 ghost use Rattle.phys_memory.specs.Bytes.{word_at};
 ghost use Rattle.alloc_table.specs.declared.Role.TheVariants.{Free};
 ghost use Rattle.wide_image.specs.Faults.{bad_frame};
@@ -51,13 +51,16 @@ fn role_at(bytes: &[u8], at: usize) -> Role
 }
 
 /// Fills up with free frames, which hold zeros, to so many. Whether there was memory.
-fn fill_to(roles: &mut Vec<Role>, store: &mut Vec<u8>, frames: u32) -> bool
+pub(crate) fn fill_to(roles: &mut Vec<Role>, store: &mut Vec<u8>, frames: u32) -> bool
     requires most { length roles.old.items ≤ frames }
     requires size { length store.old.items ≡ 4096 * length roles.old.items }
     ensures roles { result ≡ true → roles.new.items
         ≡ roles.old.items ++ replicate (frames - length roles.old.items) Free }
     ensures store { result ≡ true → store.new.items
         ≡ store.old.items ++ replicate (4096 * (frames - length roles.old.items)) 0 }
+    ensures room { frames ≤ vec_capacity roles.old → 4096 * frames ≤ vec_capacity store.old → result ≡ true }
+    ensures more { (vec_capacity roles.old ≤ vec_capacity roles.new) × (vec_capacity store.old
+        ≤ vec_capacity store.new) }
 {
     let count = frames as usize;
     roles.resize(count, Role::Free).is_ok() && store.resize(4096 * count, 0).is_ok()
@@ -77,6 +80,10 @@ fn add_frame(
         ≡ roles.old.items ++ (replicate (frame - length roles.old.items) Free ++ role ∷ []) }
     ensures store { result ≡ true → store.new.items
         ≡ store.old.items ++ (replicate (4096 * (frame - length roles.old.items)) 0 ++ part.now) }
+    ensures room { frame + 1 ≤ vec_capacity roles.old → 4096 * frame + length part.now ≤ vec_capacity store.old
+        → result ≡ true }
+    ensures more { (vec_capacity roles.old ≤ vec_capacity roles.new) × (vec_capacity store.old
+        ≤ vec_capacity store.new) }
 {
     fill_to(roles, store, frame)
         && roles.push(role).is_ok()
@@ -84,7 +91,12 @@ fn add_frame(
 }
 
 /// Adds the frame whose record is at a place. Whether there was memory.
-fn read_frame(roles: &mut Vec<Role>, store: &mut Vec<u8>, bytes: &[u8], at: usize) -> bool
+pub(crate) fn read_frame(
+    roles: &mut Vec<Role>,
+    store: &mut Vec<u8>,
+    bytes: &[u8],
+    at: usize,
+) -> bool
     requires inside { at + 4116 ≤ length bytes.now }
     requires owner { HasOwner bytes.now at }
     requires from { length roles.old.items ≤ word_at bytes.now at }
@@ -94,6 +106,10 @@ fn read_frame(roles: &mut Vec<Role>, store: &mut Vec<u8>, bytes: &[u8], at: usiz
     ensures store { result ≡ true → store.new.items ≡ store.old.items
         ++ (replicate (4096 * (word_at bytes.now at - length roles.old.items)) 0
         ++ take 4096 (drop (at + 20) bytes.now)) }
+    ensures room { word_at bytes.now at + 1 ≤ vec_capacity roles.old
+        → 4096 * (word_at bytes.now at + 1) ≤ vec_capacity store.old → result ≡ true }
+    ensures more { (vec_capacity roles.old ≤ vec_capacity roles.new) × (vec_capacity store.old
+        ≤ vec_capacity store.new) }
 {
     let frame = number_at(bytes, at);
     let role = role_at(bytes, at);
@@ -101,7 +117,7 @@ fn read_frame(roles: &mut Vec<Role>, store: &mut Vec<u8>, bytes: &[u8], at: usiz
 }
 
 /// Each byte is less than 256. It computes nothing.
-fn are_small(bytes: &[u8])
+pub(crate) fn are_small(bytes: &[u8])
     ensures { (i : ℕ) → slice_index bytes.now i < 256 }
 {
     let _ = bytes;

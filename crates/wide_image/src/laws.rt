@@ -1,6 +1,7 @@
 //! Laws of images of version 3. Each is the contract of a function that computes nothing.
 
 ghost use Rattle.wide_image.specs.InUse.{FreeFramesDoNotMatter, MachinesAreRead, TextsTellMachines};
+ghost use Rattle.wide_image.specs.Stored.{PiecesMakeImages};
 
 /// States that what free frames hold is no part of the state that an image represents. It computes nothing.
 pub fn free_frames_do_not_matter()
@@ -17,4 +18,10 @@ pub fn texts_tell_machines()
 /// computes nothing.
 pub fn machines_are_read()
     ensures { MachinesAreRead }
+{}
+
+/// States that what the image of a core begins with and then the records of all its frames, in order, are its image. It
+/// computes nothing.
+pub fn pieces_make_images()
+    ensures { PiecesMakeImages }
 {}

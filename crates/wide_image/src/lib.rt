@@ -5,21 +5,29 @@
 mod faults;
 mod fields;
 mod frames;
+mod fronts;
 mod gathering;
 mod images;
 mod laws;
 mod machines;
 mod offers;
+mod reader;
 mod reading;
+mod streams;
 mod writing;
 
 pub use faults::WideImageFault;
 pub use fields::fault_in;
+pub use fronts::Front;
 pub use gathering::offers_of;
 pub use images::WideImage;
-pub use laws::{free_frames_do_not_matter, machines_are_read, texts_tell_machines};
-pub use machines::{StoreFault, write_core};
+pub use laws::{
+    free_frames_do_not_matter, machines_are_read, pieces_make_images, texts_tell_machines,
+};
+pub use machines::{StoreFault, copy_frame_record, write_core, write_core_head};
 pub use offers::PendingOffer;
+pub use reader::WideReader;
 pub use reading::read_wide_image;
+pub use streams::{WideReadFault, fill, read_wide_image_from};
 pub use text_output::WriteFailed;
 pub use writing::write_wide_image;

@@ -1,17 +1,20 @@
 //! The image of a core, and the core of an image.
 
-ghost use Rattle.std.specs.Prelude.{◌≡◌, IfOk, OnOk, OnErr};
+ghost use Rattle.std.specs.Prelude.{◌≡◌, ◌<◌, ◌≤◌, [], true, false, length, take, drop, IfOk, OnOk, OnErr};
 ghost use Rattle.page_words.specs.FiniteMap as map;
+ghost use Rattle.phys_memory.specs.Bytes.{frame_bytes};
 ghost use Rattle.memory_image.specs.Machine.{IsImageOf};
 ghost use Rattle.memory_image.specs.Sound.{IsSound, StandsFor};
-ghost use Rattle.wide_image.specs.Stored.{StoresMachine, StoresFront};
+ghost use Rattle.wide_image.specs.Stored.{StoresMachine, StoresFront, StoresHead, StoresHeadFront, frame_record};
 
+use crate::frames::part_at;
 use crate::gathering::offers_of;
 use crate::images::WideImage;
 use crate::offers::PendingOffer;
-use crate::writing::write_wide_image;
+use crate::writing::{copy_used, stored_for, write_wide_head, write_wide_image};
 use kernel_calls::Core;
 use memory_image::{ImageRef, NoMemory, core_of, processes_of};
+use page_words::Frame;
 use std::alloc::Global;
 use std::io::Write;
 
@@ -62,4 +65,54 @@ pub fn write_core<W: Write>(alloc: Global, core: &Core, writer: &mut W) -> Resul
         Ok(()) => Ok(()),
         Err(_) => Err(StoreFault::WriteFailed),
     }
+}
+
+/// Writes what the image of a core begins with, of version 3: all before the records of its frames. They follow it frame by
+/// frame, as `copy_frame_record` gives them.
+///
+/// NoMemory if there is no memory for the list of offers. WriteFailed if a write fails.
+pub fn write_core_head<W: Write>(
+    alloc: Global,
+    core: &Core,
+    writer: &mut W,
+) -> Result<(), StoreFault>
+    ensures ok { OnOk result (StoresHead core.now (W.contents writer.old) (W.contents writer.new)) }
+    ensures err { OnErr result (StoresHeadFront core.now (W.contents writer.old) (W.contents writer.new)) }
+{
+    let Ok(offers) = offers_of(alloc, core) else {
+        return Err(StoreFault::NoMemory);
+    };
+    let processes = processes_of(core);
+    let image = ImageRef::of_core(core, &processes);
+    image.within();
+    match write_wide_head(&image, offers.as_slice(), writer) {
+        Ok(()) => Ok(()),
+        Err(_) => Err(StoreFault::WriteFailed),
+    }
+}
+
+/// The bytes of a core's frame.
+fn part_of(core: &Core, frame: Frame) -> &[u8]
+    requires { frame < length core.now.roles }
+    ensures is { result.now ≡ frame_bytes core.now.bytes frame }
+    ensures length { length result.now ≡ 4096 }
+{
+    let _ = core.frames();
+    part_at(core.memory().bytes(), 4096 * frame.0 as usize)
+}
+
+/// Copies the record of a core's frame to the front of bytes, of which there are at least 4,116, and returns true. A free
+/// frame, and a number past the last, has none: then it copies nothing.
+pub fn copy_frame_record(core: &Core, frame: Frame, bytes: &mut [u8]) -> bool
+    requires { 4116 ≤ length bytes.old }
+    ensures record { result ≡ true → take 4116 bytes.new ≡ frame_record core.now frame }
+    ensures behind { result ≡ true → drop 4116 bytes.new ≡ drop 4116 bytes.old }
+    ensures none { result ≡ false → frame_record core.now frame ≡ [] }
+    ensures unwritten { result ≡ false → bytes.new ≡ bytes.old }
+{
+    if frame.0 >= core.frames() || stored_for(core.role(frame)) == 0 {
+        return false;
+    }
+    copy_used(frame.0, core.role(frame), part_of(core, frame), bytes);
+    true
 }

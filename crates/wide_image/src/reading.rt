@@ -17,7 +17,7 @@ use page_words::Page;
 use std::alloc::Global;
 
 /// The offer at a place.
-fn offer_at(bytes: &[u8], at: usize) -> PendingOffer
+pub(crate) fn offer_at(bytes: &[u8], at: usize) -> PendingOffer
     requires inside { at + 16 ≤ length bytes.now }
     requires parties { HasParties bytes.now at }
     ensures { result ≡ offer_at bytes.now at }

@@ -1,13 +1,13 @@
 //! Writing an image of version 3.
 
 ghost use Rattle.std.specs.Prelude.{◌≡◌, ◌+◌, ◌*◌, ◌≤◌, ◌^◌, ◌<◌, ◌++◌, length, take, drop, OnOk, OnErr};
-ghost use Rattle.std.specs.List.{flat_map};
+ghost use Rattle.std.specs.List.{flat_map, splice};
 ghost use Rattle.std.specs.Io.KnownBytes.{Appends};
 ghost use Rattle.memory_image.specs.Spelling.{magic, number, role_bytes};
 ghost use Rattle.text_output.specs.Output.{AppendsFront};
 ghost use Rattle.wide_image.specs.Layout.{frame_text, frames_text, frames_stored, stored};
 ghost use Rattle.wide_image.specs.Offers.{offer_bytes};
-ghost use Rattle.wide_image.specs.Wide.{HasWideFields, text};
+ghost use Rattle.wide_image.specs.Wide.{HasWideFields, head_text, text};
 
 use crate::frames::part_at;
 use crate::offers::PendingOffer;
@@ -46,7 +46,7 @@ fn offer_numbers(offer: &PendingOffer) -> [u32; 4]
 }
 
 /// 0 for a free frame, which isn't stored, and 1 for any other.
-fn stored_for(role: Role) -> u32
+pub(crate) fn stored_for(role: Role) -> u32
     ensures is { result ≡ stored role }
     ensures most { result ≤ 1 }
 {
@@ -188,6 +188,28 @@ fn count_of(offers: &[PendingOffer]) -> u32
     offers.len() as u32
 }
 
+/// Writes what an image of version 3 has before the records of its frames.
+///
+/// WriteFailed if a write fails; a front of it was written then.
+pub(crate) fn write_wide_head<W: Write>(
+    image: &ImageRef<'_>,
+    offers: &[PendingOffer],
+    writer: &mut W,
+) -> Result<(), WriteFailed>
+    requires { HasWideFields (record { image = image.now; offers = offers.now }) }
+    ensures ok { OnOk result (Appends (W.contents writer.old) (W.contents writer.new)
+        (head_text (record { image = image.now; offers = offers.now }))) }
+    ensures err { OnErr result (AppendsFront (W.contents writer.old) (W.contents writer.new)
+        (head_text (record { image = image.now; offers = offers.now }))) }
+{
+    let roles = image.roles();
+    let stored = count_stored(roles);
+    write_front(image.frames(), writer)?;
+    write_processes(image.processes(), writer)?;
+    write_counts(count_of(offers), stored, writer)?;
+    write_offers(offers, writer)
+}
+
 /// Writes an image of version 3, frame by frame: nothing of memory is copied. Free frames aren't written. `read_wide_image`
 /// reads it back.
 ///
@@ -203,11 +225,26 @@ pub fn write_wide_image<W: Write>(
     ensures err { OnErr result (AppendsFront (W.contents writer.old) (W.contents writer.new)
         (text (record { image = image.now; offers = offers.now }))) }
 {
+    write_wide_head(image, offers, writer)?;
     let roles = image.roles();
-    let stored = count_stored(roles);
-    write_front(image.frames(), writer)?;
-    write_processes(image.processes(), writer)?;
-    write_counts(count_of(offers), stored, writer)?;
-    write_offers(offers, writer)?;
     write_frames(roles, image.bytes(), writer)
+}
+
+/// Copies bytes to a place of others.
+fn copy_to(bytes: &mut [u8], place: usize, part: &[u8])
+    requires { place + length part.now ≤ length bytes.old }
+    ensures { bytes.new ≡ splice bytes.old place (place + length part.now) part.now }
+{
+    bytes[place..place + part.len()].copy_from_slice(part);
+}
+
+/// Copies the numbers and the bytes of a frame's record to the front of bytes.
+pub(crate) fn copy_used(frame: u32, role: Role, part: &[u8], bytes: &mut [u8])
+    requires part { length part.now ≡ 4096 }
+    requires long { 4116 ≤ length bytes.old }
+    ensures record { take 4116 bytes.new ≡ number frame ++ (role_bytes role ++ part.now) }
+    ensures behind { drop 4116 bytes.new ≡ drop 4116 bytes.old }
+{
+    copy_to(bytes, 0, &record_of(&frame_numbers(frame, role)));
+    copy_to(bytes, 20, part);
 }

@@ -166,7 +166,7 @@ impl From<NoMemory> for RestoreFault {
 }
 
 /// Returns the result of a check; None if the bytes are no image.
-fn verdict_of(status: u32, raw: raw::Verdict) -> Result<Option<Verdict>, NoMemory> {
+pub(crate) fn verdict_of(status: u32, raw: raw::Verdict) -> Result<Option<Verdict>, NoMemory> {
     match status {
         0 => Ok(Some(Verdict::Sound)),
         2 => Err(NoMemory),
@@ -184,7 +184,7 @@ fn verdict_of(status: u32, raw: raw::Verdict) -> Result<Option<Verdict>, NoMemor
 }
 
 /// Returns why bytes are no image.
-fn fault_of(raw: raw::Verdict) -> ImageFault {
+pub(crate) fn fault_of(raw: raw::Verdict) -> ImageFault {
     match raw.clause {
         1 => ImageFault::NotImage,
         2 => ImageFault::BadLength,

@@ -3,8 +3,9 @@
 //! [`Core`] has all calls and queries of the library that `crates/tower_c` builds. What they do is proved up
 //! to that library's exports (docs/C-LIBRARY.md). This crate turns types into the library's numbers and back. It is not
 //! proved; `cargo test` tests it. The feature `images` adds the images of `crates/tower_images`, their check and
-//! `Core::restore`, and `blocks` cores over blocks of the caller's. The crate's `unsafe` blocks are those of
-//! `src/acts.rs`, `src/core.rs`, `src/memory.rs`, `src/images.rs`, `src/blocks.rs`, `src/heap.rs` and `src/supply.rs`.
+//! `Core::restore`, `streams` adds `Core::save` and `Core::resume`, and `blocks` cores over blocks of the caller's. The
+//! crate's `unsafe` blocks are those of `src/acts.rs`, `src/core.rs`, `src/memory.rs`, `src/images.rs`, `src/streams.rs`,
+//! `src/blocks.rs`, `src/heap.rs` and `src/supply.rs`.
 //!
 //! # Calls
 //!
@@ -191,6 +192,8 @@ mod images;
 mod memory;
 mod numbers;
 mod raw;
+#[cfg(feature = "streams")]
+mod streams;
 #[cfg(any(feature = "heap", feature = "blocks"))]
 mod supply;
 mod text;
@@ -205,6 +208,8 @@ pub use core::{BootFault, Core, UnequalLengths, version};
 pub use images::{CoreImageFault, ImageFault, NoMemory, RestoreFault, Verdict, check_image};
 pub use memory::{Mapped, Pages, Stopped};
 pub use numbers::{NoEvent, Numbers};
+#[cfg(feature = "streams")]
+pub use streams::{ResumeFault, SaveFault};
 pub use words::{
     Access, Call, Cause, Container, Ended, Event, FRAME_BYTES, Failure, Frame, Page, Pid, Reply,
     Role, Size, Vaddr, WalkEnd,

@@ -276,4 +276,22 @@ unsafe extern "C" {
         tower: *mut Tower,
         verdict: *mut Verdict,
     ) -> u32;
+    pub fn tower_store_front(
+        tower: *const Tower,
+        bytes: *mut u8,
+        byte_count: usize,
+        size: *mut usize,
+    ) -> u32;
+    pub fn tower_store_frame(
+        tower: *const Tower,
+        frame: u32,
+        bytes: *mut u8,
+        byte_count: usize,
+    ) -> u32;
+    pub fn tower_restore_whole(
+        bytes: *const u8,
+        byte_count: usize,
+        tower: *mut Tower,
+        verdict: *mut Verdict,
+    ) -> u32;
 }

@@ -1,0 +1,121 @@
+//! Images of version 3 that are read from a reader of std, one piece at a time.
+
+ghost use Rattle.std.specs.Prelude.{◌≡◌, ◌+◌, ◌<◌, ◌≤◌, ◌⊎◌, ◌++◌, IfOk, IfErr, IfSome, OnOk, length, take};
+ghost use Rattle.std.specs.Io.KnownBytes.{Consumes, IsAtEnd};
+ghost use Rattle.wide_image.specs.Pieces.{so_far, wanted, left};
+ghost use Rattle.wide_image.specs.Streams.{ReadsOn, EncodesAll};
+
+use crate::faults::WideImageFault;
+use crate::images::WideImage;
+use crate::reader::WideReader;
+use std::alloc::Global;
+use std::io;
+use std::io::Read;
+use thiserror::Error;
+
+/// Why no image of version 3 was read from a reader.
+#[derive(Clone, Copy, Debug, PartialEq, Eq, Error)]
+pub enum WideReadFault {
+    /// A read answered an error.
+    #[error("read failed")]
+    ReadFailed,
+    /// The bytes are no image, or there was no memory for it.
+    #[error("{0}")]
+    NotRead(WideImageFault),
+}
+
+/// Fills a buffer from its front on, as far as the reader has bytes. Returns how many there were.
+///
+/// ReadFailed if a read answers an error other than an interruption.
+pub fn fill<R: Read>(reader: &mut R, buffer: &mut [u8]) -> Result<usize, WideReadFault>
+    ensures length { length buffer.new ≡ length buffer.old }
+    ensures most { IfOk result (λ count. count ≤ length buffer.new) }
+    ensures bytes { IfOk result (λ count. Consumes (R.remaining reader.old) (R.remaining reader.new)
+        (take count buffer.new)) }
+    ensures end { IfOk result (λ count. count < length buffer.new → IsAtEnd (R.remaining reader.new)) }
+    ensures fault { IfErr result (λ fault. fault ≡ WideReadFault.ReadFailed) }
+{
+    let mut filled = 0;
+    for _ in 0..u64::MAX {
+        if filled >= buffer.len() {
+            return Ok(filled);
+        }
+        match reader.read(&mut buffer[filled..]) {
+            Ok(0) => return Ok(filled),
+            Ok(count) => filled += count,
+            Err(error) => {
+                if error.kind() != io::ErrorKind::Interrupted {
+                    return Err(WideReadFault::ReadFailed);
+                }
+            }
+        }
+    }
+    Err(WideReadFault::ReadFailed)
+}
+
+/// Reads the next piece of an image.
+///
+/// ReadFailed if a read does. Otherwise BadLength if the reader has fewer bytes, and the faults of `WideReader::take`.
+fn take_piece<R: Read>(image: &mut WideReader, reader: &mut R) -> Result<(), WideReadFault>
+    requires { 0 < wanted image.old }
+    ensures read { OnOk result (ReadsOn image.old image.new (R.remaining reader.old) (R.remaining reader.new)) }
+    ensures left { OnOk result (left image.old ≡ left image.new + 1) }
+{
+    let mut piece = [0; 4116];
+    let wanted = image.wants();
+    let read = fill(reader, &mut piece[..wanted])?;
+    if read < wanted {
+        return Err(WideReadFault::NotRead(WideImageFault::BadLength));
+    }
+    match image.take(&piece[..wanted]) {
+        Ok(()) => Ok(()),
+        Err(fault) => Err(WideReadFault::NotRead(fault)),
+    }
+}
+
+/// Begins an image by a reader's first 1,556 bytes.
+///
+/// ReadFailed if a read does. Otherwise the faults of `WideReader::begin`.
+fn begin_from<R: Read>(alloc: Global, reader: &mut R) -> Result<WideReader, WideReadFault>
+    ensures { IfOk result (λ image. Consumes (R.remaining reader.old) (R.remaining reader.new) (so_far image)) }
+{
+    let mut front = [0; 1556];
+    let read = fill(reader, &mut front)?;
+    match WideReader::begin(alloc, &front[..read]) {
+        Ok(image) => Ok(image),
+        Err(fault) => Err(WideReadFault::NotRead(fault)),
+    }
+}
+
+/// That a reader has no byte left.
+///
+/// ReadFailed if the read does, and BadLength if there is one.
+fn end<R: Read>(reader: &mut R) -> Result<(), WideReadFault>
+    ensures { OnOk result (IsAtEnd (R.remaining reader.old)) }
+{
+    let mut byte = [0; 1];
+    match fill(reader, &mut byte)? {
+        0 => Ok(()),
+        _ => Err(WideReadFault::NotRead(WideImageFault::BadLength)),
+    }
+}
+
+/// Reads an image of version 3 to the reader's end, piece by piece: no copy of all bytes is kept. Frames that aren't
+/// stored are free, and hold zeros.
+///
+/// ReadFailed if a read does. The other faults are NotRead. NoMemory: there is no memory for the image. Otherwise it is the
+/// first reason against the bytes, in the order in which they are read. So BadLength comes only where they end too early or
+/// too late.
+pub fn read_wide_image_from<R: Read>(
+    alloc: Global,
+    reader: &mut R,
+) -> Result<WideImage, WideReadFault>
+    ensures { IfOk result (EncodesAll (R.remaining reader.old)) }
+{
+    let mut image = begin_from(alloc, reader)?;
+    while image.wants() > 0 {
+        take_piece(&mut image, reader)?;
+    }
+    end(reader)?;
+    Ok(image.finish())
+}
