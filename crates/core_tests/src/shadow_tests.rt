@@ -55,18 +55,29 @@ fn check_event<R: Abort>(rt: &R, shadowed: &mut ShadowedCore, pid: Pid, call: Ca
     same(rt, &shadowed.event(&event_of(pid, call)).0, &Reply::Done);
 }
 
-/// A core with shadow tables over the least pool.
-fn shadowed_core(alloc: Global) -> Result<ShadowedCore, Fail> {
-    let bytes = vec![in alloc; 0u8; 45056]?;
-    let kernel = vec![in alloc; 0u8; 2048]?;
+/// A core with shadow tables over these bytes, which are the least pool, and this half.
+fn shadowed_over(
+    alloc: Global,
+    core: Core,
+    bytes: Vec<u8>,
+    kernel: Vec<u8>,
+) -> Result<ShadowedCore, Fail> {
     if bytes.len() != 45056 || kernel.len() != 2048 {
         return Err("a vector has another length".into());
     }
     if !is_kernel_half(&kernel) {
-        return Err("no word of the half is present".into());
+        return Err("a word of the half is present".into());
     }
     let shadow = ShadowTables::new(alloc, bytes, LEAST_FRAMES, POOL, BLOCK, kernel)?;
-    Ok(ShadowedCore::new(Core::boot(alloc, 32)?, shadow))
+    Ok(ShadowedCore::new(core, shadow))
+}
+
+/// A core of 32 frames with shadow tables over the least pool.
+fn shadowed_core(alloc: Global) -> Result<ShadowedCore, Fail> {
+    let bytes = vec![in alloc; 0u8; 45056]?;
+    let kernel = vec![in alloc; 0u8; 2048]?;
+    let core = Core::boot(alloc, 32)?;
+    shadowed_over(alloc, core, bytes, kernel)
 }
 
 #[test]

@@ -1,6 +1,6 @@
 -- What an event, a fault and a walk are to a core and its shadow.
 use Rattle.std.proofs.Common.{◌≡◌, ◌≢◌, ℕ, zero, suc, ◌+◌, ◌*◌, ◌%◌, ◌^◌, ◌<◌, ◌≤◌, inl, inr, Bool, true, false, not, cond, List, [], ◌∷◌, length, Option, Some, None, Result, Ok, Err, refl, sym, ap, subst, ◌∙◌, arith}
-use Rattle.std.specs.Prelude.{◌⊎◌, ◌==◌, if◌then◌else◌, ◌&&◌, IsSome, IfSome, sum, slice_set}
+use Rattle.std.specs.Prelude.{slice_get, ◌⊎◌, ◌==◌, if◌then◌else◌, ◌&&◌, IsSome, IfSome, sum, slice_set}
 use Rattle.std.specs.Option.{option_map}
 use Rattle.std.proofs.lemmas.Bool.{cases_eq}
 use Rattle.std.proofs.lemmas.List.Sums.{sum_by-cons}
@@ -45,13 +45,13 @@ use Rattle.kernel_calls.specs.Translations.{translation, IsGiven, WalkGives, End
 use Rattle.kernel_calls.specs.declared.translations.Ended.{Ended}
 use Rattle.kernel_calls.specs.declared.translations.Ended.TheVariants as end
 use Rattle.kernel_calls.proofs.Leaving.{left_read, nothing_ends}
-use Rattle.kernel_calls.specs.Processors.{IsCore}
+use Rattle.kernel_calls.specs.Processors.{IsCore, LetsThrough, LetCall}
 use Rattle.shadow_tables.specs.Laws.{WalksAgree, UpperHalvesAreClosed}
 use Rattle.shadow_tables.specs.Needs.{frames_needed}
 use Rattle.shadow_tables.specs.Shadow.{Shadow, Translations, at_page, slot_order, root_frame, root_of, frame_address, shadow_end}
 use Rattle.shadow_tables.specs.declared.tables.Translation.{Translation}
 use Rattle.shadow_tables.specs.declared.walk.LongEnd.{LongEnd}
-use Rattle.shadow_core.specs.Paired.{kept_at, IsShadowed, left_by, HasEntered, HasFilled, RootsStay, lacks_frames, AreApart, PoolIsOutOfReach, WalksAreTheCores, Reaches, ReachesCall, stop_of, AccessesAreServed, IsServed}
+use Rattle.shadow_core.specs.Paired.{kept_at, IsShadowed, left_by, HasEntered, HasFilled, RootsStay, lacks_frames, AreApart, PoolIsOutOfReach, WalksAreTheCores, Reaches, ReachesCall, AccessesAreKept, stop_of, AccessesAreServed, IsServed}
 
 none_some : {X : Type 0} (x : X) → ◌≡◌ {A = Option X} None (Some x) → ⊥
 none_some x e = cc
@@ -497,4 +497,41 @@ accesses_are_served v s shadowed agree frames e reaches = by e.call reaches
     by : (c : Call) → ReachesCall (record { core = v; shadow = s }) e.pid frames c → ServesCall v e.pid frames c
     by (call.Load addr size) h = each_touched addr size (λ page. Reaches (record { core = v; shadow = s }) e.pid page (frames page) Read) (λ page. Serves v e.pid page (frames page) Read) (λ page. serves_at v s shadowed agree e.pid page (frames page) Read) h
     by (call.Store addr size value) h = each_touched addr size (λ page. Reaches (record { core = v; shadow = s }) e.pid page (frames page) Write) (λ page. Serves v e.pid page (frames page) Write) (λ page. serves_at v s shadowed agree e.pid page (frames page) Write) h
+    by _ h = absurd h
+
+-- ---- Steps
+
+-- what serves an access is there in a list of what is kept
+lets_through : (v : View) (kept : List kept.Kept) (p page frame place : ℕ) (access : Access) → (s : Serves v p page frame access) → slice_get kept place ≡ Some (translation s.kept) → LetsThrough kept p page frame access
+lets_through v kept p page frame place access s there = record {
+  place = place;
+  write = s.kept.write;
+  dirty = s.kept.dirty;
+  there = there ∙ (λ i. Some (translation (record { slot = s.of_page i; frame = s.on_frame i; write = s.kept.write; dirty = s.kept.dirty })));
+  right = s.written;
+}
+
+-- all that serves an access may be kept
+kept_for : (v : View) (p address : ℕ) (size : Size) (frames : ℕ → ℕ) (access : Access) → EachTouched address size (λ page. Serves v p page (frames page) access)
+    → (kept : List kept.Kept) × AreRead v kept × EachTouched address size (λ page. LetsThrough kept p page (frames page) access)
+kept_for v p address size frames access all = by (second_page address size) all.1
+  where
+    one : kept.Kept
+    one = translation all.0.kept
+
+    by : (o : Option ℕ) → IfSome o (λ page. Serves v p page (frames page) access)
+        → (kept : List kept.Kept) × AreRead v kept × (LetsThrough kept p (page_number address) (frames (page_number address)) access × IfSome o (λ page. LetsThrough kept p page (frames page) access))
+    by None h = (one ∷ [], (all.0.given, tt), (lets_through v (one ∷ []) p (page_number address) (frames (page_number address)) 0 access all.0 refl, tt))
+    by (Some page) h =
+        let two = translation h.kept in
+        (one ∷ two ∷ [], (all.0.given, (h.given, tt)),
+        (lets_through v (one ∷ two ∷ []) p (page_number address) (frames (page_number address)) 0 access all.0 refl,
+        lets_through v (one ∷ two ∷ []) p page (frames page) 1 access h refl))
+
+pub accesses_are_kept : (v : View) (s : Shadow) → IsShadowed v s → WalksAgree s → AccessesAreKept (record { core = v; shadow = s })
+accesses_are_kept v s shadowed agree frames e reaches = by e.call (accesses_are_served v s shadowed agree frames e reaches)
+  where
+    by : (c : Call) → ServesCall v e.pid frames c → (kept : List kept.Kept) × AreRead v kept × LetCall kept e.pid frames c
+    by (call.Load addr size) h = kept_for v e.pid addr size frames Read h
+    by (call.Store addr size value) h = kept_for v e.pid addr size frames Write h
     by _ h = absurd h

@@ -1,6 +1,6 @@
 -- A core and shadow tables of it: each translation of the shadow is one that the core's walk gives now.
 use Rattle.std.specs.Prelude.{nat_lt}
-use Rattle.std.proofs.Common.{◌≡◌, ◌≢◌, ℕ, ◌+◌, ◌*◌, ◌^◌, ◌<◌, ◌≤◌, ◌⊎◌, Bool, not, ◌==◌, ◌&&◌, length, Option, Some, None, Ok, refl}
+use Rattle.std.proofs.Common.{◌≡◌, ◌≢◌, ℕ, ◌+◌, ◌*◌, ◌^◌, ◌<◌, ◌≤◌, ◌⊎◌, Bool, not, ◌==◌, ◌&&◌, List, length, Option, Some, None, Ok, refl}
 use Rattle.std.specs.Coded.{Coded, code_by, coded×}
 use Rattle.std.specs.Option.{unwrap_or}
 use Rattle.page_words.specs.Addresses.{is_user_page, page_number, offset_number, start_number, EachTouched}
@@ -17,7 +17,8 @@ use Rattle.kernel_calls.specs.declared.calls.Reply.TheVariants as reply
 use Rattle.kernel_calls.specs.Kept.{ServesEvent}
 use Rattle.kernel_calls.specs.declared.calls.Call.{Call}
 use Rattle.kernel_calls.specs.Translations as kept
-use Rattle.kernel_calls.specs.Translations.{IsGiven, WalkGives}
+use Rattle.kernel_calls.specs.Translations.{Kept, IsGiven, WalkGives, AreRead}
+use Rattle.kernel_calls.specs.Processors.{LetCall}
 use Rattle.kernel_calls.specs.declared.calls.Call.TheVariants as call
 use Rattle.kernel_calls.specs.declared.calls.Event.{Event}
 use Rattle.kernel_calls.specs.declared.translations.Ended.{Ended}
@@ -107,6 +108,11 @@ ReachesCall w p frames _ = ⊥
 -- translations that were kept serve each access that a processor completes through the shadow
 abbrev pub AccessesAreServed : Paired → Type 0
 AccessesAreServed w = (frames : ℕ → ℕ) (e : Event) → ReachesCall w e.pid frames e.call → ServesEvent w.core frames e
+
+-- Walks of the core read translations now that let each such access through: the processor may begin to keep them, and
+-- then makes the access by what it keeps.
+abbrev pub AccessesAreKept : Paired → Type 0
+AccessesAreKept w = (frames : ℕ → ℕ) (e : Event) → ReachesCall w e.pid frames e.call → (kept : List Kept) × AreRead w.core kept × LetCall kept e.pid frames e.call
 
 -- how a fault ends at a reply of the core's that stops the access
 abbrev pub stop_of : Reply → Option Handled

@@ -15,7 +15,7 @@ ghost use Rattle.kernel_acts.specs.Touched.{touch_of};
 ghost use Rattle.page_words.specs.Addresses.{page_number};
 ghost use Rattle.shadow_tables.specs.Needs.{frames_needed};
 ghost use Rattle.shadow_tables.specs.Shadow.{IsFixed, root_frame};
-ghost use Rattle.shadow_core.specs.Paired.{Paired, IsShadowed, left_by, HasFilled, IsStopped, handled_of, lacks_frames, TranslationsAreRead, WalksAreTheCores, PoolIsOutOfReach, AccessesAreServed, RootsStay};
+ghost use Rattle.shadow_core.specs.Paired.{Paired, IsShadowed, left_by, HasFilled, IsStopped, handled_of, lacks_frames, TranslationsAreRead, WalksAreTheCores, PoolIsOutOfReach, AccessesAreServed, AccessesAreKept, RootsStay};
 
 mod pairs;
 
@@ -149,12 +149,14 @@ impl ShadowedCore {
     /// core's walk gives the frame there, now. If the pool and the core's frames lie apart, that is no frame of the pool.
     /// An access that a processor completes through the shadow is served as by
     /// translations that it kept from walks of the core. Such an access is its event, as
-    /// `kernel_calls::kept_translations_serve_accesses` states.
+    /// `kernel_calls::kept_translations_serve_accesses` states. To `shootdowns::shootdowns_make_events` it is a step of a
+    /// processor that first begins to keep what walks of the core read.
     pub fn walks(&self)
         ensures read { TranslationsAreRead self.now }
         ensures walks { WalksAreTheCores self.now }
         ensures apart { PoolIsOutOfReach self.now }
         ensures accesses { AccessesAreServed self.now }
+        ensures steps { AccessesAreKept self.now }
     {
         walks(&self.core, &self.shadow);
     }

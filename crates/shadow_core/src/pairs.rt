@@ -14,7 +14,7 @@ ghost use Rattle.kernel_acts.specs.Touched.{touch_of, AreMarked};
 ghost use Rattle.shadow_tables.specs.Shadow.{IsFixed, root_frame};
 ghost use Rattle.shadow_core.specs.Paired.{IsShadowed, kept_at, left_by, lacks_frames, stop_of, handled_of, IsStopped, HasFilled, RootsStay};
 ghost use Rattle.shadow_tables.specs.Needs.{frames_needed};
-ghost use Rattle.shadow_core.specs.Paired.{TranslationsAreRead, WalksAreTheCores, PoolIsOutOfReach, AccessesAreServed};
+ghost use Rattle.shadow_core.specs.Paired.{TranslationsAreRead, WalksAreTheCores, PoolIsOutOfReach, AccessesAreServed, AccessesAreKept};
 
 use kernel_acts::touch;
 use kernel_calls::{Core, Ended, Event, Reply};
@@ -248,13 +248,15 @@ pub fn handle_fault(
 /// Walks of the core read all that the shadow keeps. Where a processor's walk of the shadow reaches a page, the core's
 /// walk gives the frame there, now. If the pool and the core's frames lie apart, that is no frame of the pool. An access that a processor completes through the shadow is served as by translations
 /// that it kept from walks of the core. Such an access is its event, as
-/// `kernel_calls::kept_translations_serve_accesses` states.
+/// `kernel_calls::kept_translations_serve_accesses` states. To `shootdowns::shootdowns_make_events` it is a step of a
+/// processor that first begins to keep what walks of the core read.
 pub fn walks(core: &Core, shadow: &ShadowTables)
     requires { IsShadowed core.now shadow.now }
     ensures read { TranslationsAreRead (record { core = core.now; shadow = shadow.now }) }
     ensures walks { WalksAreTheCores (record { core = core.now; shadow = shadow.now }) }
     ensures apart { PoolIsOutOfReach (record { core = core.now; shadow = shadow.now }) }
     ensures accesses { AccessesAreServed (record { core = core.now; shadow = shadow.now }) }
+    ensures steps { AccessesAreKept (record { core = core.now; shadow = shadow.now }) }
 {
     shadow.walks();
     let _frames = core.frames();

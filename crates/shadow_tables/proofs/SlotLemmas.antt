@@ -70,13 +70,6 @@ pub get-out : (t : Tables) (q : Slot) → IsOut q → map.get (translations_in t
 unfolding translations_in
 get-out t q out = get-collect slot_order (translation_of t) (user_slots 64) q ∙ ap (λ b. cond b (translation_of t q) None) (any-user_out q 64 out)
 
--- the same translation of each user page
-pub same_translations : (t v : Tables) → ((p page : ℕ) → p < 64 → IsUserPage page → translation_at v p page ≡ translation_at t p page) → translations_in v ≡ translations_in t
-same_translations t v same = same_map _ _ (λ q. elim (slot_cases q) [
-  | inl user ↦ get-user v q user.0 user.1 ∙ same q.pid q.page user.0 user.1 ∙ sym (get-user t q user.0 user.1)
-  | inr out ↦ get-out v q out ∙ sym (get-out t q out)
-])
-
 -- all but one
 others_same : (t v : Tables) (p page : ℕ) (q : Slot) → ((r at : ℕ) → r < 64 → IsUserPage at → (r ≡ p → at ≢ page) → translation_at v r at ≡ translation_at t r at)
     → q ≢ at_page p page → map.get (translations_in v) q ≡ map.get (translations_in t) q

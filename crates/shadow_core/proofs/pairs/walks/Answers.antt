@@ -1,4 +1,4 @@
-use Rattle.shadow_core.proofs.Pairing.{walks_are_the_cores, out_of_reach, accesses_are_served}
+use Rattle.shadow_core.proofs.Pairing.{walks_are_the_cores, out_of_reach, accesses_are_served, accesses_are_kept}
 use Rattle.shadow_core.proofs.pairs.walks.Goals as goal
 
 pub returns-clause-walks : goal.returns-clause-walks
@@ -12,6 +12,9 @@ returns-clause-apart c =
 
 pub returns-clause-accesses : goal.returns-clause-accesses
 returns-clause-accesses c = accesses_are_served c.args.core.now c.args.shadow.now c.requires c.walks.ensures.walks
+
+pub returns-clause-steps : goal.returns-clause-steps
+returns-clause-steps c = accesses_are_kept c.args.core.now c.args.shadow.now c.requires c.walks.ensures.walks
 
 pub returns-clause-read : goal.returns-clause-read
 returns-clause-read c = c.requires.given
