@@ -212,7 +212,7 @@ static const char *await_report(struct engine *it, uint64_t until, struct report
         }
     }
     *report = it->channel->report;
-    atomic_thread_fence(memory_order_seq_cst); /* it is read once: it may change at any time */
+    atomic_signal_fence(memory_order_seq_cst); /* it is read once: it may change at any time */
     return NULL;
 }
 

@@ -77,13 +77,14 @@ static void on_tick(int number) {
 }
 
 /* An access that the host's page tables stopped, in the middle of an instruction of the emulator's: it is then repeated. Only
- * memory and the host's calls are used here. Any other fault ends the process, since the signal is blocked. */
+ * memory and the host's calls are used here. Any other fault ends the process: it is made again, while its signal is blocked. */
 static void on_fault(int number, siginfo_t *fault, void *context) {
-    uint64_t address = (uint64_t)(uintptr_t)fault->si_addr - WINDOW;
+    volatile char *at = fault->si_addr;
+    uint64_t address = (uint64_t)(uintptr_t)at - WINDOW;
     bool is_store = ((ucontext_t *)context)->uc_mcontext.gregs[REG_ERR] & 2;
     (void)number;
     if (address >> 12 < TOWER_FIRST_PAGE || address >> 12 > TOWER_LAST_PAGE) {
-        *(volatile char *)fault->si_addr = 0;
+        *at = is_store ? 0 : *at;
     }
     /* The emulator reads a block's instructions once EIP is there. */
     bool is_fetch = address - processor_eip(processor) < PAGE_BYTES;
