@@ -19,7 +19,6 @@ use Rattle.command_answers.specs.declared.answers.Answer.TheVariants.{Done, NotS
 use Rattle.command_answers.specs.declared.faults.ToolFault.{ToolFault}
 use Rattle.command_answers.specs.declared.faults.ToolFault.TheVariants as tool
 use Rattle.tower_cli.specs.Images.{Checks, EndsCheck, EndsImage, EndsRestore, IsWhole, Restores, WritesImage}
-use Rattle.tower_cli.specs.Whole.{ChecksWhole, EndsCheckWhole, EndsWhole, IsFileFault, RestoresWhole, WritesWhole}
 use Rattle.tower_cli.specs.Jobs.{Asked, a_run, an_image, a_check, a_resume, a_resumed_image, a_race, job_asked, tower_app}
 use Rattle.tower_jobs.specs.Races.{EndsRace, Writes}
 
@@ -42,52 +41,24 @@ ImagesScript frames NotText remained remains held holds = ⊥
 ImagesScript frames (Refused error) remained remains held holds = ⊥
 
 -- what was read encodes an image, and it is sound or not; or the file was not read; or what was read is refused
-abbrev pub ChecksPlain : Answer → Option (List ℕ) → Option (List ℕ) → Option (List ℕ) → Type 0
-ChecksPlain Done remained held holds = (bytes : List ℕ) × IsRead remained bytes × Checks bytes true held holds
-ChecksPlain NotSound remained held holds = (bytes : List ℕ) × IsRead remained bytes × Checks bytes false held holds
-ChecksPlain (Failed fault) remained held holds = (((fault ≡ tool.NoMemory) ⊎ (fault ≡ tool.ReadFailed)) × Keeps held holds) ⊎ ((bytes : List ℕ) × IsRead remained bytes × EndsCheck bytes fault held holds)
-ChecksPlain NotText remained held holds = ⊥
-ChecksPlain (Refused error) remained held holds = ⊥
-
--- the file encodes an image of version 3, and it is sound or not; or the file was not read, or is refused
-abbrev pub ChecksStored : Answer → Option (List ℕ) → Option (List ℕ) → Option (List ℕ) → Type 0
-ChecksStored Done file held holds = ChecksWhole file true held holds
-ChecksStored NotSound file held holds = ChecksWhole file false held holds
-ChecksStored (Failed fault) file held holds = EndsCheckWhole fault held holds
-ChecksStored NotText file held holds = ⊥
-ChecksStored (Refused error) file held holds = ⊥
-
--- the file was checked, as an image of version 1 or 2, or of version 3
 abbrev pub ChecksFile : Answer → Option (List ℕ) → Option (List ℕ) → Option (List ℕ) → Type 0
-ChecksFile answer file held holds = ChecksPlain answer file held holds ⊎ ChecksStored answer file held holds
+ChecksFile Done remained held holds = (bytes : List ℕ) × IsRead remained bytes × Checks bytes true held holds
+ChecksFile NotSound remained held holds = (bytes : List ℕ) × IsRead remained bytes × Checks bytes false held holds
+ChecksFile (Failed fault) remained held holds = (((fault ≡ tool.NoMemory) ⊎ (fault ≡ tool.ReadFailed)) × Keeps held holds) ⊎ ((bytes : List ℕ) × IsRead remained bytes × EndsCheck bytes fault held holds)
+ChecksFile NotText remained held holds = ⊥
+ChecksFile (Refused error) remained held holds = ⊥
 
 -- what was read of a file encodes an image of which this core was made
-abbrev pub HasPlainCore : Option (List ℕ) → View → Type 0
-HasPlainCore file core = (bytes : List ℕ) × IsRead file bytes × Restores bytes (Some core)
-
--- a file encodes an image, of version 2 or of version 3, of which this core was made
 abbrev pub HasCore : Option (List ℕ) → View → Type 0
-HasCore file core = HasPlainCore file core ⊎ RestoresWhole file (Some core)
+HasCore file core = (bytes : List ℕ) × IsRead file bytes × Restores bytes (Some core)
 
 -- why no core came of a file: its image isn't sound; or it was not read, or what was read is refused
-abbrev pub HasNoPlainCore : Option (List ℕ) → Answer → Type 0
-HasNoPlainCore file NotSound = (bytes : List ℕ) × IsRead file bytes × Restores bytes None
-HasNoPlainCore file (Failed fault) = ((fault ≡ tool.NoMemory) ⊎ (fault ≡ tool.ReadFailed)) ⊎ ((bytes : List ℕ) × IsRead file bytes × EndsRestore bytes fault)
-HasNoPlainCore file Done = ⊥
-HasNoPlainCore file NotText = ⊥
-HasNoPlainCore file (Refused error) = ⊥
-
--- the same of an image of version 3
-abbrev pub HasNoWholeCore : Option (List ℕ) → Answer → Type 0
-HasNoWholeCore file NotSound = RestoresWhole file None
-HasNoWholeCore file (Failed fault) = IsFileFault fault
-HasNoWholeCore file Done = ⊥
-HasNoWholeCore file NotText = ⊥
-HasNoWholeCore file (Refused error) = ⊥
-
--- why no core came of a file
 abbrev pub HasNoCore : Option (List ℕ) → Answer → Type 0
-HasNoCore file answer = HasNoPlainCore file answer ⊎ HasNoWholeCore file answer
+HasNoCore file NotSound = (bytes : List ℕ) × IsRead file bytes × Restores bytes None
+HasNoCore file (Failed fault) = ((fault ≡ tool.NoMemory) ⊎ (fault ≡ tool.ReadFailed)) ⊎ ((bytes : List ℕ) × IsRead file bytes × EndsRestore bytes fault)
+HasNoCore file Done = ⊥
+HasNoCore file NotText = ⊥
+HasNoCore file (Refused error) = ⊥
 
 -- the replies were written of a whole script, from a state on, or the run ended by the fault
 abbrev pub ResumesScript : State → Answer → Option (List ℕ) → Option (List ℕ) → Option (List ℕ) → Option (List ℕ) → Type 0
@@ -105,23 +76,14 @@ ImagesResumed begun NotSound remained remains held holds = ⊥
 ImagesResumed begun NotText remained remains held holds = ⊥
 ImagesResumed begun (Refused error) remained remains held holds = ⊥
 
--- the same of an image of version 3
-abbrev pub StoresResumed : State → Answer → Option (List ℕ) → Option (List ℕ) → Option (List ℕ) → Option (List ℕ) → Type 0
-StoresResumed begun Done remained remains held holds = WritesWhole begun remained held holds
-StoresResumed begun (Failed fault) remained remains held holds = (ended : ScriptFault) × (ended ≢ script.BadSize) × (fault ≡ tool_of_script ended) × EndsWhole begun ended remained remains held holds
-StoresResumed begun NotSound remained remains held holds = ⊥
-StoresResumed begun NotText remained remains held holds = ⊥
-StoresResumed begun (Refused error) remained remains held holds = ⊥
-
 -- No core came of the file, and nothing was read of the script or written. Or a core came of it, from whose state the
 -- script ran.
 abbrev pub ResumesFile : Answer → Option (List ℕ) → Option (List ℕ) → Option (List ℕ) → Option (List ℕ) → Option (List ℕ) → Type 0
 ResumesFile answer file remained remains held holds = (HasNoCore file answer × Keeps remained remains × Keeps held holds) ⊎ ((core : View) × HasCore file core × ResumesScript core.state answer remained remains held holds)
 
--- No core came of the file, as above. Or a core came of it, and the script ran for the image of its last state, of version
--- 2 or of version 3.
+-- No core came of the file, as above. Or a core came of it, and the script ran for the image of its last state.
 abbrev pub ImagesFile : Answer → Option (List ℕ) → Option (List ℕ) → Option (List ℕ) → Option (List ℕ) → Option (List ℕ) → Type 0
-ImagesFile answer file remained remains held holds = (HasNoCore file answer × Keeps remained remains × Keeps held holds) ⊎ ((core : View) × HasCore file core × (ImagesResumed core.state answer remained remains held holds ⊎ StoresResumed core.state answer remained remains held holds))
+ImagesFile answer file remained remains held holds = (HasNoCore file answer × Keeps remained remains × Keeps held holds) ⊎ ((core : View) × HasCore file core × ImagesResumed core.state answer remained remains held holds)
 
 -- all rounds were played and their text written, or the race ended by the fault
 abbrev pub PlaysRace : ℕ → ℕ → Answer → Option (List ℕ) → Option (List ℕ) → Type 0

@@ -1,14 +1,12 @@
 //! The jobs, each with the answer that comes of it.
 
-ghost use Rattle.std.specs.Prelude.{◌≤◌, None, Some, IfOk, IfErr, map};
-ghost use Rattle.tower_jobs.specs.Answers.{AnswersWords, ChecksFile, ChecksPlain, ChecksStored, DoesJob, HasCore, HasNoCore, HasNoPlainCore, HasNoWholeCore, HasPlainCore, ImagesFile, ImagesResumed, ImagesScript, PlaysRace, ResumesFile, ResumesScript, RunsScript, StoresResumed};
+ghost use Rattle.std.specs.Prelude.{◌≤◌, None, IfOk, IfErr, map};
+ghost use Rattle.tower_jobs.specs.Answers.{AnswersWords, ChecksFile, DoesJob, HasCore, HasNoCore, ImagesFile, ImagesResumed, ImagesScript, PlaysRace, ResumesFile, ResumesScript, RunsScript};
 ghost use Rattle.tower_cli.specs.Jobs.{HasRounds, as_asked};
-ghost use Rattle.tower_cli.specs.Whole.{RestoresWhole};
 
 use crate::races::race;
 use command_answers::{Answer, ToolFault, bytes_of, refuse};
 use kernel_calls::Core;
-use memory_image::number_at;
 use script_run::{resume_script, run_script};
 use std::alloc::Global;
 use std::convert::AsStr;
@@ -17,14 +15,7 @@ use std::fs::Files;
 use std::io::{Read, Write};
 use std::sync::Wait;
 use std::thread::Threads;
-use tower_cli::{
-    Job, check_bytes, check_whole, job_of, restore_bytes, restore_whole, write_resumed_image,
-    write_resumed_whole, write_script_image,
-};
-use wide_image::fill;
-
-/// The four bytes that an image begins with, as a number.
-const MAGIC: u32 = 0x4932_436d;
+use tower_cli::{Job, check_bytes, job_of, restore_bytes, write_resumed_image, write_script_image};
 
 /// Runs a script on a machine of so many frames, and writes its replies.
 fn run_replies<I: Read, O: Write>(
@@ -58,15 +49,10 @@ fn write_image_of<I: Read, O: Write>(
     }
 }
 
-/// Whether bytes begin as an image of version 3 does.
-fn begins_whole(first: &[u8]) -> bool {
-    first.len() == 8 && number_at(first, 0) == MAGIC && number_at(first, 4) == 3
-}
-
-/// Checks the image of version 1 or 2 that a file has, and writes the verdict on it. Of the file no more is read than one
+/// Checks the image that a file has, and writes the verdict on it. Of the file no more is read than one
 /// byte more than the largest image has.
-fn check_plain<F: Read + Drop, O: Write>(alloc: Global, file: F, output: &mut O) -> Answer
-    ensures { ChecksPlain result (F.remaining file) (O.contents output.old) (O.contents output.new) }
+fn check_file<F: Read + Drop, O: Write>(alloc: Global, file: F, output: &mut O) -> Answer
+    ensures { ChecksFile result (F.remaining file) (O.contents output.old) (O.contents output.new) }
 {
     let bytes = match bytes_of(alloc, file) {
         Ok(bytes) => bytes,
@@ -76,35 +62,6 @@ fn check_plain<F: Read + Drop, O: Write>(alloc: Global, file: F, output: &mut O)
         Ok(true) => Answer::Done,
         Ok(false) => Answer::NotSound,
         Err(fault) => Answer::Failed(fault),
-    }
-}
-
-/// Checks the image of version 3 that a file has, and writes the verdict on it.
-fn check_stored<F: Read + Drop, O: Write>(alloc: Global, file: F, output: &mut O) -> Answer
-    ensures { ChecksStored result (F.remaining file) (O.contents output.old) (O.contents output.new) }
-{
-    let mut file = file;
-    match check_whole(alloc, &mut file, output) {
-        Ok(true) => Answer::Done,
-        Ok(false) => Answer::NotSound,
-        Err(fault) => Answer::Failed(fault),
-    }
-}
-
-/// Checks the image that a file has, by the version in its first eight bytes, and writes the verdict on it.
-fn check_file<F: Read + Drop, O: Write>(alloc: Global, file: F, output: &mut O) -> Answer
-    ensures { ChecksFile result (F.remaining file) (O.contents output.old) (O.contents output.new) }
-{
-    let mut file = file;
-    let mut first = [0; 8];
-    let Ok(count) = fill(&mut file, &mut first) else {
-        return Answer::Failed(ToolFault::ReadFailed);
-    };
-    let first = &first[..count];
-    if begins_whole(first) {
-        check_stored(alloc, first.chain(file), output)
-    } else {
-        check_plain(alloc, first.chain(file), output)
     }
 }
 
@@ -118,64 +75,26 @@ fn check_named<R: AllocGlobal + Files, O: Write>(rt: &R, name: &str, output: &mu
     }
 }
 
-/// The core of an image, and whether the image is of version 3.
-#[derive(Drop)]
-struct Resumed {
-    core: Core,
-    whole: bool,
-}
-
-/// The core of the image of version 1 or 2 that a file has, or why there is none. Of the file no more is read than one byte
-/// more than the largest image has.
-fn plain_core<F: Read + Drop>(alloc: Global, file: F) -> Result<Resumed, Answer>
-    ensures core { IfOk result (λ resumed. HasPlainCore (F.remaining file) resumed.core) }
-    ensures none { IfErr result (HasNoPlainCore (F.remaining file)) }
+/// The core of the image that a file has, or why there is none. Of the file no more is read than one byte more than the
+/// largest image has.
+fn core_in<F: Read + Drop>(alloc: Global, file: F) -> Result<Core, Answer>
+    ensures core { IfOk result (HasCore (F.remaining file)) }
+    ensures none { IfErr result (HasNoCore (F.remaining file)) }
 {
     let bytes = match bytes_of(alloc, file) {
         Ok(bytes) => bytes,
         Err(fault) => return Err(Answer::Failed(fault)),
     };
     match restore_bytes(alloc, bytes.as_slice()) {
-        Ok(Some(core)) => Ok(Resumed { core, whole: false }),
+        Ok(Some(core)) => Ok(core),
         Ok(None) => Err(Answer::NotSound),
         Err(fault) => Err(Answer::Failed(fault)),
-    }
-}
-
-/// The core of the image of version 3 that a file has, or why there is none.
-fn whole_core<F: Read + Drop>(alloc: Global, file: F) -> Result<Resumed, Answer>
-    ensures core { IfOk result (λ resumed. RestoresWhole (F.remaining file) (Some resumed.core)) }
-    ensures none { IfErr result (HasNoWholeCore (F.remaining file)) }
-{
-    let mut file = file;
-    match restore_whole(alloc, &mut file) {
-        Ok(Some(core)) => Ok(Resumed { core, whole: true }),
-        Ok(None) => Err(Answer::NotSound),
-        Err(fault) => Err(Answer::Failed(fault)),
-    }
-}
-
-/// The core of the image that a file has, by the version in its first eight bytes, or why there is none.
-fn core_in<F: Read + Drop>(alloc: Global, file: F) -> Result<Resumed, Answer>
-    ensures core { IfOk result (λ resumed. HasCore (F.remaining file) resumed.core) }
-    ensures none { IfErr result (HasNoCore (F.remaining file)) }
-{
-    let mut file = file;
-    let mut first = [0; 8];
-    let Ok(count) = fill(&mut file, &mut first) else {
-        return Err(Answer::Failed(ToolFault::ReadFailed));
-    };
-    let first = &first[..count];
-    if begins_whole(first) {
-        whole_core(alloc, first.chain(file))
-    } else {
-        plain_core(alloc, first.chain(file))
     }
 }
 
 /// The core of the image in the file of that name; ReadFailed where it can't be opened.
-fn core_named<R: AllocGlobal + Files>(rt: &R, name: &str) -> Result<Resumed, Answer>
-    ensures core { IfOk result (λ resumed. HasCore None resumed.core) }
+fn core_named<R: AllocGlobal + Files>(rt: &R, name: &str) -> Result<Core, Answer>
+    ensures core { IfOk result (HasCore None) }
     ensures none { IfErr result (HasNoCore None) }
 {
     match fs::open(rt, name) {
@@ -216,22 +135,6 @@ fn resume_image<I: Read, O: Write>(
     }
 }
 
-/// Runs a script on a core, and writes the image of version 3 of its last state.
-fn resume_whole<I: Read, O: Write>(
-    alloc: Global,
-    core: Core,
-    input: &mut I,
-    output: &mut O,
-) -> Answer
-    ensures { StoresResumed core.state result (I.remaining input.old) (I.remaining input.new) (O.contents output.old)
-        (O.contents output.new) }
-{
-    match write_resumed_whole(alloc, core, input, output) {
-        Ok(()) => Answer::Done,
-        Err(fault) => Answer::Failed(ToolFault::from(fault)),
-    }
-}
-
 /// Runs a script on the machine of the image in the file of that name, and writes its replies.
 fn resume_named<R: AllocGlobal + Files, I: Read, O: Write>(
     rt: &R,
@@ -243,13 +146,12 @@ fn resume_named<R: AllocGlobal + Files, I: Read, O: Write>(
         (O.contents output.new) }
 {
     match core_named(rt, name) {
-        Ok(Resumed { core, .. }) => resume_replies(rt.alloc(), core, input, output),
+        Ok(core) => resume_replies(rt.alloc(), core, input, output),
         Err(answer) => answer,
     }
 }
 
-/// Runs a script on such a machine, and writes the image of its last state: of version 3 if the file's is, so that offers
-/// are kept.
+/// Runs a script on such a machine, and writes the image of its last state.
 fn image_named<R: AllocGlobal + Files, I: Read, O: Write>(
     rt: &R,
     name: &str,
@@ -259,14 +161,9 @@ fn image_named<R: AllocGlobal + Files, I: Read, O: Write>(
     ensures { ImagesFile result None (I.remaining input.old) (I.remaining input.new) (O.contents output.old)
         (O.contents output.new) }
 {
-    let Resumed { core, whole } = match core_named(rt, name) {
-        Ok(resumed) => resumed,
-        Err(answer) => return answer,
-    };
-    if whole {
-        resume_whole(rt.alloc(), core, input, output)
-    } else {
-        resume_image(rt.alloc(), core, input, output)
+    match core_named(rt, name) {
+        Ok(core) => resume_image(rt.alloc(), core, input, output),
+        Err(answer) => answer,
     }
 }
 

@@ -1,7 +1,7 @@
 use Rattle.std.proofs.Common.{ℕ, List, Option, Some, None, inl, inr, subst}
 use Rattle.process_table.specs.View.{View}
 use Rattle.tower_cli.specs.Images.{EndsRestore, Restores}
-use Rattle.tower_jobs.proofs.commands.plain_core.Goals as goal
+use Rattle.tower_jobs.proofs.commands.core_in.Goals as goal
 
 pub returns-in-Err-clause-none : goal.returns-in-Err-clause-none
 returns-in-Err-clause-none g c = inl c.in-Err.ensures.fault
