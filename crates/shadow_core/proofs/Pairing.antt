@@ -523,10 +523,14 @@ kept_for v p address size frames access all = by (second_page address size) all.
         → (kept : List kept.Kept) × AreRead v kept × (LetsThrough kept p (page_number address) (frames (page_number address)) access × IfSome o (λ page. LetsThrough kept p page (frames page) access))
     by None h = (one ∷ [], (all.0.given, tt), (lets_through v (one ∷ []) p (page_number address) (frames (page_number address)) 0 access all.0 refl, tt))
     by (Some page) h =
-        let two = translation h.kept in
-        (one ∷ two ∷ [], (all.0.given, (h.given, tt)),
-        (lets_through v (one ∷ two ∷ []) p (page_number address) (frames (page_number address)) 0 access all.0 refl,
-        lets_through v (one ∷ two ∷ []) p page (frames page) 1 access h refl))
+        let two = translation h.kept in (
+          one ∷ two ∷ [],
+          (all.0.given, (h.given, tt)),
+          (
+            lets_through v (one ∷ two ∷ []) p (page_number address) (frames (page_number address)) 0 access all.0 refl,
+            lets_through v (one ∷ two ∷ []) p page (frames page) 1 access h refl,
+          ),
+        )
 
 pub accesses_are_kept : (v : View) (s : Shadow) → IsShadowed v s → WalksAgree s → AccessesAreKept (record { core = v; shadow = s })
 accesses_are_kept v s shadowed agree frames e reaches = by e.call (accesses_are_served v s shadowed agree frames e reaches)
