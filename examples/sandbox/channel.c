@@ -19,7 +19,7 @@ static bool is_held(struct channel *it, uint32_t holder) {
 
 /* It looks more often if that helped the last time, and less often if the other didn't run. */
 bool channel_await(struct channel *it, uint32_t holder, uint32_t *looks, const struct timespec *most) {
-    enum { FEW = 16, MORE = 64, MOST = 2000 };
+    enum { FEW = 64, MORE = 256, MOST = 4000 };
     uint32_t now;
     for (uint32_t i = 0; i < *looks; i++) {
         if (is_held(it, holder)) {

@@ -174,7 +174,9 @@ static bool order(struct engine *it) {
     if (it->next.kind == ORDER_BEGIN) {
         to->registers = it->start;
     }
-    memcpy(to->outs, it->outs, it->next.out_count * sizeof *it->outs);
+    if (it->next.out_count) {
+        memcpy(to->outs, it->outs, it->next.out_count * sizeof *it->outs);
+    }
     it->since = it->next.instructions == UNCOUNTED ? 0 : nanoseconds(CLOCK_MONOTONIC);
     to->order = it->next;
     it->next = (struct order){.kind = ORDER_RUN};

@@ -24,10 +24,9 @@ void kernel_boot(uint32_t frames) {
     need(tower_boot_over(frames, &kernel.core, kernel.memory, kernel.bytes) == TOWER_BOOTED, "a core boots");
 }
 
-uint32_t kernel_restore(const uint8_t *image, size_t count) {
-    struct tower_verdict verdict;
-    open_block(TOWER_MAX_FRAMES, TOWER_RESTORE_BLOCK_BYTES(TOWER_MAX_FRAMES));
-    return tower_restore_over(image, count, &kernel.core, &verdict, kernel.memory, kernel.bytes);
+uint32_t kernel_restore(const uint8_t *image, size_t count, struct tower_verdict *verdict) {
+    open_block(TOWER_MAX_FRAMES, TOWER_RESTORE_WHOLE_BLOCK_BYTES(TOWER_MAX_FRAMES));
+    return tower_restore_whole_over(image, count, &kernel.core, verdict, kernel.memory, kernel.bytes);
 }
 
 void kernel_close(void) {

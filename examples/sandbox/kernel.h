@@ -2,7 +2,7 @@
 #pragma once
 
 #include "engine.h"
-#include "tower.h"
+#include "tower_images.h"
 
 struct kernel {
     struct tower core;
@@ -15,8 +15,8 @@ extern struct kernel kernel;
 
 /* Boots a core over a block of its own. */
 void kernel_boot(uint32_t frames);
-/* Makes a core of an image instead. Returns a status of tower_restore. */
-uint32_t kernel_restore(const uint8_t *image, size_t count);
+/* Makes a core of an image of version 3 instead, with its offers. Returns a status of tower_restore_whole_over. */
+uint32_t kernel_restore(const uint8_t *image, size_t count, struct tower_verdict *verdict);
 void kernel_close(void);
 
 /* An event of a process. What it ends is taken out of the engines. */

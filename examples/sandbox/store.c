@@ -3,7 +3,6 @@
 
 #include <fcntl.h>
 #include <libgen.h>
-#include <stddef.h>
 #include <stdio.h>
 #include <stdlib.h>
 #include <string.h>
@@ -13,52 +12,49 @@
 #include "kernel.h"
 #include "need.h"
 #include "tenants.h"
-#include "tower_images.h"
+#include "tower_region_images.h"
 
-enum { MOST_OFFERS = TOWER_PROCESSES * TOWER_OFFERS, VERSION = 2 };
+enum { VERSION = 3, MOST_FRONT = TOWER_FRONT_LENGTH(TOWER_PROCESSES * TOWER_OFFERS) };
+enum { MOST_IMAGE = MOST_FRONT + TOWER_RECORD_BYTES * TOWER_MAX_FRAMES };
 
-/* The file: this, the records in the order of the queue, the offers and the image. */
-static struct stored {
-    struct head {
-        char magic[8];
-        uint32_t version, record_bytes, tenants, offers;
-        uint64_t image;
-    } head;
-    struct record {
-        uint32_t pid;
-        struct tenant tenant;
-    } records[TOWER_PROCESSES];
-    struct pending {
-        uint32_t giver, page, target, write;
-    } offers[MOST_OFFERS];
-} it;
+/* The file: this, the records in the order of the queue, and the core's image of version 3, which has the offers. */
+struct head {
+    char magic[8];
+    uint32_t version, record_bytes, tenants;
+};
+struct record {
+    uint32_t pid;
+    struct tenant tenant;
+};
 static const struct head EMPTY = {.magic = "sandbox", .version = VERSION, .record_bytes = sizeof(struct record)};
 
 /* ---- Save */
 
-static void list_all(size_t image) {
-    it.head = EMPTY;
-    it.head.image = image;
-    for (uint32_t i = 0; i < queue.count; i++) {
-        memset(&it.records[i], 0, sizeof it.records[i]);
-        it.records[i].pid = queue.pids[i];
-        it.records[i].tenant = tenants[queue.pids[i]];
-    }
-    it.head.tenants = queue.count;
-    for (uint32_t giver = 0; giver < TOWER_PROCESSES; giver++) {
-        struct tower_offer offer = {0};
-        for (uint32_t target = 0; tower_next_offer(&kernel.core, giver, offer.page, target, &offer); target = offer.target + 1) {
-            it.offers[it.head.offers++] = (struct pending){giver, offer.page, offer.target, offer.write};
-        }
-    }
+static bool put(FILE *file, const void *bytes, size_t count) {
+    return fwrite(bytes, 1, count, file) == count;
 }
 
-static bool put_all(FILE *file, const uint8_t *image) {
-    list_all(TOWER_IMAGE_LENGTH(tower_frames(&kernel.core)));
-    return fwrite(&it.head, sizeof it.head, 1, file) == 1 &&
-           fwrite(it.records, sizeof *it.records, it.head.tenants, file) == it.head.tenants &&
-           fwrite(it.offers, sizeof *it.offers, it.head.offers, file) == it.head.offers &&
-           fwrite(image, 1, it.head.image, file) == it.head.image && fflush(file) == 0 && fsync(fileno(file)) == 0;
+static bool put_tenants(FILE *file) {
+    struct head head = EMPTY;
+    head.tenants = queue.count;
+    bool is_put = put(file, &head, sizeof head);
+    for (uint32_t i = 0; is_put && i < queue.count; i++) {
+        struct record one = {.pid = queue.pids[i], .tenant = tenants[queue.pids[i]]};
+        is_put = put(file, &one, sizeof one);
+    }
+    return is_put;
+}
+
+/* Piece by piece: what it begins with, and each frame that isn't free. */
+static bool put_image(FILE *file) {
+    static uint8_t front[MOST_FRONT], frame[TOWER_RECORD_BYTES];
+    size_t size = 0;
+    bool is_put = tower_store_front(&kernel.core, front, sizeof front, &size) == TOWER_STORED && put(file, front, size);
+    for (uint32_t i = 0; is_put && i < tower_frames(&kernel.core); i++) {
+        uint32_t status = tower_store_frame(&kernel.core, i, frame, sizeof frame);
+        is_put = status == TOWER_STORE_FREE_FRAME || (status == TOWER_STORED && put(file, frame, sizeof frame));
+    }
+    return is_put;
 }
 
 /* The folder's entry reaches the disk, too. */
@@ -72,13 +68,13 @@ static bool sync_folder(const char *path) {
 }
 
 /* A new file takes the place of the old one once all of it is on the disk. */
-static bool replace(const char *path, const uint8_t *image) {
+static bool replace(const char *path) {
     char *new = NULL;
     FILE *file = asprintf(&new, "%s.new", path) < 0 ? NULL : fopen(new, "wbe");
     if (!file) {
         return false;
     }
-    bool is_written = put_all(file, image);
+    bool is_written = put_tenants(file) && put_image(file) && fflush(file) == 0 && fsync(fileno(file)) == 0;
     is_written = fclose(file) == 0 && is_written && rename(new, path) == 0 && sync_folder(path);
     if (!is_written) {
         unlink(new);
@@ -88,13 +84,9 @@ static bool replace(const char *path, const uint8_t *image) {
 }
 
 void store_save(const char *path) {
-    size_t length = TOWER_IMAGE_LENGTH(tower_frames(&kernel.core)), size = 0;
-    uint8_t *image = malloc(length);
-    need(image && tower_image(&kernel.core, image, length, &size) == TOWER_IMAGE_WRITTEN, "the core has an image");
-    if (!replace(path, image)) {
+    if (!replace(path)) {
         fail("can't write", path);
     }
-    free(image);
 }
 
 bool store_can_save(const char *path) {
@@ -114,19 +106,29 @@ static void take(FILE *file, void *bytes, size_t count) {
     must(fread(bytes, 1, count, file) == count, "it is too short");
 }
 
-static bool is_head(const struct head *head) {
-    return memcmp(head, &EMPTY, offsetof(struct head, tenants)) == 0 && head->tenants <= TOWER_PROCESSES &&
-           head->offers <= MOST_OFFERS && head->image <= TOWER_IMAGE_LENGTH(TOWER_MAX_FRAMES);
+static uint32_t take_head(FILE *file) {
+    struct head head;
+    take(file, &head, sizeof head);
+    must(memcmp(head.magic, EMPTY.magic, sizeof head.magic) == 0, "it begins with something else");
+    must(head.version == VERSION && head.record_bytes == EMPTY.record_bytes, "it is of another version");
+    must(head.tenants <= TOWER_PROCESSES, "it has too many tenants");
+    return head.tenants;
 }
 
-static void restore_core(FILE *file, size_t length) {
-    uint8_t *image = malloc(length + 1);
+/* The rest of the file. */
+static void restore_core(FILE *file) {
+    char why[32];
+    struct tower_verdict verdict;
+    uint8_t *image = malloc(MOST_IMAGE + 1);
     need(image != NULL, "there is memory for an image");
-    take(file, image, length);
-    uint32_t status = kernel_restore(image, length);
+    uint32_t status = kernel_restore(image, fread(image, 1, MOST_IMAGE + 1, file), &verdict);
     free(image);
-    if (status != TOWER_RESTORED) {
-        fail("no core can be made of its image", tower_restore_status_name(status));
+    need(status != TOWER_RESTORE_NO_MEMORY, "there is memory for a core");
+    if (status == TOWER_RESTORE_BAD_BLOCK) {
+        fail("no core can be made of its image", "more than 4096 frames");
+    } else if (status != TOWER_RESTORED) {
+        tower_verdict_text(status, &verdict, why, sizeof why);
+        fail("no core can be made of its image", why);
     }
 }
 
@@ -158,30 +160,18 @@ static void check_families(void) {
     }
 }
 
-/* An image has no offers, so each is made once more. */
-static void offer_again(const struct pending *one) {
-    must(one->giver < TOWER_PROCESSES && one->target < TOWER_PROCESSES && one->write <= 1 &&
-             kernel_event(tower_offer(one->giver, one->page, one->target, one->write)).kind == TOWER_DONE,
-         "an offer in it is wrong");
-}
-
 void store_load(const char *path, uint64_t nanoseconds) {
+    static struct record records[TOWER_PROCESSES];
     FILE *file = fopen(path, "rbe");
     if (!file) {
         fail("can't read", path);
     }
-    take(file, &it.head, sizeof it.head);
-    must(is_head(&it.head), path);
-    take(file, it.records, it.head.tenants * sizeof *it.records);
-    take(file, it.offers, it.head.offers * sizeof *it.offers);
-    restore_core(file, it.head.image);
-    must(fgetc(file) == EOF, "it is too long");
+    uint32_t count = take_head(file);
+    take(file, records, count * sizeof *records);
+    restore_core(file);
     fclose(file);
-    for (uint32_t i = 0; i < it.head.tenants; i++) {
-        enter(&it.records[i], nanoseconds);
+    for (uint32_t i = 0; i < count; i++) {
+        enter(&records[i], nanoseconds);
     }
     check_families();
-    for (uint32_t i = 0; i < it.head.offers; i++) {
-        offer_again(&it.offers[i]);
-    }
 }

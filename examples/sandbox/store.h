@@ -1,4 +1,4 @@
-/* A stopped sandbox as a file: its tenants with their registers, the pending offers, and the core's image. */
+/* A stopped sandbox as a file: its tenants with their registers, and the core's image, which has the pending offers. */
 #pragma once
 
 #include <stdbool.h>
