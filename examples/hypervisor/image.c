@@ -1,55 +1,56 @@
 #include "image.h"
 #include "machine.h"
+#include "tower_images.h"
 
-enum { LETTERS = 0x4932436d, VERSION = 2, PROCESSES = 64 };
+enum { MOST_OFFERS = TOWER_PROCESSES * TOWER_OFFERS, MOST_FRONT = TOWER_FRONT_LENGTH(MOST_OFFERS) };
 
-static void put_word(uint32_t word) {
-    for (int i = 0; i < 4; i++) {
-        put_raw((uint8_t)(word >> 8 * i));
+/* The store's memory: the list of the pending offers, which moves as it grows. All of it is free before the store ends. */
+static _Alignas(16) uint8_t heap[4 * 16 * MOST_OFFERS];
+static size_t used;
+static uint32_t blocks;
+
+static struct rattle_tried allocate(size_t size, size_t align) {
+    size_t from = (used + align - 1) & ~(align - 1);
+    if (from > sizeof heap || size > sizeof heap - from) {
+        return (struct rattle_tried){false, heap};
     }
+    used = from + size;
+    blocks++;
+    return (struct rattle_tried){true, heap + from};
 }
 
-static void put_process(struct tower *tower, uint32_t pid) {
-    struct tower_container it = {0};
-    uint32_t directory = 0;
-    bool live = tower_container(tower, pid, &it) && tower_directory(tower, pid, &directory);
-    put_word(live);
-    put_word(it.parent);
-    put_word(it.quota);
-    put_word(it.used);
-    put_word(it.given);
-    put_word(directory);
+static void release(void *block) {
+    (void)block;
+    used = --blocks == 0 ? 0 : used;
 }
 
-static void put_role(struct tower *tower, uint32_t frame) {
-    struct tower_role role;
-    need(tower_role(tower, frame, &role), "a frame has a role");
-    put_word(role.kind);
-    put_word(role.pid);
-    put_word(role.slot);
-    put_word(role.count);
+static struct rattle_tried move(void *block, size_t kept, size_t size, size_t align) {
+    struct rattle_tried moved = allocate(size, align);
+    if (moved.ok) {
+        memmove(moved.block, block, kept);
+        release(block);
+    }
+    return moved;
 }
 
-static void put_frame(struct tower *tower, uint32_t frame) {
-    static uint8_t bytes[FRAME];
-    need(tower_copy_frame(tower, frame, bytes, sizeof bytes), "a frame is copied");
-    for (uint32_t i = 0; i < FRAME; i++) {
+static void put(const uint8_t *bytes, size_t count) {
+    for (size_t i = 0; i < count; i++) {
         put_raw(bytes[i]);
     }
 }
 
 void write_image(struct tower *tower) {
-    uint32_t frames = tower_frames(tower);
-    put_word(LETTERS);
-    put_word(VERSION);
-    put_word(frames);
-    for (uint32_t pid = 0; pid < PROCESSES; pid++) {
-        put_process(tower, pid);
-    }
-    for (uint32_t frame = 0; frame < frames; frame++) {
-        put_role(tower, frame);
-    }
-    for (uint32_t frame = 0; frame < frames; frame++) {
-        put_frame(tower, frame);
+    static const struct tower_other_heap ours = {.alloc = allocate, .realloc = move, .dealloc = release};
+    static uint8_t front[MOST_FRONT], record[TOWER_RECORD_BYTES];
+    size_t size = 0;
+    tower_set_other_heap(&ours);
+    need(tower_store_front(tower, front, sizeof front, &size) == TOWER_STORED && blocks == 0, "the core has an image");
+    put(front, size);
+    for (uint32_t frame = 0; frame < tower_frames(tower); frame++) {
+        uint32_t status = tower_store_frame(tower, frame, record, sizeof record);
+        need(status == TOWER_STORED || status == TOWER_STORE_FREE_FRAME, "a frame has a record, or is free");
+        if (status == TOWER_STORED) {
+            put(record, sizeof record);
+        }
     }
 }
