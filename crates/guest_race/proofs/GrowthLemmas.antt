@@ -7,6 +7,7 @@ use Rattle.kernel_calls.specs.declared.calls.Call.{Call}
 use Rattle.kernel_calls.specs.declared.calls.Event.{Event}
 use Rattle.kernel_calls.specs.declared.calls.Reply.{Reply}
 use Rattle.locked_core.specs.Makers.{Maker, Makes, IsMade}
+use Rattle.locked_core.specs.Names.{Names}
 use Rattle.locked_core.specs.Ports.{IsCpuStep}
 use Rattle.memory_report.specs.Histories.{entries_of, event_of, events_of, replies_of}
 use Rattle.memory_report.specs.declared.entries.LogEntry.{LogEntry}
@@ -79,19 +80,19 @@ one_more n had at cpu events answers event reply e grew number own is told = rec
   answers_are = ap (map Ok) (map-append (λ x. x.reply) grew.made (e ∷ [])) ∙ map-append Ok (replies_of grew.made) (e.reply ∷ []) ∙ rw (grew.answers_are, told) refl;
 }
 
-pub grown : (frames n : ℕ) {start end : Maker} {events : List Event} {answers : List Answer} → Chain (IsCpuStep frames) start events answers end → start.number ≡ n → AllBy n events → AllReplies answers
+pub grown : (frames : ℕ) (book : Names) (n : ℕ) {start end : Maker} {events : List Event} {answers : List Answer} → Chain (IsCpuStep frames book) start events answers end → start.number ≡ n → AllBy n events → AllReplies answers
     → Grown n start.seen end events answers
-grown frames n {start} none number by all = record {
+grown frames book n {start} none number by all = record {
   number = number;
   made = [];
   own = sym (append-nil (entries_of n start.seen));
   events_are = refl;
   answers_are = refl;
 }
-grown frames n {start} (call {t = at} {u = last} {events = events} {answers = answers} {event = event} {answer = answer} chain step) number by all =
-    go answer step (replies_second answers (answer ∷ []) all).0 (grown frames n chain number (by_first n events (event ∷ []) by) (replies_first answers (answer ∷ []) all))
+grown frames book n {start} (call {t = at} {u = last} {events = events} {answers = answers} {event = event} {answer = answer} chain step) number by all =
+    go answer step (replies_second answers (answer ∷ []) all).0 (grown frames book n chain number (by_first n events (event ∷ []) by) (replies_first answers (answer ∷ []) all))
   where
-    go : (a : Answer) → IsCpuStep frames at event a last → IsReply a → Grown n start.seen at events answers → Grown n start.seen last (events ++ event ∷ []) (answers ++ a ∷ [])
+    go : (a : Answer) → IsCpuStep frames book at event a last → IsReply a → Grown n start.seen at events answers → Grown n start.seen last (events ++ event ∷ []) (answers ++ a ∷ [])
     go (Err fault) made is grew = absurd is
     go (Ok reply) made is grew =
         let e = made.2.1 in

@@ -12,6 +12,7 @@ use Rattle.guest_cpu.specs.declared.runs.End.TheVariants as end
 use Rattle.kernel_calls.specs.declared.calls.Call.{Call}
 use Rattle.kernel_calls.specs.declared.calls.Event.{Event}
 use Rattle.locked_core.specs.Makers.{Maker}
+use Rattle.locked_core.specs.Names.{Names}
 use Rattle.locked_core.specs.Ports.{IsCpuStep}
 use Rattle.memory_report.specs.Histories.{entries_of}
 use Rattle.guest_race.specs.Causes.{cause_of}
@@ -61,11 +62,11 @@ halted {g = g} (ends {events = events} {answers = answers} before within at (hal
 abbrev pub Left : ℕ → Maker → Maker → Type 0
 Left n start last = (last.number ≡ n) × Halts n (entries_of n start.seen) (entries_of n last.seen)
 
-guest_halts : (frames n : ℕ) (start last : Maker) (guest : GuestView) → start.number ≡ n → HasRun (IsCpuStep frames) (race_program n) turns (opening_guest start.number n) start end.Halted guest last → Left n start last
-guest_halts frames n start last guest number ran =
+guest_halts : (frames : ℕ) (book : Names) (n : ℕ) (start last : Maker) (guest : GuestView) → start.number ≡ n → HasRun (IsCpuStep frames book) (race_program n) turns (opening_guest start.number n) start end.Halted guest last → Left n start last
+guest_halts frames book n start last guest number ran =
     let run : IsRun (race_program n) turns (opening_guest n n) ran.answers ran.events end.Halted guest = subst (λ k. IsRun (race_program n) turns (opening_guest k n) ran.answers ran.events end.Halted guest) number ran.run in
     let facts = halted run in
-    let more = grown frames n ran.chain number facts.0 facts.1 in (
+    let more = grown frames book n ran.chain number facts.0 facts.1 in (
       more.number,
       record {
         made = more.made;
@@ -75,12 +76,12 @@ guest_halts frames n start last guest number ran =
       },
     )
 
-pub halts_or_not : (frames n : ℕ) (start last : Maker) (guest : GuestView) (e : End) (cause : Option RoundFault) → cause ≡ cause_of e → start.number ≡ n
-    → HasRun (IsCpuStep frames) (race_program n) turns (opening_guest start.number n) start e guest last → IfNone cause (Left n start last)
-halts_or_not frames n start last guest e cause is number ran = rw is (go e ran)
+pub halts_or_not : (frames : ℕ) (book : Names) (n : ℕ) (start last : Maker) (guest : GuestView) (e : End) (cause : Option RoundFault) → cause ≡ cause_of e → start.number ≡ n
+    → HasRun (IsCpuStep frames book) (race_program n) turns (opening_guest start.number n) start e guest last → IfNone cause (Left n start last)
+halts_or_not frames book n start last guest e cause is number ran = rw is (go e ran)
   where
-    go : (e : End) → HasRun (IsCpuStep frames) (race_program n) turns (opening_guest start.number n) start e guest last → IfNone (cause_of e) (Left n start last)
-    go end.Halted ran = guest_halts frames n start last guest number ran
+    go : (e : End) → HasRun (IsCpuStep frames book) (race_program n) turns (opening_guest start.number n) start e guest last → IfNone (cause_of e) (Left n start last)
+    go end.Halted ran = guest_halts frames book n start last guest number ran
     go end.OutOfTurns ran = tt
     go (end.Stopped reply) ran = tt
     go (end.PortFault fault) ran = by_number (fault == 1)

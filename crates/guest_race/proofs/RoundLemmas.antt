@@ -1,5 +1,5 @@
 -- A round, from what its parts came to.
-use Rattle.std.proofs.Common.{◌≡◌, ◌∙◌, ℕ, zero, suc, ◌<◌, List, [], ◌∷◌, ◌++◌, length, take, drop, Option, Some, None, true, refl, sym, ap, subst, arith, take-append-drop}
+use Rattle.std.proofs.Common.{◌≡◌, ◌∙◌, ℕ, zero, suc, ◌<◌, ◌≤◌, List, [], ◌∷◌, ◌++◌, length, take, drop, Option, Some, None, true, refl, sym, ap, subst, arith, take-append-drop}
 use Rattle.std.specs.Prelude.{Any, Result, Ok, Err, IfOk, slice_index_or}
 use Rattle.std.specs.Option.{IfNone, IfSome}
 use Rattle.image_check.specs.Told.{Told}
@@ -42,9 +42,9 @@ audited_by_seen frames cpu zeroth a = (
   a.3,
 )
 
-round_is : (frames : ℕ) (first second : Maker) (rows : List (Option Row)) → first.number ≡ 0 → second.number ≡ 1 → BothHalt (entries_of 0 first.seen) (entries_of 1 second.seen) → Reports frames first.seen second.seen rows
+round_is : (frames : ℕ) (first second : Maker) (rows : List (Option Row)) → frames ≤ 4096 → first.number ≡ 0 → second.number ≡ 1 → BothHalt (entries_of 0 first.seen) (entries_of 1 second.seen) → Reports frames first.seen second.seen rows
     → Audited frames first → Closes frames (first ∷ second ∷ []) rows → IsReported frames rows
-round_is frames first second rows zeroth oneth both reported audited closed =
+round_is frames first second rows few zeroth oneth both reported audited closed =
     let log = closed.0 in
     let is = closed.1 in
     let begins = recursion_from_All (λ (c : Maker). take (length c.seen) log ≡ c.seen) (first ∷ second ∷ []) is.begins in
@@ -54,6 +54,7 @@ round_is frames first second rows zeroth oneth both reported audited closed =
       log,
       record {
         legal = is.legal;
+        few = few;
         both = rw (of_first, of_second) both;
         others = All-weaker (λ e. Any (λ c. c.number ≡ e.cpu) (first ∷ second ∷ [])) (λ e. e.cpu < 2) (λ e any. below_two first second e.cpu zeroth oneth any) log is.all;
         report = is.report;
@@ -78,18 +79,18 @@ no_second (Some x) None is = cc
 no_second (Some x) (Some y) is = cc
 
 pub round_reports : (frames : ℕ) (first second : Maker) (played audited cause : Option RoundFault) (reported : Option (List (Option Row))) (report result : Result (List (Option Row)) RoundFault)
-    → IfNone played ((first.number ≡ 0) × (second.number ≡ 1)) → IfNone played (BothHalt (entries_of 0 first.seen) (entries_of 1 second.seen)) → IfSome reported (λ rows. Reports frames first.seen second.seen rows)
+    → frames ≤ 4096 → IfNone played ((first.number ≡ 0) × (second.number ≡ 1)) → IfNone played (BothHalt (entries_of 0 first.seen) (entries_of 1 second.seen)) → IfSome reported (λ rows. Reports frames first.seen second.seen rows)
     → IfNone audited (Audited frames first) → cause ≡ told_cause played audited
     → IfOk report (λ rows. Closes frames (first ∷ second ∷ []) rows × (reported ≡ Some rows)) → IfOk result (λ rows. (cause ≡ None) × (report ≡ Ok rows)) → IfOk result (IsReported frames)
-round_reports frames first second played audited cause reported report (Err fault) numbers both told sound is closed judged = tt
-round_reports frames first second played audited cause reported report (Ok rows) numbers both told sound is closed judged =
+round_reports frames first second played audited cause reported report (Err fault) few numbers both told sound is closed judged = tt
+round_reports frames first second played audited cause reported report (Ok rows) few numbers both told sound is closed judged =
     let none : told_cause played audited ≡ None = sym is ∙ judged.0 in
     let number = subst (λ (c : Option RoundFault). IfNone c ((first.number ≡ 0) × (second.number ≡ 1))) (no_first played audited none) numbers in
     let halted = subst (λ (c : Option RoundFault). IfNone c (BothHalt (entries_of 0 first.seen) (entries_of 1 second.seen))) (no_first played audited none) both in
     let found = subst (λ (c : Option RoundFault). IfNone c (Audited frames first)) (no_second played audited none) sound in
     let ends = subst (λ (r : Result (List (Option Row)) RoundFault). IfOk r (λ rows. Closes frames (first ∷ second ∷ []) rows × (reported ≡ Some rows))) judged.1 closed in
     let one = subst (λ (r : Option (List (Option Row))). IfSome r (λ rows. Reports frames first.seen second.seen rows)) ends.1 told in
-    round_is frames first second rows number.0 number.1 halted one found ends.0
+    round_is frames first second rows few number.0 number.1 halted one found ends.0
 
 -- a referee who asked in a round that was played, and whose answers are the round's
 pub asked_both : {S : Type 0} (frames : ℕ) (cpus : List Maker) (asks_report : S → List (Option Row) → S → Type 0) (asks_verdict : S → Told → S → Type 0) (before between after : S)

@@ -32,6 +32,7 @@ abbrev pub kernel_cause : Fault → RoundFault
 kernel_cause kernel.NoMemory = NoMemory
 kernel_cause kernel.Unread = Failed
 kernel_cause kernel.Disagree = Failed
+kernel_cause kernel.TooManyFrames = Failed
 
 -- the fault of a round whose audit is refused
 abbrev pub audit_cause : AuditFault → RoundFault

@@ -2,7 +2,7 @@
 --     made_by cpu      the events of all calls of a CPU
 --     Halts      that a guest's calls on a CPU are those of a run that halts
 --     IsRound      what a round's history is, the rows of its report, and what an audit found
-use Rattle.std.specs.Prelude.{◌≡◌, ℕ, ◌<◌, true, List, [], ◌++◌, length, map, take, All, Any, Option, Ok}
+use Rattle.std.specs.Prelude.{◌≡◌, ℕ, ◌<◌, ◌≤◌, true, List, [], ◌++◌, length, map, take, All, Any, Option, Ok}
 use Rattle.guest_cpu.specs.Guests.{GuestView, opening_guest}
 use Rattle.guest_cpu.specs.Runs.{IsRun}
 use Rattle.guest_cpu.specs.declared.runs.End.TheVariants as end
@@ -65,6 +65,7 @@ Audited frames cpu = (image : Image) × (history : List LogEntry) × IsSnapshot 
 -- taken for the first CPU after all its calls found nothing.
 pub record IsRound (frames : ℕ) (rows : List (Option Row)) (log : List LogEntry) : Type 0 where
   pub legal : Legal frames log
+  pub few : frames ≤ 4096
   pub both : BothHalt (entries_of 0 log) (entries_of 1 log)
   pub others : All (λ e. e.cpu < 2) log
   pub report : rows ≡ report_of (state_after frames log)

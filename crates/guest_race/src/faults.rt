@@ -48,7 +48,7 @@ impl From<Fault> for RoundFault {
     fn from(fault: Fault) -> RoundFault {
         match fault {
             Fault::NoMemory => RoundFault::NoMemory,
-            Fault::Unread | Fault::Disagree => RoundFault::Failed,
+            Fault::Unread | Fault::Disagree | Fault::TooManyFrames => RoundFault::Failed,
         }
     }
 }

@@ -62,7 +62,7 @@ fn run_guest<N: Name, R: Wait>(
     pid: Pid,
     program: &[Instruction],
 ) -> End
-    ensures { (guest : GuestView) × HasRun (IsCpuStep N.frames) program.now turns
+    ensures { (guest : GuestView) × HasRun (IsCpuStep N.frames N.book) program.now turns
         (opening_guest cpu.old.number pid) cpu.old result guest cpu.new }
 {
     let mut guest = Guest::new(cpu.number(), pid);

@@ -110,6 +110,7 @@ fn play_round<N: Name + Send + Sync, R: Threads + Wait + Sync, F: Referee>(
 ) -> Result<Report, RoundFault>
     requires name { (blank.frames ≡ N.frames) × (blank.book ≡ N.book) }
     requires seats { (blank.cpus ≡ 2) × (blank.monitors ≡ 1) }
+    requires few { blank.frames ≤ 4096 }
     ensures round { IfOk result (IsReported blank.frames) }
     ensures asked { IfOk result (λ rows. IsAsked F.reported F.judged referee.old rows referee.new) }
 {

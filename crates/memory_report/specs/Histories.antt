@@ -65,7 +65,7 @@ pub record IsTold (frames : ℕ) (before : List LogEntry) (e : LogEntry) : Type 
 
 -- a history of a machine of that many frames: its replies are those of the machine's run over its events
 pub record Legal (frames : ℕ) (log : List LogEntry) : Type 0 where
-  pub size : (16 ≤ frames) × (frames ≤ 4096)
+  pub size : (16 ≤ frames) × (frames ≤ 1048576)
   pub replies : replies_of log ≡ answers (open_with frames) (events_of log)
   pub entries : (before : List LogEntry) (e : LogEntry) (rest : List LogEntry) → log ≡ before ++ e ∷ rest → IsTold frames before e
 

@@ -12,7 +12,7 @@ use Rattle.process_table.specs.WellFormed.{IsWellFormed, total}
 
 -- no entry is a legal history of every machine that boots
 abbrev pub EmptyIsLegal : Type 0
-EmptyIsLegal = (frames : ℕ) → 16 ≤ frames → frames ≤ 4096 → Legal frames []
+EmptyIsLegal = (frames : ℕ) → 16 ≤ frames → frames ≤ 1048576 → Legal frames []
 
 -- a legal history with what is logged of one more call is legal
 abbrev pub GrowsLegal : Type 0

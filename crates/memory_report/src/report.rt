@@ -56,9 +56,9 @@ impl Report {
         &self.rows
     }
 
-    /// The report of a machine of that many frames, 16 to 4,096, as it boots.
+    /// The report of a machine of that many frames, 16 to 1,048,576, as it boots.
     pub fn boot(frames: u32) -> Report
-        requires { (16 ≤ frames) × (frames ≤ 4096) }
+        requires { (16 ≤ frames) × (frames ≤ 1048576) }
         ensures { result ≡ report_of (open_with frames) }
     {
         let mut rows = [None; 64];

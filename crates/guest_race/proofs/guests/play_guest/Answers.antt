@@ -13,6 +13,6 @@ returns g c =
     let end = c.run_guest-end.result in
     let last = c.run_guest-end.new.cpu in
     let number : c.from.result ≡ c.args.pid = c.from.ensures ∙ c.number.ensures.value in
-    halts_or_not g.N.Name.frames c.args.pid c.args.cpu last ran.0 end _ c.cause_of.ensures c.requires.1
-    (subst (λ (n : ℕ). HasRun (IsCpuStep g.N.Name.frames) (race_program n) turns (opening_guest c.args.cpu.number c.args.pid) c.args.cpu end ran.0 last) number
-    (subst (λ (p : List Instruction). HasRun (IsCpuStep g.N.Name.frames) p turns (opening_guest c.args.cpu.number c.args.pid) c.args.cpu end ran.0 last) c.program_of-program.ensures ran.1))
+    halts_or_not g.N.Name.frames g.N.Name.book c.args.pid c.args.cpu last ran.0 end _ c.cause_of.ensures c.requires.1
+    (subst (λ (n : ℕ). HasRun (IsCpuStep g.N.Name.frames g.N.Name.book) (race_program n) turns (opening_guest c.args.cpu.number c.args.pid) c.args.cpu end ran.0 last) number
+    (subst (λ (p : List Instruction). HasRun (IsCpuStep g.N.Name.frames g.N.Name.book) p turns (opening_guest c.args.cpu.number c.args.pid) c.args.cpu end ran.0 last) c.program_of-program.ensures ran.1))

@@ -12,15 +12,15 @@ returns g c =
     let made = c.run.ensures in
     let last : Maker = c.run.new.port.caller.now in
     let kept = chain_keeps (λ port. port.caller.ghost_name) (λ s e a t step. step.1) made.chain in
-    let shown = chain_through (λ port. port.caller.now) (IsCpuStep g.N.Name.frames)
-    (λ s e a t step. cpu_step g.N.Name.frames (λ cpu. cpu) (IsCpuCall g.N.Name.frames) (λ before pid call given after made. made) s.caller.now e a t.caller.now step.0) made.chain in
+    let shown = chain_through (λ port. port.caller.now) (IsCpuStep g.N.Name.frames g.N.Name.book)
+    (λ s e a t step. cpu_step g.N.Name.frames g.N.Name.book (λ cpu. cpu) (IsCpuCall g.N.Name.frames g.N.Name.book) (λ before pid call given after made. made) s.caller.now e a t.caller.now step.0) made.chain in
     let back : c.cpu-1.given.0 ≡ last = c.cpu-1.given.1 (sym (kept ∙ c.new-port.ensures.same_reference)) in (
       c.run.new.guest,
       record {
         events = made.events;
         answers = made.answers;
-        chain = subst (λ (end : Maker). Chain (IsCpuStep g.N.Name.frames) c.args.cpu.now made.events made.answers end) (sym back)
-            (subst (λ (start : Maker). Chain (IsCpuStep g.N.Name.frames) start made.events made.answers last) c.new-port.ensures.cpu shown);
+        chain = subst (λ (end : Maker). Chain (IsCpuStep g.N.Name.frames g.N.Name.book) c.args.cpu.now made.events made.answers end) (sym back)
+            (subst (λ (start : Maker). Chain (IsCpuStep g.N.Name.frames g.N.Name.book) start made.events made.answers last) c.new-port.ensures.cpu shown);
         run = rw (sym c.number.ensures.number, sym c.new-guest.ensures) made.run;
       },
     )
