@@ -17,7 +17,7 @@ use Rattle.locked_core.specs.Makers.{Maker, Makes}
 use Rattle.memory_report.specs.Histories.{StartsWith}
 
 -- no call was made yet
-pub legal_opening : (frames : ℕ) (log : List LogEntry) (core : State) → 16 ≤ frames → frames ≤ 4096 → log ≡ [] → core ≡ open_with frames → Legal frames log × (core ≡ state_after frames log)
+pub legal_opening : (frames : ℕ) (log : List LogEntry) (core : State) → 16 ≤ frames → frames ≤ 1048576 → log ≡ [] → core ≡ open_with frames → Legal frames log × (core ≡ state_after frames log)
 legal_opening frames log core low high none is = (subst (Legal frames) (sym none) (empty_is_legal frames low high), is ∙ ap (state_after frames) (sym none))
 
 -- a CPU has no more entries than there are

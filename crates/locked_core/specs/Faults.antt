@@ -8,6 +8,7 @@ abbrev pub fault_number : Fault → ℕ
 fault_number fault.NoMemory = 1
 fault_number fault.Unread = 3
 fault_number fault.Disagree = 5
+fault_number fault.TooManyFrames = 7
 
 -- what a port answers for an event of another CPU
 abbrev pub another_cpu : ℕ

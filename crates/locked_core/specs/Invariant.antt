@@ -44,7 +44,7 @@ pub record IsMade (frames cpus : ℕ) (book : Book) (log : Log) (parts : ℕ) (c
   -- one part of the count for each CPU
   pub one_each : parts ≡ cpus
   pub least : 16 ≤ frames
-  pub most : frames ≤ 4096
+  pub most : frames ≤ 1048576
   pub opening : core ≡ open_with frames
   pub none : log.entries ≡ []
   pub keeps_two : 2 ≤ log.keeps

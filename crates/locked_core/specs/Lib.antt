@@ -11,4 +11,5 @@ pub mod Pages
 pub mod Ports
 pub mod Published
 pub mod Rules
+pub mod Storing
 pub mod Tallies

@@ -3,7 +3,7 @@ use Rattle.std.specs.Prelude.{◌≡◌, ◌↔◌, ◌<◌, ◌≤◌, ◌^◌,
 use Rattle.kernel_calls.specs.declared.calls.Call.{Call}
 use Rattle.kernel_calls.specs.declared.calls.Reply.{Reply}
 use Rattle.locked_core.specs.declared.faults.Fault.{Fault}
-use Rattle.locked_core.specs.declared.faults.Fault.TheVariants.{NoMemory, Unread, Disagree}
+use Rattle.locked_core.specs.declared.faults.Fault.TheVariants.{NoMemory, Unread, Disagree, TooManyFrames}
 use Rattle.memory_image.specs.Image.{Image}
 use Rattle.memory_image.specs.Sound.{StandsFor}
 use Rattle.memory_report.specs.Histories.{Legal, StartsWith, calls_of, entries_of, state_after}
@@ -11,6 +11,7 @@ use Rattle.memory_report.specs.declared.entries.LogEntry.{LogEntry}
 use Rattle.process_table.specs.View.{View}
 use Rattle.memory_image.specs.Machine.{IsImageOf}
 use Rattle.locked_core.specs.Moments.{Begins, Follows, core_after, entries_in}
+use Rattle.locked_core.specs.Names.{Names}
 use Rattle.locked_core.specs.declared.moment.Moment.{Moment}
 
 -- Its number, the entries that it has seen, and these entries each with the core after it. Also the moments that it has
@@ -61,24 +62,39 @@ abbrev pub Makes : ℕ → Maker → ℕ → Call → Maker → Reply → Type 0
 Makes frames before pid call after reply = (between : List LogEntry) × (e : LogEntry) × IsMade frames before pid call reply after between e
 
 -- Why a CPU is refused on the log that was found. Of Unread nothing is said. NoMemory comes only if the log is legal,
--- begins with what was seen and has as many of this CPU's entries. Nothing else refuses it.
+-- begins with what was seen and has as many of this CPU's entries. TooManyFrames is of a snapshot. Nothing else refuses it.
 abbrev pub IsRefused : ℕ → List LogEntry → Maker → Fault → Type 0
 IsRefused frames log cpu Unread = Unit {0}
 IsRefused frames log cpu NoMemory = Legal frames log × StartsWith log cpu.seen × (calls_of cpu.number log ≡ calls_of cpu.number cpu.seen)
 IsRefused frames log cpu Disagree = ⊥
+IsRefused frames log cpu TooManyFrames = 4096 < frames
 
--- A kernel that keeps only so many of its last entries refuses a call for memory only if its log, of all calls that were
--- made, has 2 ^ 62 entries.
-abbrev pub IsSpent : ℕ → List LogEntry → Fault → Type 0
-IsSpent keeps log NoMemory = keeps < 2 ^ 62 → 2 ^ 62 ≤ length log
-IsSpent keeps log Unread = Unit {0}
-IsSpent keeps log Disagree = Unit {0}
+-- What a CPU has seen after a call that was refused for memory: all of the kernel's history, as it lay under the lock.
+-- That begins with what the CPU had seen and received, and has no more of its own entries. A kernel that keeps only so
+-- many of its last entries then has 2 ^ 62 of them in that history.
+pub record HasFound (frames : ℕ) (book : Names) (before after : Maker) : Type 0 where
+  pub stays : after ≡ maker_of before.number after.moments
+  pub legal : Legal frames after.seen
+  pub follows : Follows book.opening after.moments
+  pub begins : Begins after.moments before.moments
+  pub learned : Begins after.moments before.told
+  pub own : calls_of before.number after.seen ≡ calls_of before.number before.seen
+  pub spent : book.keeps < 2 ^ 62 → 2 ^ 62 ≤ length after.seen
+
+-- What a refused call leaves of its CPU. At NoMemory it has seen what the call found, at Unread what it had seen. No call
+-- is refused for anything else.
+abbrev pub Refuses : ℕ → Names → Maker → Maker → Fault → Type 0
+Refuses frames book before after NoMemory = HasFound frames book before after
+Refuses frames book before after Unread = after ≡ before
+Refuses frames book before after Disagree = ⊥
+Refuses frames book before after TooManyFrames = ⊥
 
 -- the fault that can stop a call after it was checked: out of memory
 abbrev pub Prevents : Fault → Type 0
 Prevents NoMemory = Unit {0}
 Prevents Unread = ⊥
 Prevents Disagree = ⊥
+Prevents TooManyFrames = ⊥
 
 -- An image that was taken for a CPU. It represents the state after a legal history, which begins with what the CPU has
 -- seen and has the calls that it made.

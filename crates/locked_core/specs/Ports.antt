@@ -1,15 +1,15 @@
 -- What a port does with a guest's call, and what that is of a CPU.
 --     IsPortStep      one call of whoever makes the port's calls, or 6 for an event of another CPU
 --     IsCpuCall, IsCpuStep      what a CPU makes of a call, and a port over it
-use Rattle.std.specs.Prelude.{◌≡◌, ◌≢◌, ℕ, ◌==◌, Bool, true, false, List, Result, Ok, Err}
+use Rattle.std.specs.Prelude.{◌≡◌, ◌≢◌, ℕ, ◌==◌, Bool, true, false, Result, Ok, Err}
 use Rattle.guest_cpu.specs.Ports.{Answer}
 use Rattle.kernel_calls.specs.declared.calls.Call.{Call}
 use Rattle.kernel_calls.specs.declared.calls.Event.{Event}
 use Rattle.kernel_calls.specs.declared.calls.Reply.{Reply}
 use Rattle.locked_core.specs.Faults.{another_cpu, fault_number}
-use Rattle.locked_core.specs.Makers.{Maker, Makes, IsRefused}
+use Rattle.locked_core.specs.Makers.{Maker, Makes, Refuses}
+use Rattle.locked_core.specs.Names.{Names}
 use Rattle.locked_core.specs.declared.faults.Fault.{Fault}
-use Rattle.memory_report.specs.declared.entries.LogEntry.{LogEntry}
 
 -- what a port answers where the CPU answered so: the reply, or the fault by its number
 abbrev pub by_number : Result Reply Fault → Answer
@@ -27,17 +27,17 @@ abbrev pub IsPortStep : {S : Type 0} → (S → ℕ) → (S → ℕ → Call →
 IsPortStep cpu_of called before event answer after = step_by called (event.cpu == cpu_of before) before event answer after
 
 -- The result of a CPU's call: a reply is that of the call's entry; a fault is one that refused the call, and leaves
--- what the CPU has seen.
-abbrev pub IsCpuCall : ℕ → Maker → ℕ → Call → Result Reply Fault → Maker → Type 0
-IsCpuCall frames before pid call (Ok reply) after = (after.number ≡ before.number) × Makes frames before pid call after reply
-IsCpuCall frames before pid call (Err fault) after = (after ≡ before) × ((log : List LogEntry) × IsRefused frames log before fault)
+-- of the CPU what it says.
+abbrev pub IsCpuCall : ℕ → Names → Maker → ℕ → Call → Result Reply Fault → Maker → Type 0
+IsCpuCall frames book before pid call (Ok reply) after = (after.number ≡ before.number) × Makes frames before pid call after reply
+IsCpuCall frames book before pid call (Err fault) after = Refuses frames book before after fault
 
--- a number of a fault that refuses a call of the CPU
-abbrev pub IsNumberOfRefusal : ℕ → Maker → ℕ → Type 0
-IsNumberOfRefusal frames cpu number = (fault : Fault) × (log : List LogEntry) × IsRefused frames log cpu fault × (number ≡ fault_number fault)
+-- a number of a fault that refuses a call of the CPU, and leaves that of it
+abbrev pub IsNumberOfRefusal : ℕ → Names → Maker → Maker → ℕ → Type 0
+IsNumberOfRefusal frames book before after number = (fault : Fault) × Refuses frames book before after fault × (number ≡ fault_number fault)
 
--- A reply is that of one call of this CPU. A fault leaves what the CPU has seen: it is 6 exactly for an event of
--- another CPU, and otherwise the number of the fault that refused the call.
-abbrev pub IsCpuStep : ℕ → Maker → Event → Answer → Maker → Type 0
-IsCpuStep frames before event (Ok reply) after = (event.cpu ≡ before.number) × (after.number ≡ before.number) × Makes frames before event.pid event.call after reply
-IsCpuStep frames before event (Err fault) after = (after ≡ before) × (event.cpu ≢ before.number → fault ≡ another_cpu) × (fault ≡ another_cpu → event.cpu ≢ before.number) × (event.cpu ≡ before.number → IsNumberOfRefusal frames before fault)
+-- A reply is that of one call of this CPU. A fault is 6 exactly for an event of another CPU, and the CPU then stays as it
+-- was. Otherwise it is the number of the fault that refused the call, and leaves of the CPU what that says.
+abbrev pub IsCpuStep : ℕ → Names → Maker → Event → Answer → Maker → Type 0
+IsCpuStep frames book before event (Ok reply) after = (event.cpu ≡ before.number) × (after.number ≡ before.number) × Makes frames before event.pid event.call after reply
+IsCpuStep frames book before event (Err fault) after = (event.cpu ≢ before.number → (fault ≡ another_cpu) × (after ≡ before)) × (fault ≡ another_cpu → event.cpu ≢ before.number) × (event.cpu ≡ before.number → IsNumberOfRefusal frames book before after fault)

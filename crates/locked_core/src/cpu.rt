@@ -2,7 +2,7 @@
 
 ghost use Rattle.std.specs.Prelude.{◌≡◌, ◌≢◌, ◌+◌, ◌<◌, ◌^◌, ◌⊎◌, ◌↔◌, [], false, IfOk, IfErr, OnErr, IsTrue, MatchBool, length, slice_index_or, slice_set, List};
 ghost use Rattle.locked_core.specs.Endings.{EndsAtLast};
-ghost use Rattle.locked_core.specs.Makers.{Maker, maker, maker_of, Makes, IsFit, IsFollowed, IsRefused, IsSpent};
+ghost use Rattle.locked_core.specs.Makers.{Maker, maker, maker_of, Makes, IsFit, IsFollowed, IsRefused, Refuses};
 ghost use Rattle.locked_core.specs.Moments.{Begins, entries_in};
 ghost use Rattle.memory_report.specs.Histories.{AreIsolated, StartsWith, calls_of};
 ghost use Rattle.memory_report.specs.Histories.{AreGuarded};
@@ -221,11 +221,22 @@ impl<N: Name> Cpu<N> {
         tally.add(own);
     }
 
+    /// Takes in the history that a refused call found, which has no more of its own calls.
+    pub(crate) fn found(&mut self, history: Front<N>)
+        requires own { calls_of self.old.number (entries_in history) ≡ calls_of self.old.number self.old.seen }
+        ensures { self.new ≡ maker_of self.old.number history }
+    {
+        self.told = history.again();
+        self.seen = history;
+    }
+
     /// Makes a call of a process: waits for the lock, decides, carries out, logs and publishes it.
     ///
     /// The faults come in this order. Unread: the turn to add the next entry can't be taken, since the kernel's history
     /// is longer than the log or another has this turn. NoMemory: the log can't grow, since there is no memory for it
-    /// or it has 2 ^ 62 entries. After each of them nothing has changed: the call added no entry to the history.
+    /// or it has 2 ^ 62 entries. After each of them the call has added no entry to the history. After NoMemory the CPU
+    /// has seen all of the history that the call found under the lock. If the kernel keeps only so many of its last
+    /// entries, that is of 2 ^ 62 entries. After Unread the CPU is as it was.
     pub fn call<G: Gate + Drop, R: Wait>(
         &mut self,
         rt: &R,
@@ -243,9 +254,7 @@ impl<N: Name> Cpu<N> {
         ensures calls { IfOk result (λ _. calls_of self.new.number self.new.seen
             ≡ calls_of self.old.number self.old.seen + 1) }
         ensures refused { IfErr result (λ f. (log : List LogEntry) × IsRefused N.frames log self.old f) }
-        ensures lasts { IfErr result (λ f. (log : List LogEntry) × IsRefused N.frames log self.old f
-            × IsSpent N.book.keeps log f) }
-        ensures err { OnErr result (self.new ≡ self.old) }
+        ensures found { IfErr result (Refuses N.frames N.book self.old self.new) }
     {
         let ends = false;
         let mut guard = kernel.taken(rt);
@@ -262,7 +271,7 @@ impl<N: Name> Cpu<N> {
     /// invalidates them on all processors, before it releases the lock, and with the reply. Only the reply is for the
     /// process.
     ///
-    /// Refused as `call` is; nothing is ended then, and nothing told.
+    /// Refused as `call` is; nothing is ended then, and nothing told to the processors.
     pub fn call_ending<G: Gate + Drop, I: Invalidate, R: Wait>(
         &mut self,
         rt: &R,
@@ -284,9 +293,7 @@ impl<N: Name> Cpu<N> {
         ensures calls { IfOk result (λ _. calls_of self.new.number self.new.seen
             ≡ calls_of self.old.number self.old.seen + 1) }
         ensures refused { IfErr result (λ f. (log : List LogEntry) × IsRefused N.frames log self.old f) }
-        ensures lasts { IfErr result (λ f. (log : List LogEntry) × IsRefused N.frames log self.old f
-            × IsSpent N.book.keeps log f) }
-        ensures err { OnErr result (self.new ≡ self.old) }
+        ensures found { IfErr result (Refuses N.frames N.book self.old self.new) }
     {
         let ends = true;
         let mut guard = kernel.taken(rt);

@@ -1,12 +1,13 @@
 //! The kernel: how it boots, is opened under a name, and is closed.
 
-ghost use Rattle.std.specs.Prelude.{◌≡◌, ◌-◌, ◌≤◌, ◌^◌, ◌↔◌, [], IfErr, IfOk, IsErrOf, All, Any, length, take, replicate, List};
+ghost use Rattle.std.specs.Prelude.{◌≡◌, ◌-◌, ◌<◌, ◌≤◌, ◌^◌, ◌⊎◌, ◌↔◌, [], IfErr, IfOk, IsErrOf, OnErr, All, Any, length, take, replicate, List};
 ghost use Rattle.left_right.specs.Sides.{view};
 ghost use Rattle.locked_core.specs.Counts.{last_of};
 ghost use Rattle.locked_core.specs.Makers.{Closes, IsLeft, IsRefused, IsShown, IsSnapshot, calls_of_all, new_makers};
 ghost use Rattle.locked_core.specs.declared.moment.Moment.{Moment};
 ghost use Rattle.locked_core.specs.Pages.{page};
 ghost use Rattle.locked_core.specs.Published.{view_of};
+ghost use Rattle.locked_core.specs.Storing.{IsStored, LeavesPart};
 ghost use Rattle.memory_report.specs.Histories.{AreGuarded, AreIsolated, Legal, state_after, calls_of};
 ghost use Rattle.memory_report.specs.declared.entries.LogEntry.{LogEntry};
 
@@ -14,7 +15,7 @@ use crate::book::{Calls, Name, Opened};
 use crate::call_log::CallLog;
 use crate::closing::History;
 use crate::cpu::Cpu;
-use crate::faults::{BootFault, Fault};
+use crate::faults::{BootFault, Fault, StoreFault};
 use crate::gate::Gate;
 use crate::locked::Locked;
 use crate::monitor::Monitor;
@@ -24,8 +25,9 @@ use crate::tally::{Blanks, Rest};
 use crossbeam_utils::Backoff;
 use kernel_calls::Core;
 use memory_image::Image;
-use page_words::is_frame_count;
+use page_words::{is_frame_count, is_wide_frame_count};
 use std::alloc::{AllocError, Global};
+use std::io::Write;
 use std::marker::Model;
 use std::sync::ledger::{self, Share};
 use std::sync::{Mutex, MutexGuard, Wait};
@@ -120,13 +122,14 @@ impl<N: Name, G: Gate + Drop> Kernel<N, G> {
         ensures count { IsErrOf result BootFault.BadCount ↔ (16 ≤ frames) × (frames ≤ 4096)
             × (1 ≤ cpus → cpus ≤ 8 → monitors ≤ 8 → ⊥) }
         ensures counted { IfOk result (λ _. (1 ≤ cpus) × (cpus ≤ 8) × (monitors ≤ 8)) }
+        ensures within { IfOk result (λ _. (16 ≤ frames) × (frames ≤ 4096)) }
     {
         Kernel::<N, G>::boot_keeping(rt, alloc, frames, cpus, monitors, gate, usize::MAX)
     }
 
     /// Boots a kernel as `boot` does, which keeps only so many of the last entries, and has their memory from now on.
     /// Its calls need no more memory, so that it can run for good: no call is refused for memory before 2 ^ 62 calls
-    /// were made (`lasts` of `Cpu::call`). What is promised of its calls and reports is the same.
+    /// were made (`found` of `Cpu::call`). What is promised of its calls and reports is the same.
     pub fn boot_keeping<R: Wait>(
         rt: &R,
         alloc: Global,
@@ -143,14 +146,67 @@ impl<N: Name, G: Gate + Drop> Kernel<N, G> {
         ensures count { IsErrOf result BootFault.BadCount ↔ (16 ≤ frames) × (frames ≤ 4096)
             × (1 ≤ cpus → cpus ≤ 8 → monitors ≤ 8 → ⊥) }
         ensures counted { IfOk result (λ _. (1 ≤ cpus) × (cpus ≤ 8) × (monitors ≤ 8)) }
+        ensures within { IfOk result (λ _. (16 ≤ frames) × (frames ≤ 4096)) }
     {
         if !is_frame_count(frames) {
+            return Err(BootFault::BadSize);
+        }
+        Kernel::<N, G>::boot_wide_keeping(rt, alloc, frames, cpus, monitors, gate, keeps)
+    }
+
+    /// Boots a kernel as `boot` does, of 16 to 1,048,576 frames: up to all 4 GiB that a page word can name. Its snapshot
+    /// is refused if it has more than 4,096 frames; `store` writes its image.
+    ///
+    /// BadSize where the frames are not 16 to 1,048,576, else BadCount where the CPUs are not 1 to 8 or the
+    /// monitors more than 8, else NoMemory where there is none for them.
+    pub fn boot_wide<R: Wait>(
+        rt: &R,
+        alloc: Global,
+        frames: u32,
+        cpus: u8,
+        monitors: u8,
+        gate: G,
+    ) -> Result<Blank<G>, BootFault>
+        ensures made { IfOk result (λ b. (b.frames ≡ frames) × (b.cpus ≡ cpus) × (b.monitors ≡ monitors)) }
+        ensures keeps { IfOk result (λ b. b.book.keeps ≡ 2 ^ 64 - 1) }
+        ensures size { IsErrOf result BootFault.BadSize ↔ (16 ≤ frames → frames ≤ 1048576 → ⊥) }
+        ensures count { IsErrOf result BootFault.BadCount ↔ (16 ≤ frames) × (frames ≤ 1048576)
+            × (1 ≤ cpus → cpus ≤ 8 → monitors ≤ 8 → ⊥) }
+        ensures counted { IfOk result (λ _. (1 ≤ cpus) × (cpus ≤ 8) × (monitors ≤ 8)) }
+        ensures within { IfOk result (λ _. (16 ≤ frames) × (frames ≤ 1048576)) }
+    {
+        Kernel::<N, G>::boot_wide_keeping(rt, alloc, frames, cpus, monitors, gate, usize::MAX)
+    }
+
+    /// Boots a kernel as `boot_keeping` does, of 16 to 1,048,576 frames.
+    ///
+    /// BadSize where the frames are not 16 to 1,048,576, else BadCount where the CPUs are not 1 to 8 or the
+    /// monitors more than 8, else NoMemory where there is none for them.
+    pub fn boot_wide_keeping<R: Wait>(
+        rt: &R,
+        alloc: Global,
+        frames: u32,
+        cpus: u8,
+        monitors: u8,
+        gate: G,
+        keeps: usize,
+    ) -> Result<Blank<G>, BootFault>
+        requires { 2 ≤ keeps }
+        ensures made { IfOk result (λ b. (b.frames ≡ frames) × (b.cpus ≡ cpus) × (b.monitors ≡ monitors)) }
+        ensures keeps { IfOk result (λ b. b.book.keeps ≡ keeps) }
+        ensures size { IsErrOf result BootFault.BadSize ↔ (16 ≤ frames → frames ≤ 1048576 → ⊥) }
+        ensures count { IsErrOf result BootFault.BadCount ↔ (16 ≤ frames) × (frames ≤ 1048576)
+            × (1 ≤ cpus → cpus ≤ 8 → monitors ≤ 8 → ⊥) }
+        ensures counted { IfOk result (λ _. (1 ≤ cpus) × (cpus ≤ 8) × (monitors ≤ 8)) }
+        ensures within { IfOk result (λ _. (16 ≤ frames) × (frames ≤ 1048576)) }
+    {
+        if !is_wide_frame_count(frames) {
             return Err(BootFault::BadSize);
         }
         if cpus < 1 || cpus > 8 || monitors > 8 {
             return Err(BootFault::BadCount);
         }
-        let Ok(core) = Core::boot(alloc, frames) else {
+        let Ok(core) = Core::boot_wide(alloc, frames) else {
             return Err(BootFault::NoMemory);
         };
         let opened = Opened::new();
@@ -195,17 +251,43 @@ impl<N: Name, G: Gate + Drop> Kernel<N, G> {
     /// the calls and has seen what it had.
     ///
     /// The faults come in this order. Unread: the turn to add the next entry can't be taken, since the kernel's history
-    /// is longer than the log or another has this turn. NoMemory: there is no memory for the image.
+    /// is longer than the log or another has this turn. TooManyFrames: the kernel has more than 4,096 frames. NoMemory:
+    /// there is no memory for the image.
     pub fn snapshot<R: Wait>(&self, rt: &R, cpu: &mut Cpu<N>) -> Result<Image, Fault>
         ensures taken { IfOk result (λ image. (history : List LogEntry) × IsSnapshot N.frames cpu.old image history) }
         ensures shows { IfOk result (λ image. (moments : List Moment) × IsShown N.book.opening cpu.old image moments) }
         ensures kept { cpu.new ≡ cpu.old }
+        ensures large { 4096 < N.frames → IsErrOf result Fault.TooManyFrames ⊎ IsErrOf result Fault.Unread }
         ensures refused { IfErr result (λ f. (log : List LogEntry) × IsRefused N.frames log cpu.old f) }
     {
         let mut guard = self.taken(rt);
         let image = guard.snapshot(cpu);
         MutexGuard::unlock(guard);
         image
+    }
+
+    /// Writes the image of the kernel's whole machine with its pending offers, of version 3, of one moment between calls:
+    /// waits for the lock, and has it until all is written. The CPU has the calls and has seen what it had.
+    ///
+    /// Unread as for a call; nothing was written then. NoMemory if there is no memory for the list of offers, WriteFailed
+    /// if a write fails; nothing was written then, or a prefix.
+    pub fn store<R: Wait, W: Write>(
+        &self,
+        rt: &R,
+        cpu: &mut Cpu<N>,
+        writer: &mut W,
+    ) -> Result<(), StoreFault>
+        ensures stored { IfOk result (λ _. (moments : List Moment) × IsStored N.frames N.book.opening cpu.old
+            (W.contents writer.old) (W.contents writer.new) moments) }
+        ensures part { OnErr result (LeavesPart N.frames N.book.opening cpu.old
+            (W.contents writer.old) (W.contents writer.new)) }
+        ensures unread { IsErrOf result StoreFault.Unread → W.contents writer.new ≡ W.contents writer.old }
+        ensures kept { cpu.new ≡ cpu.old }
+    {
+        let mut guard = self.taken(rt);
+        let written = guard.store(cpu, writer);
+        MutexGuard::unlock(guard);
+        written
     }
 
     /// Ends the kernel, and returns its history, if each CPU came back once and agrees with the log.

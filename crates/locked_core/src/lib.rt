@@ -29,7 +29,7 @@ mod turn;
 pub use book::Name;
 pub use closing::History;
 pub use cpu::{Cpu, Told};
-pub use faults::{BootFault, Fault};
+pub use faults::{BootFault, Fault, StoreFault};
 pub use gate::{Gate, OpenGate, Point};
 pub use invalidate::Invalidate;
 pub use kernel::{Blank, Boot, Kernel};

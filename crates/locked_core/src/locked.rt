@@ -1,11 +1,11 @@
 //! The value under the lock.
 
-ghost use Rattle.std.specs.Prelude.{◌≡◌, ◌≤◌, ◌<◌, ◌+◌, ◌==◌, ◌^◌, ◌++◌, [], ◌∷◌, replicate, IfOk, IfErr, IfSome, OnErr, List, length, true};
+ghost use Rattle.std.specs.Prelude.{◌≡◌, ◌≤◌, ◌<◌, ◌+◌, ◌==◌, ◌^◌, ◌++◌, [], ◌∷◌, replicate, IfOk, IfErr, IfSome, IsErrOf, OnErr, OnOk, List, length, true, ◌⊎◌};
 ghost use Rattle.kernel_calls.specs.Translations.{ended_by, of_call, Ends};
 ghost use Rattle.left_right.specs.Sides.{view};
 ghost use Rattle.locked_core.specs.Counts.{last_of};
 ghost use Rattle.locked_core.specs.Endings.{EndsAtLast};
-ghost use Rattle.locked_core.specs.Makers.{AreAll, Closes, IsFollowed, IsLeft, IsRefused, IsSpent, Makes, Prevents, calls_of_all, maker_of};
+ghost use Rattle.locked_core.specs.Makers.{AreAll, Closes, IsFollowed, IsLeft, IsRefused, Makes, Prevents, Refuses, calls_of_all, maker_of};
 ghost use Rattle.locked_core.specs.Moments.{Begins, Follows, core_after, entries_in, moment};
 ghost use Rattle.locked_core.specs.Pages.{page};
 ghost use Rattle.locked_core.specs.Published.{view_of};
@@ -13,6 +13,8 @@ ghost use Rattle.memory_image.specs.Machine.{IsImageOf};
 ghost use Rattle.memory_image.specs.Sound.{StandsFor};
 ghost use Rattle.memory_report.specs.Histories.{AreGuarded, AreIsolated, Legal, StartsWith, state_after, calls_of, entry_after};
 ghost use Rattle.locked_core.specs.Rules.{head_of, turn_after};
+ghost use Rattle.locked_core.specs.Storing.{IsPlace};
+ghost use Rattle.wide_image.specs.Stored.{StoresMachine, StoresFront};
 ghost use Rattle.memory_report.specs.declared.entries.LogEntry.{LogEntry};
 ghost use Rattle.process_table.specs.State.{open_with};
 
@@ -20,7 +22,7 @@ use crate::book::{Calls, Front, Name, Opened};
 use crate::call_log::{CallLog, entry_of};
 use crate::closing::{History, are_all, merged};
 use crate::cpu::Cpu;
-use crate::faults::Fault;
+use crate::faults::{Fault, StoreFault};
 use crate::gate::{Gate, Point};
 use crate::head::Head;
 use crate::publish::keep_up;
@@ -28,11 +30,13 @@ use crate::rule::LogWriter;
 use crate::tally::Tally;
 use crate::turn::Turn;
 use kernel_calls::{Call, Core, Ended, Event, Reply};
-use memory_image::Image;
+use memory_image::{CoreImageFault, Image};
 use page_words::Pid;
+use std::io::Write;
 use std::marker::Model;
 use std::sync::Wait;
 use std::sync::ledger::Book;
+use wide_image::write_core;
 
 /// A call that was checked under the lock: how many entries its CPU had then, its event, and its turn to add the next
 /// entry to the history. It can be carried out only on the log that it was checked on.
@@ -98,7 +102,7 @@ impl<N: Name> Locked<N> {
         counted: Book<Calls<N>>,
         tally: Tally<N>,
     ) -> Locked<N>
-        requires size { (16 ≤ N.frames) × (N.frames ≤ 4096) }
+        requires size { (16 ≤ N.frames) × (N.frames ≤ 1048576) }
         requires log { (log.entries ≡ []) × (log.keeps ≡ N.book.keeps) }
         requires keeps { 2 ≤ N.book.keeps }
         requires counted { (counted.total ≡ 0) × (tally ≡ replicate 8 0) }
@@ -135,6 +139,9 @@ impl<N: Name> Locked<N> {
             × (calls_of cpu.old.number self.old.log ≡ calls_of cpu.old.number cpu.old.seen)) }
         ensures begins { IfSome result (λ _. Begins self.old.moments cpu.old.moments) }
         ensures told { IfSome result (λ _. Begins self.old.moments cpu.old.told) }
+        ensures history { entries_in self.old.moments ≡ self.old.log }
+        ensures stands { self.old.core.state ≡ state_after N.frames self.old.log }
+        ensures left { core_after N.book.opening self.old.moments ≡ self.old.core }
         ensures same { (self.new ≡ self.old) × (cpu.new ≡ cpu.old) }
     {
         let turn = self.head.take_turn(&self.log, &cpu.told)?;
@@ -144,7 +151,8 @@ impl<N: Name> Locked<N> {
 
     /// The image of the core, for this CPU.
     ///
-    /// Unread as for a call; NoMemory where there is no memory for the image.
+    /// Unread as for a call; TooManyFrames where the kernel has more than 4,096, else NoMemory where there is no memory for
+    /// the image.
     pub(crate) fn snapshot(&mut self, cpu: &mut Cpu<N>) -> Result<Image, Fault>
         ensures legal { IfOk result (λ _. Legal N.frames self.old.log) }
         ensures stands { IfOk result (λ image. StandsFor image (state_after N.frames self.old.log)) }
@@ -153,6 +161,7 @@ impl<N: Name> Locked<N> {
         ensures begins { IfOk result (λ _. Begins self.old.moments cpu.old.moments) }
         ensures fits { IfOk result (λ _. StartsWith self.old.log cpu.old.seen
             × (calls_of cpu.old.number self.old.log ≡ calls_of cpu.old.number cpu.old.seen)) }
+        ensures large { 4096 < N.frames → IsErrOf result Fault.TooManyFrames ⊎ IsErrOf result Fault.Unread }
         ensures refused { IfErr result (IsRefused N.frames self.old.log cpu.old) }
         ensures same { (self.new ≡ self.old) × (cpu.new ≡ cpu.old) }
     {
@@ -160,9 +169,40 @@ impl<N: Name> Locked<N> {
             return Err(Fault::Unread);
         };
         self.head.give_back(turn);
+        self.core.stands();
         match Image::of(self.log.allocator(), &self.core) {
             Ok(image) => Ok(image),
-            Err(_) => Err(Fault::NoMemory),
+            Err(CoreImageFault::TooManyFrames) => Err(Fault::TooManyFrames),
+            Err(CoreImageFault::NoMemory) => Err(Fault::NoMemory),
+        }
+    }
+
+    /// Writes the image of the core with its offers, of version 3, for this CPU.
+    ///
+    /// Unread as for a call, with nothing written. NoMemory where there is none for the offers, WriteFailed where a write
+    /// fails.
+    pub(crate) fn store<W: Write>(
+        &mut self,
+        cpu: &mut Cpu<N>,
+        writer: &mut W,
+    ) -> Result<(), StoreFault>
+        ensures place { IsErrOf result StoreFault.Unread
+            ⊎ IsPlace N.frames N.book.opening cpu.old self.old.moments }
+        ensures stored { OnOk result (StoresMachine (core_after N.book.opening self.old.moments)
+            (W.contents writer.old) (W.contents writer.new)) }
+        ensures part { OnErr result (StoresFront (core_after N.book.opening self.old.moments)
+            (W.contents writer.old) (W.contents writer.new)) }
+        ensures unread { IsErrOf result StoreFault.Unread → W.contents writer.new ≡ W.contents writer.old }
+        ensures same { (self.new ≡ self.old) × (cpu.new ≡ cpu.old) }
+    {
+        let Some(turn) = self.fit(cpu) else {
+            return Err(StoreFault::Unread);
+        };
+        self.head.give_back(turn);
+        match write_core(self.log.allocator(), &self.core, writer) {
+            Ok(()) => Ok(()),
+            Err(wide_image::StoreFault::NoMemory) => Err(StoreFault::NoMemory),
+            Err(wide_image::StoreFault::WriteFailed) => Err(StoreFault::WriteFailed),
         }
     }
 
@@ -184,6 +224,8 @@ impl<N: Name> Locked<N> {
         ensures begins { IfOk result (λ _. Begins self.old.moments cpu.old.moments) }
         ensures told { IfOk result (λ _. Begins self.old.moments cpu.old.told) }
         ensures opened { N.book.opening.state ≡ open_with N.frames }
+        ensures follows { Follows N.book.opening self.old.moments }
+        ensures history { entries_in self.old.moments ≡ self.old.log }
         ensures refused { IfErr result (IsRefused N.frames self.old.log cpu.old) }
         ensures unread { IfErr result (λ f. f ≡ Fault.Unread) }
         ensures same { (self.new ≡ self.old) × (cpu.new ≡ cpu.old) }
@@ -205,8 +247,8 @@ impl<N: Name> Locked<N> {
     /// counts and publishes it. Returns its reply; the CPU has then seen the log with its entry. It may wait only to
     /// publish.
     ///
-    /// NoMemory where the log can't grow; nothing has changed then. A log that keeps only its last entries can't grow
-    /// once it has 2 ^ 62.
+    /// NoMemory where the log can't grow; the CPU has then seen the log, and nothing else has changed. A log that keeps only
+    /// its last entries can't grow once it has 2 ^ 62.
     pub(crate) fn carry_out<R: Wait>(
         &mut self,
         rt: &R,
@@ -237,8 +279,9 @@ impl<N: Name> Locked<N> {
         ensures ends { IfOk result (λ _. Ends (ended_by self.old.core ready.event) self.old.core self.new.core) }
         ensures watched { self.new.is_watched ≡ self.old.is_watched }
         ensures prevented { IfErr result Prevents }
-        ensures spent { IfErr result (IsSpent N.book.keeps self.old.log) }
-        ensures err { OnErr result ((self.new ≡ self.old) × (cpu.new ≡ cpu.old)) }
+        ensures spent { OnErr result (N.book.keeps < 2 ^ 62 → 2 ^ 62 ≤ length self.old.log) }
+        ensures found { OnErr result (cpu.new ≡ maker_of cpu.old.number self.old.moments) }
+        ensures err { OnErr result (self.new ≡ self.old) }
     {
         let Locked {
             core,
@@ -252,6 +295,7 @@ impl<N: Name> Locked<N> {
         let Ready { nth, event, turn } = ready;
         if log.reserve().is_err() {
             head.give_back(turn);
+            cpu.found(front_of(log, head));
             return Err(Fault::NoMemory);
         }
         let outcome = core.perform(&event);
@@ -281,7 +325,7 @@ impl<N: Name> Locked<N> {
     /// Makes a call of this CPU: checks it, reaches the gate, and carries it out. Returns its reply. If it is asked to,
     /// it also returns which translations the call ended, and otherwise Nothing.
     ///
-    /// Refused as `judge` and `carry_out` are; nothing has changed then.
+    /// Refused as `judge` and `carry_out` are; nothing has changed then that lies under the lock.
     pub(crate) fn make<G: Gate + Drop, R: Wait>(
         &mut self,
         rt: &R,
@@ -302,8 +346,8 @@ impl<N: Name> Locked<N> {
         ensures all { IfOk result (λ _. cpu.new.moments ≡ self.new.moments) }
         ensures watched { self.new.is_watched ≡ self.old.is_watched }
         ensures refused { IfErr result (IsRefused N.frames self.old.log cpu.old) }
-        ensures spent { IfErr result (IsSpent N.book.keeps self.old.log) }
-        ensures err { OnErr result ((self.new ≡ self.old) × (cpu.new ≡ cpu.old)) }
+        ensures found { IfErr result (Refuses N.frames N.book cpu.old cpu.new) }
+        ensures err { OnErr result (self.new ≡ self.old) }
     {
         let ready = self.judge(cpu, asked.pid, asked.call)?;
         gate.reach(Point::Locked);

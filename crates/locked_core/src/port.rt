@@ -45,7 +45,7 @@ impl<'a, N: Name, G: Gate + Drop, R: Wait> Caller<OnKernel<'a, N, G, R>> for Cpu
 
     ghost cpu_of = { λ cpu. cpu.number };
 
-    ghost called = { IsCpuCall N.frames };
+    ghost called = { IsCpuCall N.frames N.book };
 
     fn number(&self) -> u8 {
         self.number

@@ -72,7 +72,7 @@ pub fn writer_of<R: Wait>(
     seen: &Beginning,
     readers: usize,
 ) -> Result<LogWriter, AllocError>
-    requires size { (16 ≤ frames) × (frames ≤ 4096) }
+    requires size { (16 ≤ frames) × (frames ≤ 1048576) }
     requires readers { (0 < readers) × (readers < 2 ^ 32) }
     requires empty { seen.now.log ≡ [] }
     ensures shown { IfOk result (λ w. (w.desk.shown.value ≡ page frames seen.now.book [])

@@ -39,7 +39,7 @@ impl Model for Shown {
 impl Shown {
     /// The report of the opening.
     pub fn opening(frames: u32, seen: &Beginning) -> Shown
-        requires size { (16 ≤ frames) × (frames ≤ 4096) }
+        requires size { (16 ≤ frames) × (frames ≤ 1048576) }
         requires empty { seen.now.log ≡ [] }
         ensures { result ≡ page frames seen.now.book [] }
     {

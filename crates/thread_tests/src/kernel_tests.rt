@@ -88,7 +88,7 @@ fn one_cpu_and_one_monitor(rt: HostRuntime) {
 }
 
 /// Closes a kernel without its CPUs.
-fn empty<N: Name, R: AllocGlobal + Wait + Abort>(rt: &R, blank: Blank<OpenGate>)
+pub(crate) fn empty<N: Name, R: AllocGlobal + Wait + Abort>(rt: &R, blank: Blank<OpenGate>)
     requires { (blank.frames ≡ N.frames) × (blank.book ≡ N.book) }
 {
     let Boot {

@@ -24,3 +24,5 @@ mod memory_tests;
 mod snapshot_tests;
 #[cfg(test)]
 mod two_helpers;
+#[cfg(test)]
+mod wide_tests;

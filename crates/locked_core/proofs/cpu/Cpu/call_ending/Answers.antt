@@ -1,5 +1,5 @@
 use Rattle.std.proofs.Common.{ℕ, List, Result, Ok, Err, IfErr}
-use Rattle.locked_core.specs.Makers.{Maker, IsRefused, IsSpent}
+use Rattle.locked_core.specs.Makers.{Maker, IsRefused}
 use Rattle.locked_core.specs.declared.faults.Fault.{Fault}
 use Rattle.memory_report.specs.declared.entries.LogEntry.{LogEntry}
 use Rattle.locked_core.proofs.cpu.Cpu.call_ending.Goals as goal
@@ -8,14 +8,6 @@ on_some_log : {X : Type 0} (frames : ℕ) (log : List LogEntry) (cpu : Maker) (m
     → IfErr made (λ f. IsRefused frames log cpu f) → IfErr made (λ f. (l : List LogEntry) × IsRefused frames l cpu f)
 on_some_log frames log cpu (Ok r) h = h
 on_some_log frames log cpu (Err f) h = (log, h)
-
-spent_on_some_log : {X : Type 0} (frames keeps : ℕ) (log : List LogEntry) (cpu : Maker) (made : Result X Fault) → IfErr made (λ f. IsRefused frames log cpu f) → IfErr made (IsSpent keeps log)
-    → IfErr made (λ f. (l : List LogEntry) × IsRefused frames l cpu f × IsSpent keeps l f)
-spent_on_some_log frames keeps log cpu (Ok r) h k = h
-spent_on_some_log frames keeps log cpu (Err f) h k = (log, h, k)
-
-pub returns-clause-lasts : goal.returns-clause-lasts
-returns-clause-lasts g c = spent_on_some_log g.N.Name.frames g.N.Name.book.keeps c.deref_mut.result.now.log c.args.self.now c.make-made.result c.make-made.ensures.refused c.make-made.ensures.spent
 
 -- the log is the one that was under the lock
 pub returns-clause-refused : goal.returns-clause-refused

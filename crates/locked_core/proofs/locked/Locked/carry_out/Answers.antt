@@ -131,8 +131,8 @@ push-requires-clause-all g c =
     let had : List Moment = c.self.inside.head in
     ap entries_in c.all-all.ensures.0 ∙ (ap entries_in c.add.ensures ∙ (entries_append had (moment e core ∷ []) ∙ ap (λ l. l ++ e ∷ []) (c.self.invariant.told ∙ sym c.reserve.ensures.entries)))
 
-pub front_of-requires-clause-all : goal.front_of-requires-clause-all
-front_of-requires-clause-all g c =
+pub front_of-requires-2-clause-all : goal.front_of-requires-2-clause-all
+front_of-requires-2-clause-all g c =
     let e : LogEntry = c.entry_of-entry.result in
     let core : View = c.perform-outcome.new.self in
     let had : List Moment = c.self.inside.head in
@@ -141,8 +141,8 @@ front_of-requires-clause-all g c =
     told
 
 -- the log with its entry is legal
-pub front_of-requires-clause-legal : goal.front_of-requires-clause-legal
-front_of-requires-clause-legal g c =
+pub front_of-requires-2-clause-legal : goal.front_of-requires-2-clause-legal
+front_of-requires-2-clause-legal g c =
     let h : UnderLock = c.args.self.now in
     let event : Event = c.args.ready.event in
     let e : LogEntry = c.entry_of-entry.result in
