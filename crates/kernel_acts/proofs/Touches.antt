@@ -40,6 +40,7 @@ use Rattle.kernel_calls.specs.Translations.{if_lazy, of_call, of_pages}
 use Rattle.process_table.specs.declared.causes.Cause.TheVariants as cause
 use Rattle.kernel_calls.specs.declared.calls.Reply.TheVariants as reply
 use Rattle.kernel_calls.specs.declared.translations.Ended.TheVariants as end
+use Rattle.kernel_calls.specs.Gone.{gone_by}
 use Rattle.kernel_acts.specs.Touched.{access_of_byte, AreMarked, TakesNoStore, Touches}
 use Rattle.kernel_acts.proofs.LoadedBytes.{bytes_in, alike, page_long, own_bytes, beside_bytes}
 use Rattle.kernel_acts.proofs.TransferSteps.{one_page, part_stored, takes, byte_accessed, FirstStored, first_stored, first_loaded}
@@ -120,12 +121,13 @@ loaded_state s p a done =
     ∙ ap (λ x. record s { spaces = all_accessed (with_pages s.spaces p (touched a One)) p (page_and (page_number a) x) }) (one_page a)
 
 pub read_touches : (v w : View) (p a : ℕ) (told : Reply) (ended : Ended) → IsCore v → IsCore w → told ≡ answer v.state (load_byte p a) → ended ≡ ended_by v (load_byte p a)
-    → w.state ≡ next v.state (load_byte p a) → Ends ended v w → (completes told ≡ false → w ≡ v) → Touches v (load_byte p a) p a Read told ended w
-read_touches v w p a told ended now later reply ended_is state ends kept = record {
+    → w.state ≡ next v.state (load_byte p a) → Ends ended v w → FramesStay (gone_by v.state (load_byte p a)) (memory_of v) (memory_of w) → (completes told ≡ false → w ≡ v) → Touches v (load_byte p a) p a Read told ended w
+read_touches v w p a told ended now later reply ended_is state ends stay kept = record {
   reply = reply;
   ended_is = ended_is;
   state = state;
   ends = ends;
+  stay = stay;
   kept = kept;
   bytes = λ q x. elim (cases_Bool (completes told)) [
     | inl done ↦
@@ -242,6 +244,7 @@ marks_touch v w p a now later live user taken after stay =
       ended_is = none;
       state = state;
       ends = subst (λ (x : Ended). Ends x v w) (sym none) (event_ends v w e now later state (stays_most stay));
+      stay = stays_most stay;
       kept = λ stops. cc;
       bytes = made.bytes;
       user = λ _. made.user;
@@ -336,13 +339,14 @@ zero_next s p a b zero_there = elim (cases_Bool (completes (answer s (store_byte
 ]
 
 pub zero_touches : (v w : View) (p a : ℕ) (told : Reply) (ended : Ended) → IsCore v → IsCore w → frame_bytes v.bytes 0 ≡ zeros → TakesNoStore v p a
-    → told ≡ answer v.state (store_byte p a 0) → ended ≡ ended_by v (store_byte p a 0) → w.state ≡ next v.state (store_byte p a 0) → Ends ended v w → (completes told ≡ false → w ≡ v)
+    → told ≡ answer v.state (store_byte p a 0) → ended ≡ ended_by v (store_byte p a 0) → w.state ≡ next v.state (store_byte p a 0) → Ends ended v w → FramesStay (gone_by v.state (store_byte p a 0)) (memory_of v) (memory_of w) → (completes told ≡ false → w ≡ v)
     → Touches v (access_of_byte v.state p a Write) p a Write told ended w
-zero_touches v w p a told ended now later zero_frame none reply ended_is state ends kept = record {
+zero_touches v w p a told ended now later zero_frame none reply ended_is state ends stay kept = record {
   reply = reply;
   ended_is = ended_is;
   state = state ∙ zero_next s p a (byte_at s.spaces p a) zero_there;
   ends = ends;
+  stay = stay;
   kept = kept;
   bytes = λ q x. elim (cases_Bool (completes told)) [
     | inl done ↦ (made done).bytes q x

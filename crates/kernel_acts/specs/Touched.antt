@@ -8,9 +8,11 @@ use Rattle.page_words.specs.Addresses.{IsUserPage, page_number}
 use Rattle.address_space.specs.ByWalk.{finds_at}
 use Rattle.address_space.specs.Image.{takes_stores}
 use Rattle.address_space.specs.Spaces.{Slot, Spaces, cell_or_fresh, byte_at, slot_at}
+use Rattle.address_space.specs.Stays.{FramesStay}
 use Rattle.process_table.specs.Image.{memory_of}
 use Rattle.process_table.specs.State.{State}
 use Rattle.process_table.specs.View.{View}
+use Rattle.kernel_calls.specs.Gone.{gone_by}
 use Rattle.kernel_calls.specs.Machine.{answer, next, completes}
 use Rattle.kernel_calls.specs.Translations.{ended_by, Ends}
 use Rattle.kernel_calls.specs.declared.calls.Event.{Event}
@@ -46,6 +48,7 @@ pub record Touches (v : View) (e : Event) (p address : ℕ) (access : Access) (t
   pub ended_is : ended ≡ ended_by v e
   pub state : w.state ≡ next v.state e
   pub ends : Ends ended v w
+  pub stay : FramesStay (gone_by v.state e) (memory_of v) (memory_of w)
   pub kept : completes told ≡ false → w ≡ v
   pub bytes : (q at : ℕ) → byte_at w.state.spaces q at ≡ byte_at v.state.spaces q at
   pub user : completes told ≡ true → IsUserPage (page_number address)

@@ -5,7 +5,9 @@ ghost use Rattle.page_words.specs.Addresses.{IsUserPage, page_number};
 ghost use Rattle.table_walk.specs.declared.Access.TheVariants as access;
 ghost use Rattle.address_space.specs.ByWalk.{finds_at};
 ghost use Rattle.address_space.specs.Spaces.{byte_at, slot_at};
+ghost use Rattle.address_space.specs.Stays.{FramesStay};
 ghost use Rattle.process_table.specs.Image.{StandsFor, image_of, memory_of};
+ghost use Rattle.kernel_calls.specs.Gone.{gone_by};
 ghost use Rattle.kernel_calls.specs.Machine.{answer, next, completes};
 ghost use Rattle.kernel_calls.specs.Translations.{ended_by, Ends};
 ghost use Rattle.kernel_calls.specs.declared.calls.Reply.TheVariants as reply;
@@ -117,6 +119,8 @@ pub fn touch(core: &mut Core, pid: Pid, address: u64, access: Access) -> (Reply,
     ensures ended { result.1 ≡ ended_by core.old (touch_of core.old.state pid address access) }
     ensures state { core.new.state ≡ next core.old.state (touch_of core.old.state pid address access) }
     ensures ends { Ends result.1 core.old core.new }
+    ensures stay { FramesStay (gone_by core.old.state (touch_of core.old.state pid address access))
+        (memory_of core.old) (memory_of core.new) }
     ensures kept { completes result.0 ≡ false → core.new ≡ core.old }
     ensures bytes { (p at : ℕ) → byte_at core.new.state.spaces p at ≡ byte_at core.old.state.spaces p at }
     ensures user { completes result.0 ≡ true → IsUserPage (page_number address) }

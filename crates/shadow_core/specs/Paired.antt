@@ -1,5 +1,5 @@
 -- A core and shadow tables of it: each translation of the shadow is one that the core's walk gives now.
-use Rattle.std.specs.Prelude.{nat_lt}
+use Rattle.std.specs.Prelude.{nat_lt, slice_index}
 use Rattle.std.proofs.Common.{◌≡◌, ◌≢◌, ℕ, ◌+◌, ◌*◌, ◌^◌, ◌<◌, ◌≤◌, ◌⊎◌, Bool, not, ◌==◌, ◌&&◌, List, length, Option, Some, None, Ok, refl}
 use Rattle.std.specs.Coded.{Coded, code_by, coded×}
 use Rattle.std.specs.Option.{unwrap_or}
@@ -49,6 +49,10 @@ kept_at p page t = record { slot = spaces.at_page p page; frame = t.frame; write
 pub record IsShadowed (v : View) (s : Shadow) : Type 0 where
   pub given : (p page : ℕ) (t : Translation) → map.get s.translations (at_page p page) ≡ Some t → IsGiven v (kept_at p page t)
   pub enough : 4096 * 11 ≤ length s.bytes
+
+-- a process has neither a root nor a frame of the pool
+abbrev pub HasNothing : Shadow → ℕ → Type 0
+HasNothing s p = (root_frame s p ≡ None) × (slice_index s.taken p ≡ 0)
 
 -- whether a fault at an address of the user range needs more frames of the pool than are free
 abbrev pub lacks_frames : Shadow → ℕ → ℕ → Bool

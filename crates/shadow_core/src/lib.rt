@@ -4,18 +4,20 @@
 //! shadow forgets them. When the processor faults, the translation is filled if the core lets the access through.
 #![tactic(auto)]
 
-ghost use Rattle.std.specs.Prelude.{◌≡◌, ℕ, ◌+◌, ◌≤◌, ◌*◌, ◌↔◌, not, ◌==◌, true, false, None, length, replicate, slice_set};
+ghost use Rattle.std.specs.Prelude.{◌≡◌, ◌≢◌, ℕ, ◌+◌, ◌≤◌, ◌*◌, ◌↔◌, not, ◌==◌, true, false, None, length, replicate, slice_set};
 ghost use Rattle.page_words.specs.FiniteMap as map;
 ghost use Rattle.kernel_calls.specs.declared.translations.Ended.TheVariants as end;
 ghost use Rattle.address_space.specs.Spaces.{byte_at};
-ghost use Rattle.process_table.specs.Image.{StandsFor, image_of};
+ghost use Rattle.address_space.specs.Stays.{FramesStay, LooseStay};
+ghost use Rattle.process_table.specs.Image.{StandsFor, image_of, memory_of};
+ghost use Rattle.kernel_calls.specs.Gone.{gone_by, gives_back};
 ghost use Rattle.kernel_calls.specs.Machine.{answer, next};
 ghost use Rattle.kernel_calls.specs.Translations.{Ends, ended_by, is_all_of};
 ghost use Rattle.kernel_acts.specs.Touched.{touch_of};
 ghost use Rattle.page_words.specs.Addresses.{page_number};
-ghost use Rattle.shadow_tables.specs.Needs.{frames_needed};
+ghost use Rattle.shadow_tables.specs.Needs.{frames_needed, TablesStay};
 ghost use Rattle.shadow_tables.specs.Shadow.{IsFixed, root_frame};
-ghost use Rattle.shadow_core.specs.Paired.{Paired, IsShadowed, left_by, HasFilled, IsStopped, handled_of, lacks_frames, TranslationsAreRead, WalksAreTheCores, PoolIsOutOfReach, AccessesAreServed, AccessesAreKept, RootsStay};
+ghost use Rattle.shadow_core.specs.Paired.{Paired, IsShadowed, left_by, HasFilled, HasNothing, IsStopped, handled_of, lacks_frames, TranslationsAreRead, WalksAreTheCores, PoolIsOutOfReach, AccessesAreServed, AccessesAreKept, RootsStay};
 
 mod pairs;
 
@@ -79,11 +81,17 @@ impl ShadowedCore {
         ensures ended { result.1 ≡ ended_by self.old.core event.now }
         ensures state { self.new.core.state ≡ next self.old.core.state event.now }
         ensures ends { Ends (ended_by self.old.core event.now) self.old.core self.new.core }
+        ensures stay { FramesStay (gone_by self.old.core.state event.now)
+            (memory_of self.old.core) (memory_of self.new.core) }
+        ensures loose { gives_back event.now.call ≡ true
+            → LooseStay (memory_of self.old.core) (memory_of self.new.core) }
         ensures left { self.new.shadow.translations
             ≡ left_by (ended_by self.old.core event.now) self.old.shadow.translations }
         ensures stands { StandsFor (image_of self.new.core) self.new.core.state }
         ensures roots { (p : ℕ) → is_all_of result.1 p ≡ false
             → root_frame self.new.shadow p ≡ root_frame self.old.shadow p }
+        ensures tables { (p : ℕ) → is_all_of result.1 p ≡ false → TablesStay self.old.shadow p self.new.shadow }
+        ensures gone { (p : ℕ) → is_all_of result.1 p ≡ true → HasNothing self.new.shadow p }
         ensures fixed { IsFixed self.old.shadow self.new.shadow }
     {
         carry_out(&mut self.core, &mut self.shadow, event)
@@ -96,7 +104,7 @@ impl ShadowedCore {
     ///
     /// Full if the fill needs more frames of the pool than are free: nothing changes then. The caller has all processors
     /// leave the roots that it frees, calls `forget_all` or `forget_process`, and repeats the fault. A fault of the
-    /// process or a refusal changes nothing either.
+    /// process or a refusal changes nothing either. Each table that there was stays where it is.
     pub fn fault(&mut self, pid: Pid, address: u64, access: Access) -> (Handled, Ended)
         ensures full { (result.0 ≡ Handled.Full) ↔ (lacks_frames self.old.shadow pid address ≡ true) }
         ensures unchanged { lacks_frames self.old.shadow pid address ≡ true → (result.1 ≡ end.Nothing) × (self.new ≡ self.old) }
@@ -107,6 +115,9 @@ impl ShadowedCore {
         ensures state { lacks_frames self.old.shadow pid address ≡ false → self.new.core.state
             ≡ next self.old.core.state (touch_of self.old.core.state pid address access) }
         ensures ends { Ends result.1 self.old.core self.new.core }
+        ensures stay { lacks_frames self.old.shadow pid address ≡ false
+            → FramesStay (gone_by self.old.core.state (touch_of self.old.core.state pid address access))
+            (memory_of self.old.core) (memory_of self.new.core) }
         ensures bytes { (p at : ℕ) → byte_at self.new.core.state.spaces p at
             ≡ byte_at self.old.core.state.spaces p at }
         ensures stopped { IsStopped result.0 → self.new ≡ self.old }
@@ -116,6 +127,7 @@ impl ShadowedCore {
             ≡ self.new.shadow.free + frames_needed self.old.shadow pid (page_number address) }
         ensures stands { StandsFor (image_of self.new.core) self.new.core.state }
         ensures roots { RootsStay self.old.shadow pid self.new.shadow }
+        ensures tables { (p : ℕ) → TablesStay self.old.shadow p self.new.shadow }
         ensures fixed { IsFixed self.old.shadow self.new.shadow }
     {
         handle_fault(&mut self.core, &mut self.shadow, pid, address, access)
@@ -127,6 +139,10 @@ impl ShadowedCore {
         ensures translations { self.new.shadow.translations
             ≡ map.retain_keys self.old.shadow.translations (λ slot. not (slot.pid == pid)) }
         ensures roots { self.new.shadow.roots ≡ slice_set self.old.shadow.roots pid None }
+        ensures taken { self.new.shadow.taken ≡ slice_set self.old.shadow.taken pid 0 }
+        ensures tables { (p : ℕ) → p ≢ pid → TablesStay self.old.shadow p self.new.shadow }
+        ensures needed { (p at : ℕ) → p ≢ pid
+            → frames_needed self.new.shadow p at ≡ frames_needed self.old.shadow p at }
         ensures fixed { IsFixed self.old.shadow self.new.shadow }
     {
         self.shadow.forget_process(pid);

@@ -5,15 +5,17 @@ ghost use Rattle.page_words.specs.Addresses.{IsUserPage, page_number};
 ghost use Rattle.table_walk.specs.declared.Access.TheVariants as access;
 ghost use Rattle.address_space.specs.ByWalk.{finds_at};
 ghost use Rattle.address_space.specs.Spaces.{byte_at, cell_or_fresh, slot_at};
+ghost use Rattle.address_space.specs.Stays.{FramesStay, LooseStay};
 ghost use Rattle.process_table.specs.Image.{StandsFor, image_of, memory_of};
 ghost use Rattle.kernel_calls.specs.Cleaned.{is_dirty_at};
+ghost use Rattle.kernel_calls.specs.Gone.{gone_by, gives_back};
 ghost use Rattle.kernel_calls.specs.Machine.{answer, next};
 ghost use Rattle.kernel_calls.specs.Translations.{Ends, ended_by, is_all_of, IsGiven, WalkGives};
 ghost use Rattle.kernel_calls.specs.declared.translations.Ended.TheVariants as end;
 ghost use Rattle.kernel_acts.specs.Touched.{touch_of, AreMarked};
 ghost use Rattle.shadow_tables.specs.Shadow.{IsFixed, root_frame};
-ghost use Rattle.shadow_core.specs.Paired.{IsShadowed, kept_at, left_by, lacks_frames, stop_of, handled_of, IsStopped, HasFilled, RootsStay};
-ghost use Rattle.shadow_tables.specs.Needs.{frames_needed};
+ghost use Rattle.shadow_core.specs.Paired.{IsShadowed, kept_at, left_by, lacks_frames, stop_of, handled_of, IsStopped, HasFilled, HasNothing, RootsStay};
+ghost use Rattle.shadow_tables.specs.Needs.{frames_needed, TablesStay};
 ghost use Rattle.shadow_core.specs.Paired.{TranslationsAreRead, WalksAreTheCores, PoolIsOutOfReach, AccessesAreServed, AccessesAreKept};
 
 use kernel_acts::touch;
@@ -46,6 +48,8 @@ pub fn forget(shadow: &mut ShadowTables, ended: &Ended)
     ensures taken { ((p : ℕ) → is_all_of ended.now p ≡ false) → shadow.new.free ≡ shadow.old.free }
     ensures needed { (p at : ℕ) → IsUserPage at → is_all_of ended.now p ≡ false
         → frames_needed shadow.new p at ≡ frames_needed shadow.old p at }
+    ensures tables { (p : ℕ) → is_all_of ended.now p ≡ false → TablesStay shadow.old p shadow.new }
+    ensures gone { (p : ℕ) → is_all_of ended.now p ≡ true → HasNothing shadow.new p }
     ensures fixed { IsFixed shadow.old shadow.new }
 {
     shadow.walks();
@@ -62,6 +66,8 @@ fn drop_ended(shadow: &mut ShadowTables, ended: &Ended)
     ensures pages { ((p : ℕ) → is_all_of ended.now p ≡ false) → shadow.new.free ≡ shadow.old.free }
     ensures needed { (p at : ℕ) → IsUserPage at → is_all_of ended.now p ≡ false
         → frames_needed shadow.new p at ≡ frames_needed shadow.old p at }
+    ensures tables { (p : ℕ) → is_all_of ended.now p ≡ false → TablesStay shadow.old p shadow.new }
+    ensures gone { (p : ℕ) → is_all_of ended.now p ≡ true → HasNothing shadow.new p }
     ensures fixed { IsFixed shadow.old shadow.new }
 {
     match ended {
@@ -84,9 +90,13 @@ pub fn carry_out(core: &mut Core, shadow: &mut ShadowTables, event: &Event) -> (
     ensures ended { result.1 ≡ ended_by core.old event.now }
     ensures state { core.new.state ≡ next core.old.state event.now }
     ensures ends { Ends result.1 core.old core.new }
+    ensures stay { FramesStay (gone_by core.old.state event.now) (memory_of core.old) (memory_of core.new) }
+    ensures loose { gives_back event.now.call ≡ true → LooseStay (memory_of core.old) (memory_of core.new) }
     ensures left { shadow.new.translations ≡ left_by result.1 shadow.old.translations }
     ensures stands { StandsFor (image_of core.new) core.new.state }
     ensures roots { (p : ℕ) → is_all_of result.1 p ≡ false → root_frame shadow.new p ≡ root_frame shadow.old p }
+    ensures tables { (p : ℕ) → is_all_of result.1 p ≡ false → TablesStay shadow.old p shadow.new }
+    ensures gone { (p : ℕ) → is_all_of result.1 p ≡ true → HasNothing shadow.new p }
     ensures free { shadow.old.free ≤ shadow.new.free }
     ensures fixed { IsFixed shadow.old shadow.new }
 {
@@ -159,6 +169,7 @@ fn fill(core: &Core, shadow: &mut ShadowTables, pid: Pid, address: Vaddr, access
     ensures filled { HasFilled core.now shadow.old.translations shadow.new pid address access }
     ensures spent { shadow.old.free ≡ shadow.new.free + frames_needed shadow.old pid (page_number address) }
     ensures roots { RootsStay shadow.old pid shadow.new }
+    ensures tables { (p : ℕ) → TablesStay shadow.old p shadow.new }
     ensures fixed { IsFixed shadow.old shadow.new }
 {
     let translation = translation_of(core, pid, address);
@@ -202,7 +213,8 @@ fn stop_of(reply: &Reply) -> Option<Handled>
 /// faulted, before anything else is done.
 ///
 /// Full comes first, exactly if the fill needs more frames than are free: nothing changes then. A fault of the process or
-/// a refusal changes nothing either. Only the page's translation is entered, and only frames that it needs are taken.
+/// a refusal changes nothing either. Only the page's translation is entered, and only frames that it needs are taken. Each
+/// table that there was stays where it is, so that cached words that lead to it lead there.
 pub fn handle_fault(
     core: &mut Core,
     shadow: &mut ShadowTables,
@@ -222,6 +234,9 @@ pub fn handle_fault(
     ensures state { lacks_frames shadow.old pid address ≡ false
         → core.new.state ≡ next core.old.state (touch_of core.old.state pid address access) }
     ensures ends { Ends result.1 core.old core.new }
+    ensures stay { lacks_frames shadow.old pid address ≡ false
+        → FramesStay (gone_by core.old.state (touch_of core.old.state pid address access))
+        (memory_of core.old) (memory_of core.new) }
     ensures bytes { (p at : ℕ) → byte_at core.new.state.spaces p at ≡ byte_at core.old.state.spaces p at }
     ensures stopped { IsStopped result.0 → (core.new ≡ core.old) × (shadow.new ≡ shadow.old) }
     ensures filled { result.0 ≡ Handled.Filled
@@ -230,6 +245,7 @@ pub fn handle_fault(
         → shadow.old.free ≡ shadow.new.free + frames_needed shadow.old pid (page_number address) }
     ensures stands { StandsFor (image_of core.new) core.new.state }
     ensures roots { RootsStay shadow.old pid shadow.new }
+    ensures tables { (p : ℕ) → TablesStay shadow.old p shadow.new }
     ensures fixed { IsFixed shadow.old shadow.new }
 {
     core.stands();

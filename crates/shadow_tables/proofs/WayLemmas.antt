@@ -7,10 +7,10 @@ use Rattle.std.specs.Option.{option_and_then}
 use Rattle.page_words.specs.Addresses.{IsUserPage}
 use Rattle.shadow_tables.specs.declared.tables.Tables.{Tables}
 use Rattle.shadow_tables.specs.LongWords.{entry_word}
-use Rattle.shadow_tables.specs.Shadow.{frame_address}
+use Rattle.shadow_tables.specs.Shadow.{Shadow, frame_address}
 use Rattle.shadow_tables.specs.Holdings.{Places}
 use Rattle.shadow_tables.specs.Tables.{frames_of, word_of, named_by, index_at, prefix_at, way, missing_in, shared_in, WaysStay, translation_in, translation_at, seen_as, AreBlocks, AreTables, LinksTo, IsTable, SameBlocks}
-use Rattle.shadow_tables.specs.Needs.{if_missing, table_at, table_named, named_within, frames_needed, shared_missing}
+use Rattle.shadow_tables.specs.Needs.{if_missing, table_at, table_named, named_within, frames_needed, shared_missing, TablesStay}
 use Rattle.shadow_tables.proofs.LongWordLemmas.{SaysEntry, says_entry}
 
 -- ---- Steps of an option
@@ -248,6 +248,14 @@ table_at-way t p page (suc d) are =
     let frames : length t.bytes.items / 4096 ≡ frames_of t = omega (arith, are.bytes) in
     ap (option_and_then (λ f. table_named (seen_as t) (word_of t f (index_at d page)))) (table_at-way t p page d are)
     ∙ ap (λ n. option_and_then (λ f. named_within t.pool n (word_of t f (index_at d page))) (way t p page d)) frames
+
+-- tables of a process that stay, as a contract sees them
+pub tables_stay : (t v : Tables) (s : Shadow) (p : ℕ) → AreBlocks t → AreBlocks v → seen_as t ≡ s
+    → ((page depth frame : ℕ) → IsUserPage page → depth ≤ 3 → way t p page depth ≡ Some frame → way v p page depth ≡ Some frame)
+    → TablesStay s p (seen_as v)
+tables_stay t v s p are are_v is stay page depth frame user deep there =
+    table_at-way v p page depth are_v
+    ∙ stay page depth frame user deep (sym (table_at-way t p page depth are) ∙ ap (λ (s : Shadow). table_at s p page depth) is ∙ there)
 
 pub shared-missing : (t : Tables) (p : ℕ) → AreBlocks t → shared_missing (seen_as t) p ≡ shared_in t p
 shared-missing t p are =

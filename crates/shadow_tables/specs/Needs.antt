@@ -1,6 +1,7 @@
 -- How many frames of the pool a fill of a page takes: one for each table on the way to the page that is missing.
-use Rattle.std.specs.Prelude.{ℕ, zero, suc, ◌+◌, ◌-◌, ◌*◌, ◌/◌, ◌%◌, ◌^◌, ◌&&◌, nat_le, nat_lt, if◌then◌else◌, length, Option, Some, None}
+use Rattle.std.specs.Prelude.{◌≡◌, ℕ, zero, suc, ◌+◌, ◌-◌, ◌*◌, ◌/◌, ◌%◌, ◌^◌, ◌≤◌, ◌&&◌, nat_le, nat_lt, if◌then◌else◌, length, Option, Some, None}
 use Rattle.std.specs.Option.{option_and_then}
+use Rattle.page_words.specs.Addresses.{IsUserPage}
 use Rattle.page_words.specs.Words.{is_present}
 use Rattle.shadow_tables.specs.LongWords.{long_at, long_place}
 use Rattle.shadow_tables.specs.Shadow.{Shadow, root_frame}
@@ -21,6 +22,10 @@ table_named s word = named_within s.pool (length s.bytes / 4096) word
 abbrev pub table_at : Shadow → ℕ → ℕ → ℕ → Option ℕ
 table_at s p page zero = root_frame s p
 table_at s p page (suc depth) = option_and_then (λ frame. table_named s (long_at s.bytes (long_place frame (index_at depth page)))) (table_at s p page depth)
+
+-- The tables for user pages of a process are where they were. A processor may have cached the words that lead to them.
+abbrev pub TablesStay : Shadow → ℕ → Shadow → Type 0
+TablesStay old p new = (page depth frame : ℕ) → IsUserPage page → depth ≤ 3 → table_at old p page depth ≡ Some frame → table_at new p page depth ≡ Some frame
 
 -- 1 for a table that is missing
 abbrev pub if_missing : Option ℕ → ℕ

@@ -16,7 +16,7 @@ ghost use Rattle.page_words.specs.FiniteMap as map;
 ghost use Rattle.page_words.specs.Addresses.{IsUserPage};
 ghost use Rattle.shadow_tables.specs.Kernel.{AreKernelWords};
 ghost use Rattle.shadow_tables.specs.Shadow.{at_page, root_frame, root_of, opening, IsFixed};
-ghost use Rattle.shadow_tables.specs.Needs.{frames_needed, shared_missing};
+ghost use Rattle.shadow_tables.specs.Needs.{frames_needed, shared_missing, TablesStay};
 ghost use Rattle.shadow_tables.specs.Laws.{WalksAgree, KernelHalves, UpperHalvesAreClosed, UserPagesOnly};
 
 mod halves;
@@ -109,7 +109,8 @@ impl ShadowTables {
     }
 
     /// Enters the translation of a user page of a process, in place of any other. It makes the root and the tables that
-    /// are missing, and takes no other frame. Full if fewer frames are free than that needs; nothing changes then.
+    /// are missing, and takes no other frame. Each table that there was stays where it is. Full if fewer frames are free
+    /// than that needs; nothing changes then.
     pub fn fill(&mut self, pid: Pid, page: Page, frame: Frame, write: bool) -> Result<(), Full>
         requires user { IsUserPage page }
         requires frame { frame < 2 ^ 20 }
@@ -122,6 +123,7 @@ impl ShadowTables {
             ≤ shared_missing self.old pid + 1) }
         ensures less { (p at : ℕ) → IsUserPage at → frames_needed self.new p at ≤ frames_needed self.old p at }
         ensures kept { IfErr result (λ _. self.new ≡ self.old) }
+        ensures tables { (p : ℕ) → TablesStay self.old p self.new }
         ensures roots { (p frame : ℕ) → root_frame self.old p ≡ Some frame → root_frame self.new p ≡ Some frame }
         ensures others { (p : ℕ) → p ≢ pid → root_frame self.new p ≡ root_frame self.old p }
         ensures taken { (p : ℕ) → p ≢ pid → slice_index self.new.taken p ≡ slice_index self.old.taken p }
@@ -136,6 +138,7 @@ impl ShadowTables {
         ensures roots { self.new.roots ≡ self.old.roots }
         ensures taken { self.new.taken ≡ self.old.taken }
         ensures free { self.new.free ≡ self.old.free }
+        ensures tables { (p : ℕ) → TablesStay self.old p self.new }
         ensures needed { (p at : ℕ) → IsUserPage at → frames_needed self.new p at ≡ frames_needed self.old p at }
         ensures fixed { IsFixed self.old self.new }
     {
@@ -148,6 +151,7 @@ impl ShadowTables {
             ≡ map.retain_keys self.old.translations (λ slot. not (slot.pid == pid)) }
         ensures roots { self.new.roots ≡ slice_set self.old.roots pid None }
         ensures taken { self.new.taken ≡ slice_set self.old.taken pid 0 }
+        ensures tables { (p : ℕ) → p ≢ pid → TablesStay self.old p self.new }
         ensures needed { (p at : ℕ) → p ≢ pid → frames_needed self.new p at ≡ frames_needed self.old p at }
         ensures fixed { IsFixed self.old self.new }
     {

@@ -374,6 +374,7 @@ impl Tables {
         requires stands { IsShadow self.old }
         ensures translations { translations_in self.new ≡ map.remove (translations_in self.old) (at_page pid page) }
         ensures same { SameButBytes self.old self.new }
+        ensures ways { WaysStay self.old self.new }
         ensures missing { (p at : ℕ) → IsUserPage at → missing_in self.new p at ≡ missing_in self.old p at }
         ensures stands { IsShadow self.new }
     {
@@ -419,6 +420,7 @@ impl Tables {
         ensures roots { self.new.roots ≡ slice_set self.old.roots pid None }
         ensures taken { take 64 self.new.holdings.counts ≡ slice_set (take 64 self.old.holdings.counts) pid 0 }
         ensures bytes { self.new.bytes ≡ self.old.bytes }
+        ensures ways { (p at depth : ℕ) → p ≢ pid → way self.new p at depth ≡ way self.old p at depth }
         ensures missing { (p at : ℕ) → p ≢ pid → missing_in self.new p at ≡ missing_in self.old p at }
         ensures blocks { SameBlocks self.old self.new }
         ensures stands { IsShadow self.new }

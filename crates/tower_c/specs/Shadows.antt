@@ -6,15 +6,15 @@ use Rattle.page_words.specs.FiniteMap as map
 use Rattle.address_space.specs.Spaces.{byte_at}
 use Rattle.process_table.specs.View.{View}
 use Rattle.kernel_calls.specs.Machine.{answer, next}
-use Rattle.kernel_calls.specs.Translations.{ended_by, is_all_of}
+use Rattle.kernel_calls.specs.Translations.{Ends, ended_by, is_all_of}
 use Rattle.kernel_calls.specs.declared.translations.Ended.{Ended}
 use Rattle.kernel_calls.specs.declared.translations.Ended.TheVariants as end
 use Rattle.kernel_acts.specs.Touched.{touch_of}
 use Rattle.shadow_tables.specs.Shadow.{Shadow, at_page, root_frame, root_of, IsFixed}
 use Rattle.shadow_tables.specs.Kernel.{AreKernelWords}
-use Rattle.shadow_tables.specs.Needs.{frames_needed}
+use Rattle.shadow_tables.specs.Needs.{frames_needed, TablesStay}
 use Rattle.shadow_tables.specs.declared.tables.Translation.{Translation}
-use Rattle.shadow_core.specs.Paired.{IsShadowed, lacks_frames, HasFilled, RootsStay, handled_of, left_by}
+use Rattle.shadow_core.specs.Paired.{IsShadowed, lacks_frames, HasFilled, HasNothing, RootsStay, handled_of, left_by}
 use Rattle.shadow_core.specs.declared.pairs.Handled.{Handled}
 use Rattle.shadow_core.specs.declared.pairs.Handled.TheVariants.{Filled, Full, Fault, Refused}
 use Rattle.tower_c.specs.Border.{pid_of, access_of, numbers, no_event, refused_numbers, ended_numbers}
@@ -65,6 +65,7 @@ pub record Handles (v : View) (s : Shadow) (p address : ℕ) (write : Bool) (sta
   pub reply : lacks_frames s p address ≡ false → told ≡ told_of (handled_of (answer v.state (touch_of v.state p address (access_of write))))
   pub ended_is : lacks_frames s p address ≡ false → ended ≡ ended_numbers (ended_by v (touch_of v.state p address (access_of write)))
   pub state : lacks_frames s p address ≡ false → w.state ≡ next v.state (touch_of v.state p address (access_of write))
+  pub ends : lacks_frames s p address ≡ false → Ends (ended_by v (touch_of v.state p address (access_of write))) v w
   pub bytes : (q at : ℕ) → byte_at w.state.spaces q at ≡ byte_at v.state.spaces q at
   pub stopped : status ≡ 2 → (w ≡ v) × (u ≡ s)
   -- the page's translation is there, and a processor's walk completes the access
@@ -72,6 +73,7 @@ pub record Handles (v : View) (s : Shadow) (p address : ℕ) (write : Bool) (sta
   -- and no more frames are taken than it needs
   pub spent : status ≡ 0 → s.free ≡ u.free + frames_needed s p (page_number address)
   pub roots : RootsStay s p u
+  pub tables : (q : ℕ) → TablesStay s q u
   pub fixed : IsFixed s u
 
 -- a fault of the process with that number; of any other number nothing changes
@@ -79,10 +81,13 @@ abbrev pub HandlesIn : View → Shadow → Option ℕ → ℕ → Bool → ℕ �
 HandlesIn v s (Some p) address write status told ended w u = Handles v s p address write status told ended w u
 HandlesIn v s None address write status told ended w u = (status ≡ 2) × (told ≡ no_event) × (ended ≡ ended_numbers end.Nothing) × (w ≡ v) × (u ≡ s)
 
--- the translations that are left where these numbers ended some, and the roots where no process is gone
+-- the translations that are left where these numbers ended some, and the roots and tables where no process is gone; one
+-- that is gone has neither a root nor a frame
 pub record Forgets (s : Shadow) (ended : Ended) (u : Shadow) : Type 0 where
   pub translations : u.translations ≡ left_by ended s.translations
   pub roots : (p : ℕ) → is_all_of ended p ≡ false → root_frame u p ≡ root_frame s p
+  pub tables : (p : ℕ) → is_all_of ended p ≡ false → TablesStay s p u
+  pub gone : (p : ℕ) → is_all_of ended p ≡ true → HasNothing u p
   pub free : s.free ≤ u.free
   pub fixed : IsFixed s u
 

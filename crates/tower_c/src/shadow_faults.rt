@@ -1,6 +1,6 @@
 //! Faults and events of a core with shadow tables, for C.
 
-ghost use Rattle.std.specs.Prelude.{◌≡◌, ◌≤◌, ◌&&◌, IfSome, Some, true, false};
+ghost use Rattle.std.specs.Prelude.{◌≡◌, ◌≤◌, ◌↔◌, ◌&&◌, IfSome, Some, true, false};
 ghost use Rattle.process_table.specs.Image.{StandsFor, image_of};
 ghost use Rattle.kernel_calls.specs.Translations.{Ends};
 ghost use Rattle.c_handle.specs.Handle.{IsTower};
@@ -108,7 +108,7 @@ pub extern "C" fn tower_shadow_fault(
     ensures kept_agree { AreShadowed tower.new.hold.core shadow.new.hold.tables }
     ensures live { (tower.new.live ≡ tower.old.live) × (shadow.new.live ≡ shadow.old.live) }
     ensures statuses { result ≤ 3 }
-    ensures there { (tower.old.live && shadow.old.live) ≡ true → result ≤ 2 }
+    ensures there { (result ≤ 2) ↔ ((tower.old.live && shadow.old.live) ≡ true) }
     ensures handled { result ≤ 2 → IfSome tower.old.hold.core (λ core. IfSome shadow.old.hold.tables
         (λ tables. IfSome tower.new.hold.core (λ next. IfSome shadow.new.hold.tables
         (λ later. HandlesIn core tables (pid_of pid) address write result reply.new ended.new next later)))) }

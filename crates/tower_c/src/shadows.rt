@@ -1,6 +1,6 @@
 //! Shadow tables for C: opened over a pool, asked, and forgotten.
 
-ghost use Rattle.std.specs.Prelude.{◌≡◌, ◌≢◌, ◌↔◌, ◌*◌, ◌≤◌, IsTrue, IfOk, IfSome, None, length, replicate, true, false};
+ghost use Rattle.std.specs.Prelude.{◌≡◌, ◌≢◌, ◌↔◌, ◌*◌, ◌≤◌, ◌&&◌, is_some, IsTrue, IfOk, IfSome, None, length, replicate, true, false};
 ghost use Rattle.page_words.specs.FiniteMap as map;
 ghost use Rattle.shadow_tables.specs.Shadow.{opening, IsFixed};
 ghost use Rattle.c_handle.specs.ShadowHandle.{IsTowerShadow};
@@ -152,6 +152,13 @@ fn ended_said(ended: &TowerEnded) -> Option<Ended>
     }
 }
 
+/// Forgets what was ended, in tables that are there.
+fn forget_in(tables: &mut ShadowTables, ended: &Ended)
+    ensures { Forgets tables.old ended.now tables.new }
+{
+    shadow_core::forget(tables, ended);
+}
+
 /// Forgets what was ended: translations of pages, or all of a process. Then no processor may have its root. Returns false
 /// where there are no tables or the numbers don't say what was ended; then nothing changes.
 #[unsafe(no_mangle)]
@@ -163,6 +170,7 @@ pub extern "C" fn tower_shadow_forget(
     requires { IsTowerShadow shadow.old }
     ensures kept { IsTowerShadow shadow.new }
     ensures live { shadow.new.live ≡ shadow.old.live }
+    ensures there { result ≡ (shadow.old.live && is_some (ended_from ended.now)) }
     ensures forgets { result ≡ true → IfSome shadow.old.hold.tables (λ old. IfSome shadow.new.hold.tables
         (λ new. IfSome (ended_from ended.now) (λ ended. Forgets old ended new))) }
     ensures none { result ≡ false → shadow.new.hold.tables ≡ shadow.old.hold.tables }
@@ -172,7 +180,7 @@ pub extern "C" fn tower_shadow_forget(
     };
     match take_tables(alloc, shadow) {
         Some(mut tables) => {
-            shadow_core::forget(&mut tables, &ended);
+            forget_in(&mut tables, &ended);
             put_tables(shadow, tables);
             true
         }

@@ -37,3 +37,9 @@ returns-clause-spent c =
     let none = λ (q : ℕ). ap (λ e. is_all_of e q) c.touch-reply.ensures.ended ∙ touch_keeps_roots v v.state c.args.pid c.args.address q c.args.access in
     let needed = c.forget.ensures.needed c.args.pid (page_number c.args.address) user (none c.args.pid) in
     λ _. omega (arith, needed, c.forget.ensures.taken none, c.fill.ensures.spent)
+
+pub returns-clause-tables : goal.returns-clause-tables
+returns-clause-tables c =
+    let v = c.args.core.now in
+    let none = λ (q : ℕ). ap (λ e. is_all_of e q) c.touch-reply.ensures.ended ∙ touch_keeps_roots v v.state c.args.pid c.args.address q c.args.access in
+    λ p page depth frame user deep is. c.fill.ensures.tables p page depth frame user deep (c.forget.ensures.tables p (none p) page depth frame user deep is)

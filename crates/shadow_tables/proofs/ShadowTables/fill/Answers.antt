@@ -4,7 +4,7 @@ use Rattle.shadow_tables.specs.Holdings.{count_of}
 use Rattle.shadow_tables.specs.Needs.{frames_needed, shared_missing}
 use Rattle.shadow_tables.specs.Tables.{missing_in, shared_in, seen_as}
 use Rattle.shadow_tables.specs.Shadow.{Shadow, root_frame}
-use Rattle.shadow_tables.proofs.WayLemmas.{needed-missing, shared-missing, missing_less}
+use Rattle.shadow_tables.proofs.WayLemmas.{needed-missing, shared-missing, missing_less, tables_stay}
 use Rattle.shadow_tables.proofs.ChangeLemmas.{front_same}
 use Rattle.shadow_tables.proofs.ShadowTables.fill.Goals as goal
 
@@ -52,3 +52,8 @@ returns-clause-spent c =
     let after = count_of c.fill.new.self.holdings 64 in
     let P : Shadow → Type 0 = λ s. IfOk c.fill.result (λ _. s.free ≡ after + frames_needed s c.args.pid c.args.page) in
     subst P c.self.view_is (subst (λ (n : ℕ). IfOk c.fill.result (λ _. count_of c.self.inside.tables.holdings 64 ≡ after + n)) (sym is) c.fill.ensures.spent)
+
+pub returns-clause-tables : goal.returns-clause-tables
+returns-clause-tables c =
+    λ p. tables_stay c.self.inside.tables c.fill.new.self _ p c.self.invariant.1.blocks c.fill.ensures.stands.1.blocks c.self.view_is
+    (λ page depth frame user deep. c.fill.ensures.ways p page depth frame user deep)

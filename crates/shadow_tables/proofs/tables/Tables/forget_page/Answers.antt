@@ -1,4 +1,4 @@
-use Rattle.std.proofs.Common.{sym, refl, arith}
+use Rattle.std.proofs.Common.{◌∙◌, sym, refl, arith}
 use Rattle.shadow_tables.specs.Shadow.{at_page}
 use Rattle.shadow_tables.proofs.WayLemmas.{nothing_after, missing_same}
 use Rattle.shadow_tables.proofs.SlotLemmas.{false_true, translations-remove, remove-out, out_of}
@@ -19,3 +19,6 @@ returns-then-not-in_user_range-clause-translations c = remove-out c.args.self.no
 pub returns-in-Some-clause-missing : goal.returns-in-Some-clause-missing
 returns-in-Some-clause-missing c =
     λ p at user. missing_same c.args.self.now c.change.new.self p at (λ d deep. c.change.ensures.ways p at d user deep)
+
+pub returns-in-Some-clause-ways : goal.returns-in-Some-clause-ways
+returns-in-Some-clause-ways c = λ q at d frame user deep is. c.change.ensures.ways q at d user deep ∙ is

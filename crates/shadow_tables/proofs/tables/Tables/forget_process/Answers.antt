@@ -51,6 +51,14 @@ returns-in_default-clause-taken c =
     set_zero t.holdings.counts c.number-process.result c.number-process.ensures.bound none
     ∙ ap (λ p. slice_set (take 64 t.holdings.counts) p 0) c.number-process.ensures.value
 
+pub returns-in-Some-clause-ways : goal.returns-in-Some-clause-ways
+returns-in-Some-clause-ways c =
+    let t = c.args.self.now in
+    let p = c.number-process.result in
+    let v = released_tables t c.release.new.self p in
+    let left = forgetting c.requires.stands.0 t c.release.new.self p c.in-Some.root c.requires.stands.1 c.number-process.ensures.bound c.in-Some.is c.release.ensures in
+    λ q at d apart. ways_of_others c.requires.stands.0 t v p c.in-Some.root left q at d (λ e. apart (e ∙ c.number-process.ensures.value))
+
 pub returns-in-Some-clause-missing : goal.returns-in-Some-clause-missing
 returns-in-Some-clause-missing c =
     let t = c.args.self.now in
