@@ -13,5 +13,6 @@ pub mod EitherOrder
 pub mod FlagChanges
 pub mod GivenUp
 pub mod Newborns
+pub mod OwnRuns
 pub mod OwnViews
 pub mod Prelude

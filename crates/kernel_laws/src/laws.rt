@@ -4,6 +4,7 @@ ghost use Rattle.kernel_calls.specs.Cleaned.{CleaningKeepsStates, CleaningIsUnse
 ghost use Rattle.kernel_calls.specs.Authority.{StatesStayWellFormed, RefusalsChangeNothing, ChangesAreRightful, Integrity, NobodyTakesBack, SharingByConsent, SharingStays, OffersByOfferer, ExitsEnd, UnmapsEnd, OffersEnd, OffersStay, ChildrenAreTheirMakers, PlacesStay, MembersToldTheSame, OwnIsEnough, MembersSeeTheSame, OutsidersUnseen, MembersHearTheSame, RunsKeepBorders, OutsidersHearNothing};
 ghost use Rattle.kernel_laws.specs.Beside.{AccessesBeside, OrdersEndTheSame};
 ghost use Rattle.kernel_laws.specs.Cpus.{CpusMakeNoDifference, RunsOnCpus};
+ghost use Rattle.kernel_laws.specs.OwnRuns.{ActsWriteTheirOwn, LeavingComposes, RunsWriteTheirOwn};
 ghost use Rattle.kernel_laws.specs.Causes.{CompletesUnless, RefusedByTheFirst, FaultsAtTheFirstByte};
 ghost use Rattle.kernel_calls.specs.Effects.{CompletesByKind, DoneMeansDone, SlotsCome, SlotsGo, FlagsChange, OthersNeverRefuse, RunsNeverRefuse};
 ghost use Rattle.kernel_calls.specs.Families.{FamiliesHearTheirOwn, FamiliesEndTheSame, NewbornsAreFamilies};
@@ -25,6 +26,16 @@ pub fn processes_are_isolated()
 pub fn events_write_their_own()
     ensures frames { EventsWriteTheirOwn }
     ensures others { EventsLeaveToOthers }
+{}
+
+/// States what a run of some processes' events writes of memory, if none of these is an Accept: frames that were free
+/// before the run, and these processes' own. All else stays as an event leaves it, with its role, and becomes neither free
+/// nor theirs. So do acts that are runs, such as the end of a family and the taking back of a page. What leaves others so
+/// composes. It computes nothing.
+pub fn runs_write_their_own()
+    ensures runs { RunsWriteTheirOwn }
+    ensures acts { ActsWriteTheirOwn }
+    ensures composes { LeavingComposes }
 {}
 
 /// States that on which CPU a call comes in makes no difference: neither to its reply nor to the next state, and so in
