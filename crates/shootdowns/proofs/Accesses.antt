@@ -16,7 +16,7 @@ use Rattle.alloc_table.specs.declared.Role.{Role}
 use Rattle.alloc_table.specs.declared.Role.TheVariants.{Reserved, Page}
 use Rattle.table_walk.specs.declared.Access.{Access}
 use Rattle.table_walk.specs.declared.Access.TheVariants.{Read, Write}
-use Rattle.address_space.specs.Image.{directory_at, table_at, word_of, named_by, present_word, page_word, page_frame, is_lazy_at, takes_stores, SlotStands, CellStands}
+use Rattle.address_space.specs.Image.{table_at, word_of, present_word, page_word, page_frame, is_lazy_at, takes_stores, SlotStands, CellStands}
 use Rattle.address_space.specs.ImageWords.{own_frame}
 use Rattle.address_space.specs.Kept.{kept_place, number_at}
 use Rattle.address_space.specs.Spaces.{Slot, Cell, Spaces, at_page, slot_at, byte_at, value_of, bytes_of, cell_or_fresh, fresh, all_stored}
@@ -32,11 +32,9 @@ use Rattle.process_table.specs.Image.{memory_of}
 use Rattle.process_table.specs.State.{State, is_live, is_mapped}
 use Rattle.process_table.specs.View.{View}
 use Rattle.process_table.specs.WellFormed.{IsWellFormed}
-use Rattle.quota_tree.specs.Book.{Book}
 use Rattle.process_table.specs.declared.causes.Cause.TheVariants as cause
 use Rattle.process_table.proofs.SharingLaws.{touched_user}
 use Rattle.fault_handler.specs.Plans.{plan_of, plan_at, takes_no_frame}
-use Rattle.fault_handler.specs.declared.plans.Plan.{Plan}
 use Rattle.fault_handler.proofs.Settled.{each_page}
 use Rattle.fault_handler.proofs.Walked.{walk_completes}
 use Rattle.kernel_calls.specs.Decisions.{plan_of_call}
@@ -46,7 +44,6 @@ use Rattle.kernel_calls.specs.Processors.{IsCore}
 use Rattle.kernel_calls.specs.declared.calls.Call.{Call}
 use Rattle.kernel_calls.specs.declared.calls.Call.TheVariants as call
 use Rattle.kernel_calls.specs.declared.calls.Event.{Event}
-use Rattle.kernel_calls.specs.declared.calls.Reply.{Reply}
 use Rattle.kernel_calls.specs.declared.calls.Reply.TheVariants as reply
 use Rattle.kernel_calls.proofs.Decided.{goes-call, next-goes}
 use Rattle.kernel_calls.proofs.KeptAccesses.{small_page, live, leads, Touched, loaded_same}
@@ -89,17 +86,11 @@ table_of_word v r word is =
 
 -- and a way
 pub way_at : (v : View) (r : Slot) (word : ℕ) → page_word (memory_of v) r ≡ Some word → (d : ℕ) × (way_of (memory_of v) r ≡ Some (d, frame_number word))
-way_at v r word is =
-    let table = from_then (λ t. present_word (memory_of v) t (word_of (memory_of v) t (index_number r.page))) (table_at (memory_of v) r.pid (slot_number r.page)) word is in
-    let home = from_then (λ d. named_by (slot_number r.page) (word_of (memory_of v) d (slot_number r.page))) (directory_at (memory_of v) r.pid) table.0 table.1 in
-    (home.0, way_whole (memory_of v) r home.0 (frame_number word) (record { live = home.1; names = ap (option_map frame_number) is }))
+way_at v r word is = grind (arith, from_then, way_whole, live)
 
 -- the word of a lazy page names frame 0
 pub lazy_zero : (v : View) → IsCore v → (r : Slot) (word : ℕ) → page_word (memory_of v) r ≡ Some word → is_lazy word ≡ true → frame_number word ≡ 0
-lazy_zero v core r word is lazy =
-    let way = way_at v r word is in
-    eqb-true (frame_number word) 0
-    (sym ((ways_of core).lazy r way.0 (frame_number word) way.1) ∙ ap (λ (y : Option ℕ). unwrap_or (option_map is_lazy y) false) is ∙ lazy)
+lazy_zero v core r word is lazy = grind (arith, way_at, eqb-true, ways_of, unwrap_or)
 
 module _ (v : View) (core : IsCore v) (base : State) (alike : Alike v.state base) (well : IsWellFormed base) (p : ℕ) where
   abbrev vs : View
@@ -308,15 +299,7 @@ module _ (v : View) (core : IsCore v) (base : State) (alike : Alike v.state base
 module _ (v : View) (core : IsCore v) (base : State) (alike : Alike v.state base) (well : IsWellFormed base) (bytes : List ℕ) (frames : ℕ → ℕ) (a : Event) (served : ServesEvent (with_state v base) frames a) where
   -- the process is live
   pub served_live : is_live base a.pid ≡ true
-  served_live = by a.call served
-    where
-      alive : is_live v.state a.pid ≡ true → is_live base a.pid ≡ true
-      alive h = ap (λ (b : Book). map.contains_key b a.pid) alike.book ∙ h
-
-      by : (c : Call) → ServesCall (with_state v base) a.pid frames c → is_live base a.pid ≡ true
-      by (call.Load addr size) k = alive (lives v core a.pid k.0.given.directory (live (with_state v base) a.pid (page_number addr) (frames (page_number addr)) Read k.0))
-      by (call.Store addr size value) k = alive (lives v core a.pid k.0.given.directory (live (with_state v base) a.pid (page_number addr) (frames (page_number addr)) Write k.0))
-      by _ k = absurd k
+  served_live = grind (arith, lives, live)
 
   -- such an access is answered by the bytes there
   pub kept_answer : answer (filled_state (frame_at v) bytes base) a ≡ reply_kept frames bytes a.call
@@ -325,12 +308,7 @@ module _ (v : View) (core : IsCore v) (base : State) (alike : Alike v.state base
       ∙ call_answer v core base alike well a.pid bytes frames a.call served
 
   completing : completes (answer (filled_state (frame_at v) bytes base) a) ≡ true
-  completing = ap completes kept_answer ∙ by a.call served
-    where
-      by : (c : Call) → ServesCall (with_state v base) a.pid frames c → completes (reply_kept frames bytes c) ≡ true
-      by (call.Load addr size) k = refl
-      by (call.Store addr size value) k = refl
-      by _ k = absurd k
+  completing = grind (arith, kept_answer)
 
   -- and leaves a state whose cells have the bytes that it leaves
   pub kept_next : length bytes ≡ length v.bytes → next (filled_state (frame_at v) bytes base) a ≡ filled_state (frame_at v) (bytes_kept frames bytes a.call) base
@@ -355,9 +333,4 @@ module _ (v : View) (core : IsCore v) (base : State) (alike : Alike v.state base
       by _ k = absurd k
 
   pub kept_long : length (bytes_kept frames bytes a.call) ≡ length bytes
-  kept_long = by a.call
-    where
-      by : (c : Call) → length (bytes_kept frames bytes c) ≡ length bytes
-      by (call.Load addr size) = refl
-      by (call.Store addr size value) = length-written frames bytes addr (bytes_of (byte_count size) value)
-      by _ = refl
+  kept_long = grind (arith, length-written)

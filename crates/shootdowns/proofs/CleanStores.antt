@@ -1,9 +1,9 @@
 -- Stores by what was kept before dirty was set, while an event that takes at most the right to write isn't in the order.
 use Rattle.std.proofs.Common.{◌≡◌, ◌≢◌, ℕ, Bool, arith, true, false, List, [], ◌∷◌, length, refl, ap, sym, ◌∙◌, subst, Option, Some, None, ◌+◌, ◌<◌, ◌≤◌, ◌^◌, unwrap_or, not}
-use Rattle.std.specs.Prelude.{is_some, ◌&&◌, nat_le, if◌then◌else◌, IfSome}
+use Rattle.std.specs.Prelude.{is_some, ◌&&◌, nat_le, IfSome}
 use Rattle.std.specs.Option.{option_map}
 use Rattle.std.proofs.lemmas.Option.{slice_get_within}
-use Rattle.page_words.specs.Addresses.{slot_number, byte_count, EachTouched, page_number, offset_number, index_number, second_page}
+use Rattle.page_words.specs.Addresses.{slot_number, byte_count, EachTouched, page_number, index_number, second_page}
 use Rattle.page_words.proofs.MapLemmas.{same_map}
 use Rattle.page_words.specs.Words.{frame_number, with_flag, is_lazy, is_accessed}
 use Rattle.phys_memory.specs.Bytes.{frame_bytes, word_at, word_place, with_word}
@@ -38,7 +38,7 @@ use Rattle.page_words.proofs.Accesses.{some_bytes}
 use Rattle.std.proofs.lemmas.Bool.Decides.{nat_tests}
 use Rattle.table_walk.specs.declared.Access.TheVariants.{Write}
 use Rattle.process_table.proofs.SharingLaws.{touched_user}
-use Rattle.fault_handler.specs.Plans.{plan_of, plan_at, takes_no_frame}
+use Rattle.fault_handler.specs.Plans.{plan_at, takes_no_frame}
 use Rattle.fault_handler.proofs.Settled.{each_page}
 use Rattle.fault_handler.proofs.Walked.{walk_completes}
 use Rattle.kernel_calls.proofs.Decided.{goes-call, next-goes}
@@ -49,7 +49,6 @@ use Rattle.shootdowns.proofs.Standing.{Taken, Going, Good, IsOne, is_event}
 use Rattle.shootdowns.proofs.StaleAccesses.{one_served}
 use Rattle.page_words.specs.FiniteMap as map
 use Rattle.kernel_calls.specs.declared.calls.Call.TheVariants as call
-use Rattle.process_table.specs.declared.causes.Cause.TheVariants as cause
 use Rattle.kernel_calls.specs.declared.calls.Reply.TheVariants as reply
 
 not_within : (a b : ℕ) → nat_le a b ≡ false → b < a
@@ -285,10 +284,7 @@ module _ (x : Ended) (done : Acknowledged) (e : Event) (r : Reply) (keeps : Proc
       goes_store = sym (goes-call gz a.pid (call.Store addr size value)) ∙ goes_frameless (plan_at gz a.pid addr size Write) frameless_store
 
       answer_store : answer z a ≡ reply.Done
-      answer_store =
-          ap (λ b. if b then answer_of z a.pid a.call else reply.Refused cause.NoProcess) t.live
-          ∙ ap (answer_of z a.pid) is
-          ∙ told_planned (plan_of z a.pid addr size Write) reply.Done goes_store
+      answer_store = grind (arith, told_planned, goes_store)
 
       next_store : next z a ≡ after z a.pid (call.Store addr size value)
       next_store = next-goes z a (ap completes answer_store) ∙ ap (after z a.pid) is
@@ -311,19 +307,7 @@ module _ (x : Ended) (done : Acknowledged) (e : Event) (r : Reply) (keeps : Proc
     first_of_store = record { byte = 0; within = (let k = some_bytes size in omega (arith, k.1)); same = omega arith }
 
     second_of_store : (n : ℕ) → second_page addr size ≡ Some n → IsOfStore n
-    second_of_store n h = by (nat_le (offset_number addr + byte_count size) 4096) refl h
-      where
-        by : (b : Bool) → nat_le (offset_number addr + byte_count size) 4096 ≡ b → (if b then None else Some (page_number addr + 1)) ≡ Some n → IsOfStore n
-        by true test k = cc
-        by false test k =
-            let next_page : page_number addr + 1 ≡ n = cc in
-            let past = not_within (offset_number addr + byte_count size) 4096 test in
-            let some = some_bytes size in
-            record {
-              byte = some.0;
-              within = omega (arith, some.1);
-              same = omega (arith, past, some.1, some.2, next_page);
-            }
+    second_of_store n h = grind (arith, not_within, some_bytes)
 
     module _ (s : State) (w v : View) (g : Going x done e r s w keeps v) (q : Reply) (bytes : List ℕ) (frames : ℕ → ℕ) (found : q ≡ reply.Done) where
       -- where dirty is set in all pages by now

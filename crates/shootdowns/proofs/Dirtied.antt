@@ -2,7 +2,7 @@
 use Rattle.std.proofs.Common.{◌≡◌, ◌≢◌, ℕ, ◌<◌, ◌≤◌, ◌^◌, Bool, true, false, List, length, refl, ap, sym, ◌∙◌, arith, inl, inr, Option, Some, None}
 use Rattle.std.proofs.lemmas.Bool.{cases_eq}
 use Rattle.std.proofs.lemmas.Option.{slice_get_within}
-use Rattle.std.specs.Prelude.{◌⊎◌, ◌*◌, ◌&&◌, if◌then◌else◌, nat_lt, slice_get}
+use Rattle.std.specs.Prelude.{◌⊎◌, ◌&&◌, if◌then◌else◌, nat_lt, slice_get}
 use Rattle.std.specs.Option.{option_and_then, option_map}
 use Rattle.page_words.specs.Addresses.{slot_number, index_number}
 use Rattle.page_words.specs.FiniteMap as map
@@ -98,11 +98,7 @@ module _ (w : View) (core : IsCore w) (small : length w.bytes ≤ 2 ^ 32) (p pag
   found = sym (ap (option_and_then (λ f. present_word (memory_of w) f (word_of (memory_of w) f i0))) leads) ∙ there
 
   old_is : n0 ≡ word
-  old_is = pick (nat_lt table (length w.roles) && is_present n0) found
-    where
-      pick : (b : Bool) → (if b then Some n0 else None) ≡ Some word → n0 ≡ word
-      pick true k = cc
-      pick false k = cc
+  old_is = grind (arith, found)
 
   abbrev new : ℕ
   new = with_flag (word_at w.bytes (word_place table (index_number page))) 6 true

@@ -154,16 +154,7 @@ module _ (at : Slot) where
   after_dirty s p _ h done = cc
 
   pub next_dirty : (s : State) (e : Event) → takes_right e.call ≡ true → next (dirty_at at s) e ≡ dirty_at at (next s e)
-  next_dirty s e h = by (completes (answer s e)) refl
-    where
-      by : (b : Bool) → completes (answer s e) ≡ b → next (dirty_at at s) e ≡ dirty_at at (next s e)
-      by false is =
-          next-stays (dirty_at at s) e (ap completes (answer_dirty s e h) ∙ is)
-          ∙ ap (dirty_at at) (sym (next-stays s e is))
-      by true is =
-          next-goes (dirty_at at s) e (ap completes (answer_dirty s e h) ∙ is)
-          ∙ after_dirty s e.pid e.call h (completed s e is)
-          ∙ ap (dirty_at at) (sym (next-goes s e is))
+  next_dirty s e h = grind (arith, next-stays, answer_dirty, next-goes, after_dirty, completed)
 
   -- ---- A store
 
@@ -290,20 +281,10 @@ abbrev pub HasDirty : State → Slot → Type 0
 HasDirty s at = (c : Cell) → map.get s.spaces at ≡ Some c → c.dirty ≡ true
 
 pub own_dirty : (at : Slot) (s : State) → HasDirty (dirty_at at s) at
-own_dirty at s c there = by (map.get s.spaces at) (sym (get_dirty at s.spaces at ∙ ap (λ b. option_map (dirt b) (map.get s.spaces at)) (same_itself slot_order at)) ∙ there)
-  where
-    by : (z : Option Cell) → option_map (dirt true) z ≡ Some c → c.dirty ≡ true
-    by None h = cc
-    by (Some d) h = let e : record d { dirty = true } ≡ c = cc in sym (ap (λ (q : Cell). q.dirty) e)
+own_dirty at s c there = grind (arith, get_dirty, same_itself)
 
 pub still_dirty : (b at : Slot) (s : State) → HasDirty s at → HasDirty (dirty_at b s) at
-still_dirty b at s has c there = by (map.get s.spaces at) refl (sym (get_dirty b s.spaces at) ∙ there)
-  where
-    by : (z : Option Cell) → map.get s.spaces at ≡ z → option_map (dirt (same slot_order b at)) z ≡ Some c → c.dirty ≡ true
-    by None is h = cc
-    by (Some d) is h =
-        let e : dirt (same slot_order b at) d ≡ c = cc in
-        sym (ap (λ (q : Cell). q.dirty) e) ∙ (dirt_flags (same slot_order b at) d).1 (has d is)
+still_dirty b at s has c there = grind (arith, get_dirty, dirt_flags)
 
 -- after an event that takes a right, a slot is mapped as before, with accessed as before
 pub right_keeps : (s : State) (e : Event) → takes_right e.call ≡ true → (slot : Slot) (c : Cell) → map.get s.spaces slot ≡ Some c

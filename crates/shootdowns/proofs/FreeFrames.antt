@@ -1,23 +1,22 @@
 -- What a processor does by its walk writes no free frame.
-use Rattle.std.proofs.Common.{◌≡◌, ◌≢◌, ℕ, zero, suc, ◌+◌, ◌*◌, ◌/◌, ◌%◌, ◌<◌, ◌≤◌, ◌^◌, true, List, [], ◌∷◌, length, refl, ap, sym, ◌∙◌, subst, arith, inl, inr, Option, Some, None}
+use Rattle.std.proofs.Common.{◌≡◌, ◌≢◌, ℕ, zero, suc, ◌+◌, ◌*◌, ◌/◌, ◌%◌, ◌<◌, ◌^◌, true, List, length, refl, ap, sym, ◌∙◌, subst, arith, Option, Some, None}
 use Rattle.std.proofs.Math.ListN.{length-set}
-use Rattle.std.specs.Prelude.{◌⊎◌, IsOk, slice_get, slice_set}
+use Rattle.std.specs.Prelude.{IsOk, slice_get, slice_set}
 use Rattle.std.specs.Option.{option_map, unwrap_or}
 use Rattle.page_words.specs.Addresses.{page_number, slot_number, index_number, offset_number, start_number, second_page, byte_count}
-use Rattle.page_words.specs.declared.addresses.Size.{Size}
 use Rattle.page_words.specs.Words.{frame_number}
 use Rattle.phys_memory.specs.Bytes.{frame_bytes, word_at, word_place, with_word, IsInside, with_word_in}
 use Rattle.phys_memory.proofs.Frames.{frames-with_word, frames-with_byte, with_frame-other, word_in-frame}
 use Rattle.phys_memory.proofs.Words.{length-with_word}
 use Rattle.alloc_table.specs.declared.Role.{Role}
-use Rattle.alloc_table.specs.declared.Role.TheVariants.{Reserved, Free, Directory, Table, Page}
+use Rattle.alloc_table.specs.declared.Role.TheVariants.{Free, Directory, Table}
 use Rattle.table_walk.specs.declared.Access.{Access}
 use Rattle.table_walk.specs.declared.Access.TheVariants.{Read, Write}
 use Rattle.table_walk.specs.Marks.{marked, accessed_word, touched_word, CanBeMarked}
-use Rattle.table_walk.specs.Walk.{walk_of, dir_place, dir_word, table_place, table_word}
+use Rattle.table_walk.specs.Walk.{walk_of, dir_place, dir_word, table_place}
 use Rattle.table_walk.proofs.MarkLemmas.{marks_keep_walks, marks_change_two_words}
 use Rattle.address_space.specs.ByWalk.{byte_place, finds, after_walked_store}
-use Rattle.address_space.specs.Image.{Image, directory_at, image_from}
+use Rattle.address_space.specs.Image.{Image, image_from}
 use Rattle.address_space.specs.Sound.{IsSound, HoldsPage}
 use Rattle.address_space.specs.Spaces.{bytes_of, at_page}
 use Rattle.address_space.specs.View.{directory_of, table_in}
@@ -53,10 +52,7 @@ beside_word bytes g index w f low in_g other =
 
 module _ (directories : List (Option ℕ)) (roles : List Role) (p d f : ℕ) (live : directory_of directories p ≡ Some d) (free : slice_get roles f ≡ Some Free) where
   can_mark : (bytes : List ℕ) (address : ℕ) (access : Access) → IsSound directories bytes roles → address < 2 ^ 32 → IsOk (walk_of bytes d address access) → CanBeMarked bytes d address access
-  can_mark bytes address access sound small ok =
-      let size = sound.size in
-      let few = sound.few in
-      record { size = omega (arith, size, few); whole = omega (arith, size); fits = small; found = ok }
+  can_mark bytes address access sound small ok = grind (arith, found)
 
   module _ (bytes : List ℕ) (address : ℕ) (access : Access) (sound : IsSound directories bytes roles) (e : FoundEntry bytes d address access) where
     abbrev s : ℕ
@@ -79,11 +75,7 @@ module _ (directories : List (Option ℕ)) (roles : List Role) (p d f : ℕ) (li
         (get_user (directory_of directories) (frame_bytes bytes) p d (page_number address) e.entry live (live_small directories p d sound.pids live) e.low e.high e.here)
 
     page_apart : f ≢ e.entry.frame
-    page_apart = by page
-      where
-        by : HoldsPage (slice_get roles e.entry.frame) → f ≢ e.entry.frame
-        by (inl r) = apart roles f e.entry.frame Reserved free r (λ k. cc)
-        by (inr h) = apart roles f e.entry.frame (Page h.0) free h.1 (λ k. cc)
+    page_apart = grind (arith, page, apart)
 
     mark_free : frame_bytes (marked bytes d address access) f ≡ frame_bytes bytes f
     unfolding marked

@@ -258,12 +258,7 @@ step (usual {x = x} {done = done} {v = v} {w = w} {keeps = keeps} {es = es} {rs 
 step (refilled {m = m} {keeps = keeps} i k read) good = is_none m m (with_kept keeps i (k ∷ keeps i)) refl (more_kept m keeps i k read good)
 step (forgotten {m = m} {keeps = keeps} i left among) good = is_none m m (with_kept keeps i left) refl (fewer_kept m keeps i left among good)
 step (invalidated {m = m} {keeps = keeps} i) good = is_none m (acknowledged m i) (with_kept keeps i (left_by (ended_in m) (keeps i))) (same_state m i) (done_kept m keeps i good)
-step (told {x = x} {done = done} {v = v} {keeps = keeps} all) good =
-    is_none (settled x done v) (settled end.Nothing nobody v) keeps refl
-    (record {
-      stands = (good.stands.0, λ i. subst (AreRead v) (sym (none_left (keeps i))) (all_told x (done i) v (keeps i) (all i) (good.stands.1 i)));
-      taken = tt;
-    })
+step (told {x = x} {done = done} {v = v} {keeps = keeps} all) good = grind (arith, is_none, none_left, all_told)
 
 -- ---- All steps
 

@@ -13,7 +13,7 @@ use Rattle.alloc_table.specs.declared.Role.{Role}
 use Rattle.alloc_table.specs.declared.Role.TheVariants.{Reserved, Free, Page}
 use Rattle.table_walk.specs.declared.Access.TheVariants.{Read}
 use Rattle.table_walk.specs.Walk.{walk_of}
-use Rattle.address_space.specs.Image.{directory_at, table_at, page_word, page_frame, is_lazy_at, SlotStands, CellStands}
+use Rattle.address_space.specs.Image.{directory_at, table_at, page_word, page_frame, is_lazy_at, CellStands}
 use Rattle.address_space.specs.ImageWords.{own_frame}
 use Rattle.address_space.specs.Spaces.{Slot, Cell, at_page, slot_at}
 use Rattle.address_space.specs.Stays.{way_of}
@@ -35,38 +35,19 @@ use Rattle.kernel_calls.proofs.Linked.{tables_map}
 use Rattle.shootdowns.specs.Windows.{only_takes}
 use Rattle.shootdowns.proofs.Accesses.{frame_at, frame_is, word_mapped, way_at, table_of_word, lazy_zero}
 use Rattle.shootdowns.proofs.Alike.{AlikeCell, Alike}
-use Rattle.shootdowns.proofs.Filled.{fill, filled_state, get_filled}
+use Rattle.shootdowns.proofs.Filled.{filled_state, get_filled}
 use Rattle.shootdowns.proofs.Taking.{mapped_word, cell_bytes, some_member}
 use Rattle.shootdowns.proofs.Untouched.{was}
 
 -- a slot on a frame of a page has that frame
 framed : (v : View) → IsCore v → (r : Slot) (d : Cell) (f c : ℕ) → map.get v.state.spaces r ≡ Some d → frame_at v r ≡ f → slice_get v.roles f ≡ Some (Page c)
     → page_frame (memory_of v) r ≡ Some f
-framed v core r d f c at same role =
-    let w = word_mapped v core r d at in
-    by w.0 w.1 (is_lazy w.0) refl
-  where
-    by : (word : ℕ) → page_word (memory_of v) r ≡ Some word → (b : Bool) → is_lazy word ≡ b → page_frame (memory_of v) r ≡ Some f
-    by word is false real = ap (option_and_then (own_frame 2)) is ∙ own_is word real ∙ ap Some (sym (frame_is v r word is) ∙ same)
-    by word is true lazy = absurd (
-        let zero = lazy_zero v core r word is lazy in
-        let within = slice_get_within v.roles f (Page c) role in
-        let none : f ≡ 0 = sym same ∙ frame_is v r word is ∙ zero in
-        let k : ◌≡◌ {A = Option Role} (Some Reserved) (Some (Page c)) = sym ((core.image.memory.sound.reserved f within).1 none) ∙ role in
-        cc)
+framed v core r d f c at same role = grind (arith, word_mapped, own_is, frame_is, lazy_zero, slice_get_within)
 
 -- the cell of a mapped slot
 pub stands_at : (v : View) → IsCore v → (slot : Slot) (c : Cell) (word : ℕ) → map.get v.state.spaces slot ≡ Some c → page_word (memory_of v) slot ≡ Some word
     → CellStands (memory_of v) slot word c
-stands_at v core slot c word at is = by (page_word (memory_of v) slot) is (map.get v.state.spaces slot) at (core.image.memory.cells slot)
-  where
-    by : (y : Option ℕ) → y ≡ Some word → (z : Option Cell) → z ≡ Some c → SlotStands (memory_of v) slot y z → CellStands (memory_of v) slot word c
-    by None k z l h = cc
-    by (Some n) k None l h = absurd h
-    by (Some n) k (Some d) l h =
-        let same : n ≡ word = cc in
-        let alike : d ≡ c = cc in
-        subst (λ (q : Cell). CellStands (memory_of v) slot word q) alike (subst (λ m. CellStands (memory_of v) slot m d) same h)
+stands_at v core slot c word at is = grind arith
 
 -- a word that is there after a step without end was there before it, and names the same frame
 pub names_onward : (w x : View) → IsCore w → IsCore x → Ends end.Nothing w x → ((slot : Slot) → is_some (map.get x.state.spaces slot) ≡ true → is_some (map.get w.state.spaces slot) ≡ true)
@@ -139,11 +120,7 @@ module _ (v : View) (before : IsCore v) (s t : State) (first : Alike v.state s) 
 
   -- the bytes before
   full_at : (slot : Slot) (c : Cell) → map.get s.spaces slot ≡ Some c → c.bytes ≡ frame_bytes w.bytes (frame_at v slot)
-  full_at slot c at =
-      let k : Some c ≡ Some (fill (frame_at v) w.bytes slot c) =
-      sym at ∙ ap (λ (z : State). map.get z.spaces slot) full ∙ get_filled (frame_at v) w.bytes s.spaces slot ∙ ap (option_map (fill (frame_at v) w.bytes slot)) at in
-      let q : c ≡ fill (frame_at v) w.bytes slot c = cc in
-      ap (λ (z : Cell). z.bytes) q
+  full_at slot c at = grind (arith, get_filled)
 
   -- a slot in whose group is one that is mapped still
   module _ (slot : Slot) (d : Cell) (at : map.get t.spaces slot ≡ Some d) (none : is_some (map.get x.state.spaces slot) ≡ false) where

@@ -1,10 +1,10 @@
 -- Memory in which bytes of pages and of free frames were written, or dirty was set in words of pages that aren't lazy: it
 -- is a core's, whose cells have those bytes, and dirty there.
-use Rattle.std.proofs.Common.{◌≡◌, ◌≤◌, ◌≢◌, ℕ, ◌+◌, ◌*◌, ◌<◌, ◌^◌, Bool, true, false, List, [], ◌∷◌, length, refl, ap, sym, ◌∙◌, subst, arith, inl, inr, Option, Some, None}
+use Rattle.std.proofs.Common.{◌≡◌, ◌≤◌, ◌≢◌, ℕ, ◌+◌, ◌*◌, ◌<◌, ◌^◌, Bool, true, false, List, [], ◌∷◌, length, refl, ap, sym, ◌∙◌, subst, arith, inr, Option, Some, None}
 use Rattle.std.specs.Prelude.{◌↔◌, ◌&&◌, not, if◌then◌else◌, nat_lt, IsTrue, MatchBool, is_some, slice_get, sum_by, Ok}
 use Rattle.std.specs.Option.{option_and_then, option_map, unwrap_or}
 use Rattle.std.specs.List.{range_with_len}
-use Rattle.page_words.specs.Addresses.{page_number, slot_number, index_number}
+use Rattle.page_words.specs.Addresses.{slot_number, index_number}
 use Rattle.page_words.specs.FiniteMap as map
 use Rattle.page_words.specs.FiniteMap.{nat_order}
 use Rattle.page_words.specs.FiniteSet as set
@@ -12,7 +12,6 @@ use Rattle.page_words.specs.Words.{flag, with_flag, frame_number, is_present, is
 use Rattle.page_words.proofs.Flags.{flag-with_flag_same, set_flag_other, set_flag_frame}
 use Rattle.page_words.proofs.OptionLemmas.{is_some-map}
 use Rattle.phys_memory.specs.Bytes.{frame_bytes, word_in}
-use Rattle.alloc_table.specs.declared.Role.{Role}
 use Rattle.alloc_table.specs.declared.Role.TheVariants.{Table}
 use Rattle.table_walk.specs.declared.Access.{Access}
 use Rattle.table_walk.specs.declared.Access.TheVariants.{Read, Write}
@@ -100,12 +99,7 @@ module _ (w : View) (core : IsCore w) (F : Slot → ℕ) (one : Slot → Bool) (
   -- ---- Words
 
   table_same : (q s : ℕ) → table_at (memory_of x) q s ≡ table_at (memory_of w) q s
-  table_same q s = by (directory_at (memory_of w) q) refl
-    where
-      by : (y : Option ℕ) → directory_at (memory_of w) q ≡ y
-          → option_and_then (λ d. named_by s (word_of (memory_of x) d s)) y ≡ option_and_then (λ d. named_by s (word_of (memory_of w) d s)) y
-      by None is = refl
-      by (Some d) is = ap (named_by s) (r.directories q d s is)
+  table_same q s = grind arith
 
   page_marked : (slot : Slot) → page_word (memory_of x) slot ≡ option_map (mark (one slot)) (page_word (memory_of w) slot)
   page_marked slot =
@@ -132,11 +126,7 @@ module _ (w : View) (core : IsCore w) (F : Slot → ℕ) (one : Slot → Bool) (
   word_before slot n is = from_map (mark (one slot)) (page_word (memory_of w) slot) n (sym (page_marked slot) ∙ is)
 
   frame_same : (slot : Slot) → page_frame (memory_of x) slot ≡ page_frame (memory_of w) slot
-  frame_same slot = ap (option_and_then (own_frame 2)) (page_marked slot) ∙ by (page_word (memory_of w) slot)
-    where
-      by : (y : Option ℕ) → option_and_then (own_frame 2) (option_map (mark (one slot)) y) ≡ option_and_then (own_frame 2) y
-      by None = refl
-      by (Some n) = mark_own (one slot) n
+  frame_same slot = grind (arith, page_marked, mark_own)
 
   lazy_same : (slot : Slot) → is_lazy_at (memory_of x) slot ≡ is_lazy_at (memory_of w) slot
   lazy_same slot = ap (λ (y : Option ℕ). unwrap_or (option_map (is_lazy_word 2) y) false) (page_marked slot) ∙ by (page_word (memory_of w) slot)
@@ -146,15 +136,7 @@ module _ (w : View) (core : IsCore w) (F : Slot → ℕ) (one : Slot → Bool) (
       by (Some n) = mark_flag (one slot) n 10 (omega arith)
 
   way_same : (slot : Slot) → way_of (memory_of x) slot ≡ way_of (memory_of w) slot
-  way_same slot =
-      ap (λ (y : Option ℕ). option_and_then {U = ℕ × ℕ} (λ d. option_map (λ word. (d, frame_number word)) y) (directory_at (memory_of w) slot.pid)) (page_marked slot)
-      ∙ by (page_word (memory_of w) slot) (directory_at (memory_of w) slot.pid)
-    where
-      by : (y z : Option ℕ) → option_and_then {U = ℕ × ℕ} (λ d. option_map (λ word. (d, frame_number word)) (option_map (mark (one slot)) y)) z
-          ≡ option_and_then {U = ℕ × ℕ} (λ d. option_map (λ word. (d, frame_number word)) y) z
-      by y None = refl
-      by None (Some d) = refl
-      by (Some n) (Some d) = ap (λ f. Some (d, f)) (mark_frame (one slot) n)
+  way_same slot = grind (arith, page_marked, mark_frame)
 
   -- ---- The image
 
@@ -285,11 +267,7 @@ module _ (w : View) (core : IsCore w) (F : Slot → ℕ) (one : Slot → Bool) (
       }
 
   pub remade : IsCore x
-  remade = record {
-    image = record { sound = image_sound; memory = record { sound = sound; cells = cell_stands }; accounts = λ q. refl };
-    well_formed = r.well;
-    sized = record { few = core.sized.few; pids = core.sized.pids };
-  }
+  remade = grind (arith, sound, image_sound, cell_stands)
 
   -- ---- What stays
 

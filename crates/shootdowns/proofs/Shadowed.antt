@@ -1,151 +1,263 @@
--- Uses of what was kept come after a store of zeros to lazy pages.
-use Rattle.std.proofs.Common.{◌≡◌, ℕ, ◌*◌, true, false, List, ◌∷◌, length, refl, ap, sym, ◌∙◌, arith, inl, inr, Option, Some, None, subst}
-use Rattle.std.specs.Prelude.{◌⊎◌, slice_get}
-use Rattle.std.specs.Option.{option_map}
+-- Uses of what was kept come after an event that gives lazy pages frames and leaves their zeros.
+use Rattle.std.proofs.Common.{◌≡◌, ◌≢◌, ℕ, Bool, true, false, List, [], ◌∷◌, ◌+◌, refl, ap, sym, ◌∙◌, arith, inl, inr, Option, Some, None, subst, unwrap_or, is_some}
+use Rattle.std.specs.Prelude.{◌⊎◌, if◌then◌else◌, slice_get, slice_index}
 use Rattle.page_words.specs.FiniteMap as map
-use Rattle.page_words.specs.Addresses.{EachTouched}
+use Rattle.page_words.specs.FiniteSet as set
+use Rattle.page_words.specs.Addresses.{page_number, offset_number, byte_count, EachTouched}
 use Rattle.page_words.specs.declared.addresses.Size.{Size}
-use Rattle.page_words.specs.Words.{frame_number}
 use Rattle.phys_memory.specs.Bytes.{frame_bytes}
-use Rattle.alloc_table.specs.declared.Role.{Role}
-use Rattle.alloc_table.specs.declared.Role.TheVariants.{Page}
-use Rattle.address_space.specs.Image.{page_word, is_lazy_at}
-use Rattle.address_space.specs.Spaces.{Slot, Cell, Spaces, at_page, with_bytes}
-use Rattle.page_words.proofs.MapLemmas.{same_map}
-use Rattle.address_space.proofs.standing.Restored.{from_map}
-use Rattle.process_table.specs.Image.{Account, as_account, memory_of}
-use Rattle.quota_tree.specs.Book.{Book, Member}
-use Rattle.process_table.specs.State.{State}
+use Rattle.phys_memory.proofs.Frames.{byte-frame}
+use Rattle.table_walk.specs.declared.Access.TheVariants.{Read, Write}
+use Rattle.address_space.specs.Image.{directory_at, is_lazy_at}
+use Rattle.address_space.specs.Kept.{kept_place, number_at}
+use Rattle.address_space.specs.Spaces.{Slot, Cell, at_page, slot_at, fresh, byte_at, value_of}
+use Rattle.address_space.proofs.steps.Bytes.{each_byte}
+use Rattle.address_space.proofs.steps.Finding.{same_each}
+use Rattle.process_table.specs.Calls as calls
+use Rattle.process_table.specs.Image.{memory_of}
+use Rattle.process_table.specs.State.{State, is_live, is_mapped}
 use Rattle.process_table.specs.View.{View}
-use Rattle.process_table.specs.WellFormed.{IsWellFormed}
-use Rattle.kernel_calls.specs.Kept.{ServesEvent}
-use Rattle.kernel_calls.specs.Machine.{answer, answers, next, end_of}
-use Rattle.kernel_calls.specs.Processors.{IsCore, Processors, AllAreRead, IsLoaded}
+use Rattle.process_table.proofs.SharingLaws.{touched_user}
+use Rattle.fault_handler.specs.Plans.{plan_of, plan_at}
+use Rattle.fault_handler.proofs.Settled.{each_page}
+use Rattle.fault_handler.proofs.Walked.{walk_completes}
+use Rattle.kernel_calls.specs.Kept.{Serves, ServesCall, ServesEvent, IsLoad, IsStore, reply_kept}
+use Rattle.kernel_calls.specs.Machine.{answer, answer_of, answers, after, next, completes, end_of}
+use Rattle.kernel_calls.specs.Processors.{IsCore, IsLeft, Processors, AllAreRead, IsLoaded, LetsThrough, LetCall, with_bytes}
+use Rattle.kernel_calls.specs.Translations.{Translation, translation, IsGiven, Ends, AreRead, ended_by, is_ended}
 use Rattle.kernel_calls.specs.declared.calls.Call.{Call}
 use Rattle.kernel_calls.specs.declared.calls.Call.TheVariants as call
 use Rattle.kernel_calls.specs.declared.calls.Event.{Event}
 use Rattle.kernel_calls.specs.declared.calls.Reply.{Reply}
-use Rattle.kernel_calls.proofs.MixedRuns.{serves_call}
-use Rattle.kernel_calls.proofs.Runs.{kept-next}
-use Rattle.shootdowns.specs.Windows.{Begins, IsStale}
-use Rattle.shootdowns.specs.Shadows.{StoresZeros, Uses, none, loaded, stored, ComeAfter, UsesComeAfterZeros}
-use Rattle.shootdowns.proofs.Accesses.{frame_at, frame_is, word_mapped, kept_answer, kept_next, kept_beside, kept_long}
-use Rattle.shootdowns.proofs.Alike.{Alike, with_state, FlagsGrow, flags_read, alike_then, alike_filled, again}
-use Rattle.shootdowns.proofs.Filled.{fill, filled_state, get_filled}
-use Rattle.shootdowns.proofs.Remade.{Remade, remade, names_before}
-use Rattle.shootdowns.proofs.Rewritten.{is_fixed, no_slot, rewritten}
-use Rattle.shootdowns.proofs.StaleAccesses.{load_leaves}
+use Rattle.kernel_calls.specs.declared.calls.Reply.TheVariants as reply
+use Rattle.kernel_calls.specs.declared.translations.Ended.{Ended}
+use Rattle.kernel_calls.specs.declared.translations.Ended.TheVariants as end
+use Rattle.kernel_calls.proofs.Decided.{goes-call, next-goes}
+use Rattle.kernel_calls.proofs.KeptAccesses.{Touched, loaded_same, live, kept_find, kept_reply}
+use Rattle.kernel_calls.proofs.LeftByProcessors.{stores_leave_cores}
+use Rattle.kernel_calls.proofs.Leaving.{left_read}
+use Rattle.kernel_calls.proofs.MixedRuns.{read_at}
+use Rattle.kernel_calls.proofs.WalkedReplies.{answered, goes_frameless, told_planned}
+use Rattle.shootdowns.specs.Windows.{IsStale}
+use Rattle.shootdowns.specs.Shadows.{Uses, none, loaded, stored, ComeAfter, UsesComeAfterZeros}
+use Rattle.shootdowns.proofs.Accesses.{on_frame, lazy_zero, takes_served}
+use Rattle.shootdowns.proofs.Alike.{alike_same}
 use Rattle.shootdowns.proofs.Taking.{cell_bytes}
-use Rattle.shootdowns.proofs.Zeros.{NoPage, grows, same_book, alike, full_bytes, split, still_page}
+use Rattle.shootdowns.proofs.Turned.{Has, Mapped, next_grows}
+use Rattle.shootdowns.proofs.Untouched.{Beside, Besides, after_beside}
+use Rattle.shootdowns.proofs.Zeros.{Zeroed, zeroed_by, ended_lazy, word_lazy, takes_no_lazy}
 
--- The order's state is that before the event but for bytes and flags, and its cells have the bytes that memory has in
--- the frames of then. Each slot has its frame of then, or neither frame was a page's.
-record After (v : View) (keeps : Processors) (u : View) : Type 0 where
+-- ---- A load of bytes that are there
+
+-- a page has the bytes of a frame, and accessed is set
+record Finds (u : View) (p page frame : ℕ) : Type 0 where
+  cell : Cell
+  there : map.get u.state.spaces (at_page p page) ≡ Some cell
+  accessed : cell.accessed ≡ true
+  bytes : cell.bytes ≡ frame_bytes u.bytes frame
+
+-- so it is with each page that a load touches
+abbrev FindsCall : View → ℕ → (ℕ → ℕ) → Call → Type 0
+FindsCall u p frames (call.Load addr size) = EachTouched addr size (λ page. Finds u p page (frames page))
+FindsCall u p frames _ = ⊥
+
+module _ (u : View) (core : IsCore u) (p : ℕ) (frames : ℕ → ℕ) where
+  byte_found : (a : ℕ) → Finds u p (page_number a) (frames (page_number a)) → byte_at u.state.spaces p a ≡ slice_index u.bytes (kept_place frames a)
+  byte_found a f =
+      ap (λ (z : Option Cell). slice_index (unwrap_or z (fresh (slot_at p a) true)).bytes (offset_number a)) f.there
+      ∙ ap (λ b. slice_index b (offset_number a)) f.bytes ∙ byte-frame u.bytes (frames (page_number a)) (offset_number a) (omega arith)
+
+  number_found : (addr : ℕ) (size : Size) → EachTouched addr size (λ page. Finds u p page (frames page)) → calls.loaded u.state p addr size ≡ number_at frames u.bytes addr size
+  number_found addr size found = ap value_of (same_each (byte_at u.state.spaces p) (λ a. slice_index u.bytes (kept_place frames a)) addr (byte_count size)
+      (λ i l. byte_found (addr + i) (each_byte addr size (λ page. Finds u p page (frames page)) found i l)))
+
+  done_found : (addr : ℕ) (size : Size) → EachTouched addr size (λ page. Finds u p page (frames page)) → completes (answer_of u.state p (call.Load addr size)) ≡ true
+  done_found addr size found =
+      let mapped = each_page addr size (λ page. Finds u p page (frames page)) (λ page. is_mapped u.state (at_page p page) ≡ true) (λ page f. ap is_some f.there) found in
+      sym (goes-call u p (call.Load addr size))
+      ∙ goes_frameless (plan_at u p addr size Read) (walk_completes u p addr size Read (touched_user u.state p addr size core.well_formed mapped) mapped (λ w. cc))
+
+  call_found : (c : Call) → FindsCall u p frames c → answer_of u.state p c ≡ reply_kept frames u.bytes c
+  call_found (call.Load addr size) found =
+      told_planned (plan_of u.state p addr size Read) (reply.Value (calls.loaded u.state p addr size)) (done_found addr size found) ∙ ap reply.Value (number_found addr size found)
+  call_found _ found = absurd found
+
+  call_same : (c : Call) → FindsCall u p frames c → after u.state p c ≡ u.state
+  call_same (call.Load addr size) found = loaded_same u.state p addr size
+      (each_page addr size (λ page. Finds u p page (frames page)) (Touched u.state.spaces p) (λ page f. record { cell = f.cell; there = f.there; set = f.accessed }) found)
+  call_same _ found = absurd found
+
+  call_done : (c : Call) → FindsCall u p frames c → (completes (reply_kept frames u.bytes c) ≡ true) × (is_live u.state p ≡ true)
+  call_done (call.Load addr size) found = (refl, core.well_formed.owners (at_page p (page_number addr)) found.0.cell found.0.there)
+  call_done _ found = absurd found
+
+-- the load is answered by these bytes, and changes nothing
+load_found : (u : View) (core : IsCore u) (frames : ℕ → ℕ) (a : Event) → FindsCall u a.pid frames a.call
+    → (answer u.state a ≡ reply_kept frames u.bytes a.call) × (next u.state a ≡ u.state)
+load_found u core frames a found = grind (arith, call_done, call_found, next-goes, call_same)
+
+-- ---- What stays while what was kept is used
+
+-- a translation of a page
+abbrev kept : ℕ → ℕ → ℕ → Bool → Bool → Translation
+kept p page frame write dirty = record { slot = at_page p page; frame = frame; write = write; dirty = dirty }
+
+-- what the walks gave, and a change didn't end, they give afterwards
+given_after : (v w : View) (ended : Ended) (t : Translation) → Ends ended v w → is_ended ended t.slot ≡ false → IsGiven v t → IsGiven w t
+given_after v w ended t ends spared given = by (is_ended ended t.slot) spared (left_read ended v w (translation t ∷ []) ends (given, tt))
+  where
+    by : (b : Bool) → b ≡ false → AreRead w (if b then [] else translation t ∷ []) → IsGiven w t
+    by true h read = cc
+    by false h read = read.0
+
+-- Memory is a core's. Walks give all that was kept and isn't ended. What is ended has zeros.
+record After (v : View) (x : Ended) (keeps : Processors) (u : View) : Type 0 where
   core : IsCore u
-  like : Alike v.state u.state
-  full : u.state ≡ filled_state (frame_at v) u.bytes u.state
-  read : AllAreRead (with_state v u.state) keeps
-  parted : (slot : Slot) (m : ℕ) → page_word (memory_of u) slot ≡ Some m
-      → (frame_at v slot ≡ frame_number m) ⊎ (NoPage v (frame_at v slot) × NoPage v (frame_number m))
-  pages : (f c : ℕ) → slice_get v.roles f ≡ Some (Page c) → (d : ℕ) × (slice_get u.roles f ≡ Some (Page d))
-  long : length u.bytes ≡ length v.bytes
+  read : (i n : ℕ) (t : Translation) → slice_get (keeps i) n ≡ Some (translation t) → is_ended x t.slot ≡ false → IsGiven u t
+  zeroed : (i n : ℕ) (t : Translation) → slice_get (keeps i) n ≡ Some (translation t) → is_ended x t.slot ≡ true → Zeroed v u.state t.slot
 
-module _ (v : View) (before : IsCore v) (keeps : Processors) where
-  module _ (u : View) (t : After v keeps u) (i : ℕ) where
+module _ (v : View) (before : IsCore v) (x : Ended) (keeps : Processors) (all : AllAreRead v keeps)
+    (lazy : (slot : Slot) → is_ended x slot ≡ true → is_lazy_at (memory_of v) slot ≡ true) where
+  given_before : (i n : ℕ) (t : Translation) → slice_get (keeps i) n ≡ Some (translation t) → IsGiven v t
+  given_before i n t there = read_at v (keeps i) n (translation t) (all i) there
+
+  module _ (u : View) (t : After v x keeps u) (i : ℕ) where
+    finds : (p page frame : ℕ) → LetsThrough (keeps i) p page frame Read → Finds u p page frame
+    finds p page frame l = by (is_ended x (at_page p page)) refl
+      where
+        by : (b : Bool) → is_ended x (at_page p page) ≡ b → Finds u p page frame
+        by false spared =
+            let g = t.read i l.place (kept p page frame l.write l.dirty) l.there spared in
+            let o = on_frame u t.core u.state (alike_same u.state) t.core.well_formed p page frame Read (record { kept = kept p page frame l.write l.dirty; given = g; of_page = refl; on_frame = refl; written = l.right }) in
+            record { cell = g.cell; there = g.mapped; accessed = g.accessed; bytes = cell_bytes u t.core (at_page p page) g.cell o.word g.mapped o.there ∙ ap (frame_bytes u.bytes) o.names }
+        by true ended =
+            let z = t.zeroed i l.place (kept p page frame l.write l.dirty) l.there ended in
+            let o = on_frame v before v.state (alike_same v.state) before.well_formed p page frame Read
+            (record { kept = kept p page frame l.write l.dirty; given = given_before i l.place (kept p page frame l.write l.dirty) l.there; of_page = refl; on_frame = refl; written = l.right }) in
+            let zero : frame ≡ 0 = sym o.names ∙ lazy_zero v before (at_page p page) o.word o.there (word_lazy v (at_page p page) o.word o.there (lazy (at_page p page) ended)) in
+            record { cell = z.cell; there = z.there; accessed = z.accessed; bytes = z.bytes ∙ sym t.core.image.memory.sound.zero_frame ∙ ap (frame_bytes u.bytes) (sym zero) }
+
+    load_finds : (p : ℕ) (frames : ℕ → ℕ) (c : Call) → IsLoad c → LetCall (keeps i) p frames c → FindsCall u p frames c
+    load_finds p frames (call.Load addr size) load lets =
+        each_page addr size (λ page. LetsThrough (keeps i) p page (frames page) Read) (λ page. Finds u p page (frames page)) (λ page l. finds p page (frames page) l) lets
+    load_finds p frames _ load lets = absurd load
+
     one_load : (a : Event) (q : Reply) → IsLoaded (keeps i) u a q → (q ≡ answer u.state a) × (next u.state a ≡ u.state)
     one_load a q l =
-        let served = serves_call (with_state v u.state) (keeps i) a.pid l.frames a.call (t.read i) l.through in (
-          l.found ∙ sym (kept_answer v before u.state t.like t.core.well_formed u.bytes l.frames a served) ∙ ap (λ (z : State). answer z a) (sym t.full),
-          ap (λ (z : State). next z a) t.full ∙ kept_next v before u.state t.like t.core.well_formed u.bytes l.frames a served t.long
-              ∙ ap (λ b. filled_state (frame_at v) b u.state) (load_leaves l.frames u.bytes a.call l.load) ∙ sym t.full,
-        )
+        let found = load_found u t.core l.frames a (load_finds a.pid l.frames a.call l.load l.through) in
+        (l.found ∙ sym found.0, found.1)
+
+    -- what lets a store through isn't ended
+    record Stores (p page frame : ℕ) : Type 0 where
+      served : Serves u p page frame Write
+      mapped : (c : Cell) × (map.get v.state.spaces (at_page p page) ≡ Some c)
+      spared : is_ended x (at_page p page) ≡ false
+
+    stores : (p page frame : ℕ) → LetsThrough (keeps i) p page frame Write → Stores p page frame
+    stores p page frame l = by (is_ended x (at_page p page)) refl
+      where
+        by : (b : Bool) → is_ended x (at_page p page) ≡ b → Stores p page frame
+        by false spared =
+            let g = given_before i l.place (kept p page frame l.write l.dirty) l.there in
+            record {
+              served = record { kept = kept p page frame l.write l.dirty; given = t.read i l.place (kept p page frame l.write l.dirty) l.there spared; of_page = refl; on_frame = refl; written = l.right };
+              mapped = (g.cell, g.mapped);
+              spared = spared;
+            }
+        by true ended = absurd (
+            let real = takes_served v before v.state (alike_same v.state) before.well_formed p page frame
+            (record { kept = kept p page frame l.write l.dirty; given = given_before i l.place (kept p page frame l.write l.dirty) l.there; of_page = refl; on_frame = refl; written = l.right }) in
+            takes_no_lazy v (at_page p page) (lazy (at_page p page) ended) real)
 
     module _ (a : Event) (q : Reply) (bytes : List ℕ) (l : IsStale (keeps i) u a q bytes) where
-      use_served : ServesEvent (with_state v u.state) l.frames a
-      use_served = serves_call (with_state v u.state) (keeps i) a.pid l.frames a.call (t.read i) l.through
+      use_served : ServesEvent u l.frames a
+      use_served = by a.call l.store l.through
+        where
+          by : (c : Call) → IsStore c → LetCall (keeps i) a.pid l.frames c → ServesCall u a.pid l.frames c
+          by (call.Store addr size value) store lets =
+              each_page addr size (λ page. LetsThrough (keeps i) a.pid page (l.frames page) Write) (λ page. Serves u a.pid page (l.frames page) Write)
+              (λ page k. (stores a.pid page (l.frames page) k).served) lets
+          by _ store lets = absurd store
+
+      store_home : (d : ℕ) × (directory_at (memory_of u) a.pid ≡ Some d)
+      store_home = grind (arith, use_served, live)
 
       store_told : q ≡ answer u.state a
-      store_told = l.found ∙ sym (kept_answer v before u.state t.like t.core.well_formed u.bytes l.frames a use_served) ∙ ap (λ (z : State). answer z a) (sym t.full)
+      store_told =
+          let d = store_home in
+          l.found ∙ sym (answered u a d.0 t.core (kept_find u l.frames a use_served) d.1 ∙ kept_reply u l.frames a d.0 use_served d.1)
 
-      store_state : next u.state a ≡ filled_state (frame_at v) bytes u.state
-      store_state =
-          ap (λ (z : State). next z a) t.full ∙ kept_next v before u.state t.like t.core.well_formed u.bytes l.frames a use_served t.long
-          ∙ ap (λ b. filled_state (frame_at v) b u.state) (sym l.left)
+      store_done : completes (answer u.state a) ≡ true
+      store_done = grind (arith, store_told)
 
-      store_get : (slot : Slot) → map.get (next u.state a).spaces slot ≡ option_map (fill (frame_at v) bytes slot) (map.get u.state.spaces slot)
-      store_get slot = ap (λ (z : State). map.get z.spaces slot) store_state ∙ get_filled (frame_at v) bytes u.state.spaces slot
-
-      store_book : (next u.state a).book ≡ u.state.book
-      store_book = ap (λ (z : State). z.book) store_state
-
-      store_well : IsWellFormed (next u.state a)
-      store_well = (kept-next u.state a t.core.well_formed).0
-
-      store_long : length bytes ≡ length u.bytes
-      store_long = ap length l.left ∙ kept_long v before u.state t.like t.core.well_formed u.bytes l.frames a use_served
-
-      -- in frames that were no pages no byte changes
-      store_beside : (f : ℕ) → NoPage v f → frame_bytes bytes f ≡ frame_bytes u.bytes f
-      store_beside f bare = ap (λ b. frame_bytes b f) l.left ∙ kept_beside v before u.state t.like t.core.well_formed u.bytes l.frames a use_served f t.long bare
-
-      store_fixed : (f : ℕ) (r : Role) → slice_get u.roles f ≡ Some r → is_fixed r ≡ true → frame_bytes bytes f ≡ frame_bytes u.bytes f
-      store_fixed f r is fixed = store_beside f (λ c page.
-          let now = t.pages f c page in
-          let k : ◌≡◌ {A = Option Role} (Some r) (Some (Page now.0)) = sym is ∙ now.1 in
-          let same : r ≡ Page now.0 = cc in
-          let no : false ≡ true = sym (ap is_fixed same) ∙ fixed in
-          cc)
-
-      store_cells : (slot : Slot) → map.get (next u.state a).spaces slot ≡ option_map (λ c. with_bytes c (frame_bytes bytes (frame_at u slot))) (map.get u.state.spaces slot)
-      store_cells slot = store_get slot ∙ by (map.get u.state.spaces slot) refl
+      store_mapped : Mapped u.state a.pid a.call
+      store_mapped = by a.call use_served
         where
-          same : (c : Cell) → map.get u.state.spaces slot ≡ Some c → frame_bytes bytes (frame_at v slot) ≡ frame_bytes bytes (frame_at u slot)
-          same c there =
-              let m = word_mapped u t.core slot c there in
-              pick m.0 m.1 (t.parted slot m.0 m.1)
-            where
-              own : c.bytes ≡ frame_bytes u.bytes (frame_at v slot)
-              own =
-                  let k : Some c ≡ Some (fill (frame_at v) u.bytes slot c) = sym there ∙ ap (λ (z : State). map.get z.spaces slot) t.full
-                  ∙ get_filled (frame_at v) u.bytes u.state.spaces slot ∙ ap (option_map (fill (frame_at v) u.bytes slot)) there in
-                  let e : c ≡ fill (frame_at v) u.bytes slot c = cc in
-                  ap (λ (z : Cell). z.bytes) e
-
-              pick : (m : ℕ) → page_word (memory_of u) slot ≡ Some m → (frame_at v slot ≡ frame_number m) ⊎ (NoPage v (frame_at v slot) × NoPage v (frame_number m))
-                  → frame_bytes bytes (frame_at v slot) ≡ frame_bytes bytes (frame_at u slot)
-              pick m at (inl on) = ap (frame_bytes bytes) (on ∙ sym (frame_is u slot m at))
-              pick m at (inr bare) =
-                  store_beside (frame_at v slot) bare.0 ∙ sym own ∙ cell_bytes u t.core slot c m there at ∙ sym (store_beside (frame_number m) bare.1)
-                  ∙ ap (frame_bytes bytes) (sym (frame_is u slot m at))
-
-          by : (z : Option Cell) → map.get u.state.spaces slot ≡ z
-              → option_map (fill (frame_at v) bytes slot) (map.get u.state.spaces slot) ≡ option_map (λ c. with_bytes c (frame_bytes bytes (frame_at u slot))) (map.get u.state.spaces slot)
-          by None is = ap (option_map (fill (frame_at v) bytes slot)) is ∙ sym (ap (option_map (λ (c : Cell). with_bytes c (frame_bytes bytes (frame_at u slot)))) is)
-          by (Some c) is =
-              ap (option_map (fill (frame_at v) bytes slot)) is ∙ ap (λ b. Some (with_bytes c b)) (same c is)
-              ∙ sym (ap (option_map (λ (c : Cell). with_bytes c (frame_bytes bytes (frame_at u slot)))) is)
+          by : (c : Call) → ServesCall u a.pid l.frames c → Mapped u.state a.pid c
+          by (call.Load addr size) k = each_page addr size (λ page. Serves u a.pid page (l.frames page) Read) (λ page. Has u.state.spaces (at_page a.pid page)) (λ page s. (s.given.cell, sym (ap (map.get u.state.spaces) s.of_page) ∙ s.given.mapped)) k
+          by (call.Store addr size value) k = each_page addr size (λ page. Serves u a.pid page (l.frames page) Write) (λ page. Has u.state.spaces (at_page a.pid page)) (λ page s. (s.given.cell, sym (ap (map.get u.state.spaces) s.of_page) ∙ s.given.mapped)) k
+          by _ k = absurd k
 
       abbrev store_view : View
       store_view = record u { bytes = bytes; state = next u.state a }
 
-      store_flags : FlagsGrow u.state (next u.state a)
-      store_flags slot c at = (fill (frame_at v) bytes slot c, store_get slot ∙ ap (option_map (fill (frame_at v) bytes slot)) at, λ h. h, λ h. h)
+      store_left : IsLeft u store_view
+      store_left = subst (λ b. IsLeft u (with_bytes u (next u.state a) b)) (sym l.left) (stores_leave_cores u a l.frames t.core use_served l.store)
 
-      store_remade : Remade u (frame_at u) no_slot (next u.state a) bytes
-      store_remade = rewritten u t.core (frame_at u) (next u.state a) bytes store_long store_fixed (frame_is u) store_book store_well store_cells
+      -- a store is beside what is ended
+      store_beside : (slot : Slot) → Zeroed v u.state slot → is_ended x slot ≡ true → Besides u.state slot a.pid a.call
+      store_beside slot z ended = by a.call l.store l.through
+        where
+          one : (page : ℕ) → LetsThrough (keeps i) a.pid page (l.frames page) Write → Beside u.state.spaces slot (at_page a.pid page)
+          one page k =
+              let s = stores a.pid page (l.frames page) k in
+              let there : map.get u.state.spaces (at_page a.pid page) ≡ Some s.served.given.cell = sym (ap (map.get u.state.spaces) s.served.of_page) ∙ s.served.given.mapped in
+              record { cell = s.served.given.cell; there = there; apart = differ s; out = out s there (set.contains s.served.given.cell.holders slot) refl }
+            where
+              differ : Stores a.pid page (l.frames page) → slot ≢ at_page a.pid page
+              differ s same = let k : true ≡ false = sym ended ∙ ap (is_ended x) same ∙ s.spared in cc
 
-      store_after : After v keeps store_view
+              out : (s : Stores a.pid page (l.frames page)) → map.get u.state.spaces (at_page a.pid page) ≡ Some s.served.given.cell
+                  → (b : Bool) → set.contains s.served.given.cell.holders slot ≡ b → set.contains s.served.given.cell.holders slot ≡ false
+              out s there false is = is
+              out s there true is = absurd (
+                  let here = t.core.well_formed.cells (at_page a.pid page) s.served.given.cell there in
+                  let other = here.alike slot is in
+                  let e : Some other.0 ≡ Some z.cell = sym other.1 ∙ z.there in
+                  let q : other.0 ≡ z.cell = cc in
+                  alone s (z.alone (at_page a.pid page) (ap (λ (c : Cell). set.contains c.holders (at_page a.pid page)) (sym q) ∙ ap (λ g. set.contains g (at_page a.pid page)) other.2 ∙ here.own)))
+                where
+                  alone : Stores a.pid page (l.frames page) → (at_page a.pid page ≡ slot) ⊎ (map.get v.state.spaces (at_page a.pid page) ≡ None) → ⊥
+                  alone s (inl same) = differ s (sym same)
+                  alone s (inr gone) = let e : ◌≡◌ {A = Option Cell} None (Some s.mapped.0) = sym gone ∙ s.mapped.1 in cc
+
+          by : (c : Call) → IsStore c → LetCall (keeps i) a.pid l.frames c → Besides u.state slot a.pid c
+          by (call.Store addr size value) store lets =
+              each_page addr size (λ page. LetsThrough (keeps i) a.pid page (l.frames page) Write) (λ page. Beside u.state.spaces slot (at_page a.pid page)) one lets
+          by _ store lets = absurd store
+
+      still_zeroed : (slot : Slot) → is_ended x slot ≡ true → Zeroed v u.state slot → Zeroed v (next u.state a) slot
+      still_zeroed slot ended z =
+          let d = (next_grows u.state a store_done store_mapped).cells slot z.cell z.there in
+          let kept = after_beside u.state slot a.pid a.call z.cell (store_beside slot z ended) z.there in
+          let e : Some kept.0 ≡ Some d.0 = sym kept.1 ∙ sym (ap (λ (s : State). map.get s.spaces slot) (next-goes u.state a store_done)) ∙ d.1 in
+          let q : kept.0 ≡ d.0 = cc in
+          record {
+            cell = d.0;
+            there = d.1;
+            bytes = ap (λ (c : Cell). c.bytes) (sym q) ∙ kept.2 ∙ z.bytes;
+            accessed = d.3.0 z.accessed;
+            alone = λ other h. z.alone other (sym (ap (λ g. set.contains g other) d.2.holders) ∙ h);
+          }
+
+      store_after : After v x keeps store_view
       store_after = record {
-        core = remade u t.core (frame_at u) no_slot (next u.state a) bytes store_remade;
-        like = alike_then v.state u.state (next u.state a) t.like (alike_filled u.state (next u.state a) (frame_at v) bytes store_book store_get);
-        full = again (frame_at v) bytes u.state (next u.state a) store_state;
-        read = λ j. flags_read v u.state (next u.state a) store_flags (keeps j) (t.read j);
-        parted = λ slot m is. (let n = names_before u t.core (frame_at u) no_slot (next u.state a) bytes store_remade slot m is in subst (λ f. (frame_at v slot ≡ f) ⊎ (NoPage v (frame_at v slot) × NoPage v f)) n.2 (t.parted slot n.0 n.1));
-        pages = t.pages;
-        long = store_long ∙ t.long;
+        core = store_left.core;
+        read = λ j n k there spared. given_after u store_view end.Nothing k store_left.ends refl (t.read j n k there spared);
+        zeroed = λ j n k there ended. still_zeroed k.slot ended (t.zeroed j n k there ended);
       }
 
-  all_uses : {u x : View} {events : List Event} {replies : List Reply} → Uses keeps u events replies x → After v keeps u → ComeAfter u events replies x
+  all_uses : {u y : View} {events : List Event} {replies : List Reply} → Uses keeps u events replies y → After v x keeps u → ComeAfter u events replies y
   all_uses none t = record { replies = refl; state = refl; core = t.core }
   all_uses (loaded {u = u} {a = a} {q = q} {events = events} {replies = replies} i l more) t =
       let here = one_load u t i a q l in
@@ -157,55 +269,14 @@ module _ (v : View) (before : IsCore v) (keeps : Processors) where
       }
   all_uses (stored {u = u} {a = a} {q = q} {bytes = bytes} {events = events} {replies = replies} i l more) t =
       let later = all_uses more (store_after u t i a q bytes l) in
-      record {
-        replies = (λ j. store_told u t i a q bytes l j ∷ later.replies j);
-        state = later.state;
-        core = later.core;
-      }
-
--- it is so right after the event
-module _ (v w : View) (keeps : Processors) (e : Event) (r : Reply) (core : IsCore v) (all : AllAreRead v keeps) (b : Begins v e r w) (addr : ℕ) (size : Size) (is : e.call ≡ call.Store addr size 0)
-    (lazy : EachTouched addr size (λ page. is_lazy_at (memory_of v) (at_page e.pid page) ≡ true)) where
-  flags_on : FlagsGrow v.state w.state
-  flags_on slot c at = let d = (grows v w e r core b addr size is lazy).cells slot c at in (d.0, d.1, d.3.0, d.3.1)
-
-  full_now : w.state ≡ filled_state (frame_at v) w.bytes w.state
-  full_now = ap (λ (S : Spaces). record w.state { spaces = S }) (same_map _ _ (λ slot. by slot (map.get w.state.spaces slot) refl ∙ sym (get_filled (frame_at v) w.bytes w.state.spaces slot)))
-    where
-      by : (slot : Slot) (z : Option Cell) → map.get w.state.spaces slot ≡ z → map.get w.state.spaces slot ≡ option_map (fill (frame_at v) w.bytes slot) (map.get w.state.spaces slot)
-      by slot None at = at ∙ sym (ap (option_map (fill (frame_at v) w.bytes slot)) at)
-      by slot (Some c) at =
-          at ∙ (λ j. Some (with_bytes c (full_bytes v w e r core b addr size is lazy slot c at j))) ∙ sym (ap (option_map (fill (frame_at v) w.bytes slot)) at)
-
-  first_after : After v keeps w
-  first_after = record {
-    core = b.carried.core;
-    like = alike v w e r core b addr size is lazy;
-    full = full_now;
-    read = λ j. flags_read v v.state w.state flags_on (keeps j) (all j);
-    parted = split v w e r core b addr size is lazy;
-    pages = λ f c page. still_page v w e r core b addr size is lazy f c page;
-    long = longs;
-  }
-    where
-      longs : length w.bytes ≡ length v.bytes
-      longs =
-          let here = core.image.sound.root in
-          let there = b.carried.core.image.sound.root in
-          let old = from_map (as_account v.state 0) (map.get v.state.book 0) here.0 here.1 in
-          let new = from_map (as_account w.state 0) (map.get w.state.book 0) there.0 there.1 in
-          let k : Some new.0 ≡ Some old.0 = sym new.1 ∙ ap (λ (m : Book). map.get m 0) (same_book v w e r core b addr size is lazy) ∙ old.1 in
-          let same : new.0 ≡ old.0 = cc in
-          let quota : there.0.quota ≡ here.0.quota = sym (ap (λ (c : Account). c.quota) new.2) ∙ ap (λ (m : Member). m.quota) same ∙ ap (λ (c : Account). c.quota) old.2 in
-          let first = here.2 in
-          let last = there.2 in
-          let roles : length w.roles ≡ length v.roles = omega (arith, first, last, quota) in
-          b.carried.core.image.memory.sound.size ∙ ap (λ n. 4096 * n) roles ∙ sym core.image.memory.sound.size
+      record { replies = (λ j. store_told u t i a q bytes l j ∷ later.replies j); state = later.state; core = later.core }
 
 pub uses_come_after_zeros : UsesComeAfterZeros
-uses_come_after_zeros v w x keeps e r events replies core all b zeros uses = by e.call refl zeros
-  where
-    by : (c : Call) → e.call ≡ c → StoresZeros v e.pid c → ComeAfter w events replies x
-    by (call.Store addr size value) is h =
-        all_uses v core keeps uses (first_after v w keeps e r core all b addr size (is ∙ ap (call.Store addr size) h.0) h.1)
-    by _ is h = absurd h
+uses_come_after_zeros v w x keeps e r events replies core all b leaves uses =
+    all_uses v core (ended_by v e) keeps all (ended_lazy v e leaves) uses (record {
+      core = b.carried.core;
+      read = λ i n t there spared. given_after v w (ended_by v e) t b.carried.ends spared (given_before v core (ended_by v e) keeps all (ended_lazy v e leaves) i n t there);
+      zeroed = λ i n t there ended.
+          let g = read_at v (keeps i) n (translation t) (all i) there in
+          zeroed_by v w e r core b leaves t.slot ended g.cell g.mapped g.accessed;
+    })

@@ -1,6 +1,6 @@
 -- Events that only take away: which slots stay, and on which frames.
-use Rattle.std.proofs.Common.{◌≡◌, ℕ, ◌*◌, Bool, true, false, not, cond, List, [], ◌∷◌, length, refl, ap, sym, ◌∙◌, arith, inl, inr, Option, Some, None, is_some, unwrap_or, ◌<◌}
-use Rattle.std.specs.Prelude.{◌⊎◌, if◌then◌else◌, slice_get}
+use Rattle.std.proofs.Common.{◌≡◌, ℕ, Bool, true, false, cond, List, [], ◌∷◌, length, refl, ap, sym, ◌∙◌, arith, inl, inr, Option, Some, None, is_some, unwrap_or, ◌<◌}
+use Rattle.std.specs.Prelude.{◌⊎◌, slice_get}
 use Rattle.std.proofs.lemmas.Option.{slice_get_within}
 use Rattle.std.specs.FinMap.Entries.{find}
 use Rattle.std.specs.Option.{option_map, option_and_then}
@@ -14,15 +14,14 @@ use Rattle.page_words.specs.Words.{frame_number, is_lazy}
 use Rattle.phys_memory.specs.Bytes.{frame_bytes}
 use Rattle.alloc_table.specs.declared.Role.{Role}
 use Rattle.alloc_table.specs.declared.Role.TheVariants.{Reserved, Free, Page}
-use Rattle.address_space.specs.Image.{directory_at, table_at, page_word, page_frame, SlotStands}
+use Rattle.address_space.specs.Image.{directory_at, table_at, page_word, page_frame}
 use Rattle.address_space.specs.ImageWords.{own_frame}
 use Rattle.address_space.specs.Spaces.{Slot, slot_order, Cell, Spaces, at_page, cell_or_fresh, fresh, with_bytes, without, protected, is_slot, is_of}
 use Rattle.address_space.specs.Stays.{FramesStay, LooseStay}
 use Rattle.address_space.proofs.standing.FramesStand.{way_parts}
 use Rattle.address_space.proofs.standing.TablesStand.{owned, own_is}
 use Rattle.address_space.proofs.standing.Restored.{from_map, from_then}
-use Rattle.process_table.specs.Image.{Account, memory_of, as_account}
-use Rattle.quota_tree.specs.Book.{Member}
+use Rattle.process_table.specs.Image.{memory_of}
 use Rattle.process_table.specs.State.{State}
 use Rattle.process_table.specs.View.{View}
 use Rattle.kernel_calls.specs.Gone.{gone_of_call, gone_by, gives_back}
@@ -31,7 +30,7 @@ use Rattle.kernel_calls.specs.Processors.{IsCore}
 use Rattle.kernel_calls.specs.declared.calls.Call.{Call}
 use Rattle.kernel_calls.specs.declared.calls.Call.TheVariants as call
 use Rattle.kernel_calls.specs.declared.calls.Event.{Event}
-use Rattle.kernel_calls.proofs.CommutingGone.{fewer, get_gone}
+use Rattle.kernel_calls.proofs.CommutingGone.{get_gone}
 use Rattle.kernel_calls.proofs.Decided.{next-stays, next-goes}
 use Rattle.kernel_calls.proofs.Linked.{tables_map}
 use Rattle.kernel_calls.proofs.Runs.{kept-next}
@@ -45,23 +44,11 @@ Left s t gone = (slot : Slot) → is_some (map.get t.spaces slot) ≡ true → (
 
 pub left_gone : (S : Spaces) (gone : Slot → Bool) (slot : Slot) → is_some (map.get (without S gone) slot) ≡ true
     → (is_some (map.get S slot) ≡ true) × (gone slot ≡ false)
-left_gone S gone slot h = by (gone slot) refl (map.get S slot) (sym (ap is_some (get_gone S gone slot)) ∙ h)
-  where
-    by : (b : Bool) → gone slot ≡ b → (z : Option Cell) → is_some (option_map (fewer gone) (cond (not (gone slot)) z None)) ≡ true → (is_some z ≡ true) × (gone slot ≡ false)
-    by true is z k = absurd (let e : false ≡ true = sym (ap (λ b. is_some (option_map (fewer gone) (cond (not b) z None))) is) ∙ k in cc)
-    by false is None k = absurd (let e : false ≡ true = sym (ap (λ b. is_some (option_map (fewer gone) (cond (not b) None None))) is) ∙ k in cc)
-    by false is (Some c) k = (refl, is)
+left_gone S gone slot h = grind (arith, is_some, get_gone)
 
 pub left_right : (S : Spaces) (at slot : Slot) (w : Bool) → is_some (map.get S at) ≡ true → is_some (map.get (protected S at w) slot) ≡ true
     → is_some (map.get S slot) ≡ true
-left_right S at slot w there h = by (same_or_not slot_order slot at)
-  where
-    new : Cell
-    new = record (cell_or_fresh S at) { write = w }
-
-    by : ((slot ≡ at) × (same slot_order slot at ≡ true)) ⊎ (same slot_order slot at ≡ false) → is_some (map.get S slot) ≡ true
-    by (inl is) = ap (λ q. is_some (map.get S q)) is.0 ∙ there
-    by (inr other) = sym (ap is_some (get-insert S at new slot ∙ ap (λ b. cond b (Some new) (map.get S slot)) other)) ∙ h
+left_right S at slot w there h = grind (arith, same_or_not, is_some, get-insert)
 
 left_call : (s : State) (p : ℕ) (c : Call) → only_takes c ≡ true → (c ≡ c → completes (answer_of s p c) ≡ true) → Left s (after s p c) (gone_of_call p c)
 left_call s p (call.Unmap page) h done slot there = let k = left_gone s.spaces (is_slot p page) slot there in (k.0, λ f. k.1)
@@ -72,25 +59,11 @@ left_call s p call.Exit h done slot there = let k = left_gone s.spaces (is_of p)
 left_call s p _ h done slot there = cc
 
 pub left_next : (s : State) (e : Event) → only_takes e.call ≡ true → Left s (next s e) (gone_by s e)
-left_next s e h = by (completes (answer s e)) refl
-  where
-    by : (b : Bool) → completes (answer s e) ≡ b → Left s (next s e) (gone_by s e)
-    by false is slot there = (
-      sym (ap (λ (t : State). is_some (map.get t.spaces slot)) (next-stays s e is)) ∙ there,
-      λ f. ap (λ b. if b then gone_of_call e.pid e.call slot f else false) is,
-    )
-    by true is slot there =
-        let k = left_call s e.pid e.call h (λ _. completed s e is) slot (sym (ap (λ (t : State). is_some (map.get t.spaces slot)) (next-goes s e is)) ∙ there) in
-        (k.0, λ f. ap (λ b. if b then gone_of_call e.pid e.call slot f else false) is ∙ k.1 f)
+left_next s e h = grind (arith, is_some, next-stays, left_call, completed, next-goes)
 
 -- a slot that has a word is mapped
 pub mapped_word : (v : View) → IsCore v → (slot : Slot) (word : ℕ) → page_word (memory_of v) slot ≡ Some word → is_some (map.get v.state.spaces slot) ≡ true
-mapped_word v core slot word is = by (page_word (memory_of v) slot) is (map.get v.state.spaces slot) (core.image.memory.cells slot)
-  where
-    by : (y : Option ℕ) → y ≡ Some word → (z : Option Cell) → SlotStands (memory_of v) slot y z → is_some z ≡ true
-    by None k z h = cc
-    by (Some n) k None h = absurd h
-    by (Some n) k (Some c) h = refl
+mapped_word v core slot word is = grind (arith, is_some)
 
 -- each frame of a page keeps its bytes, and is a page's or free
 pub record PagesStand (v w : View) : Type 0 where
@@ -103,15 +76,7 @@ by_loose v w loose = record { each = λ f c is. loose.each f (inr (c, is)) }
 -- the bytes of a cell, by its word
 pub cell_bytes : (v : View) → IsCore v → (slot : Slot) (c : Cell) (word : ℕ) → map.get v.state.spaces slot ≡ Some c → page_word (memory_of v) slot ≡ Some word
     → c.bytes ≡ frame_bytes v.bytes (frame_number word)
-cell_bytes v core slot c word at is = by (page_word (memory_of v) slot) is (map.get v.state.spaces slot) at (core.image.memory.cells slot)
-  where
-    by : (y : Option ℕ) → y ≡ Some word → (z : Option Cell) → z ≡ Some c → SlotStands (memory_of v) slot y z → c.bytes ≡ frame_bytes v.bytes (frame_number word)
-    by None k z l h = cc
-    by (Some n) k None l h = absurd h
-    by (Some n) k (Some d) l h =
-        let same : n ≡ word = cc in
-        let alike : d ≡ c = cc in
-        sym (ap (λ (q : Cell). q.bytes) alike) ∙ h.bytes ∙ ap (λ m. frame_bytes v.bytes (frame_number m)) same
+cell_bytes v core slot c word at is = grind arith
 
 -- a Protect leaves all bytes
 bytes_protected : (s : State) (p page : ℕ) (write : Bool) (slot : Slot) (c : Cell) → map.get s.spaces slot ≡ Some c
@@ -147,12 +112,7 @@ bytes_next s e page write is slot c at = by (completes (answer s e)) refl
         (d.0, ap (λ (t : State). map.get t.spaces slot) (next-goes s e goes ∙ ap (after s e.pid) is) ∙ d.1, d.2)
 
 none_gone : (s : State) (e : Event) (page : ℕ) (write : Bool) → e.call ≡ call.Protect page write → (slot : Slot) (f : ℕ) → gone_by s e slot f ≡ false
-none_gone s e page write is slot f =
-    ap (λ c. if completes (answer s e) then gone_of_call e.pid c slot f else false) is ∙ by (completes (answer s e))
-  where
-    by : (b : Bool) → (if b then false else false) ≡ false
-    by true = refl
-    by false = refl
+none_gone s e page write is slot f = grind arith
 
 -- a set that isn't empty has a member
 pub some_member : (s : Set slot_order) → 0 < set.len s → (slot : Slot) × (set.contains s slot ≡ true)
@@ -278,15 +238,4 @@ module _ (v w : View) (before : IsCore v) (later : IsCore w) (e : Event) (takes 
       by slot (Some c) is = is ∙ ap (λ l. Some (with_bytes c l)) (stands slot c is) ∙ sym (ap (option_map (fill (frame_at v) w.bytes slot)) is)
 
   pub long_stays : length w.bytes ≡ length v.bytes
-  long_stays =
-      let here = before.image.sound.root in
-      let there = later.image.sound.root in
-      let old = from_map (as_account v.state 0) (map.get v.state.book 0) here.0 here.1 in
-      let new = from_map (as_account w.state 0) (map.get w.state.book 0) there.0 there.1 in
-      let k : Some new.0 ≡ Some old.0 = sym new.1 ∙ ap (λ (s : State). map.get s.book 0) state ∙ (kept-next v.state e before.well_formed).1 ∙ old.1 in
-      let same : new.0 ≡ old.0 = cc in
-      let quota : there.0.quota ≡ here.0.quota = sym (ap (λ (c : Account). c.quota) new.2) ∙ ap (λ (m : Member). m.quota) same ∙ ap (λ (c : Account). c.quota) old.2 in
-      let first = here.2 in
-      let last = there.2 in
-      let roles : length w.roles ≡ length v.roles = omega (arith, first, last, quota) in
-      later.image.memory.sound.size ∙ ap (λ n. 4096 * n) roles ∙ sym before.image.memory.sound.size
+  long_stays = grind (arith, from_map, kept-next)

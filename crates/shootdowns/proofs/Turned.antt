@@ -9,7 +9,7 @@ use Rattle.page_words.specs.FiniteMap.{same}
 use Rattle.page_words.specs.FiniteSet as set
 use Rattle.page_words.proofs.MapLemmas.{same_or_not, get-insert, get-map_values}
 use Rattle.page_words.proofs.OptionLemmas.{some_value}
-use Rattle.address_space.specs.Spaces.{Slot, slot_order, Cell, Spaces, at_page, slot_at, cell_or_fresh, fresh, with_bytes, set_bytes, write_at, stored, all_stored, bytes_of, accessed, all_accessed, with_pages, protected, without, is_slot, is_of}
+use Rattle.address_space.specs.Spaces.{Slot, slot_order, Cell, Spaces, at_page, slot_at, fresh, with_bytes, set_bytes, write_at, stored, all_stored, bytes_of, accessed, all_accessed, with_pages, protected, without, is_slot, is_of}
 use Rattle.address_space.proofs.costs.MapFirst.{IsThere, with_touched-same}
 use Rattle.address_space.proofs.steps.Bytes.{each_byte}
 use Rattle.process_table.specs.State.{State, is_live}
@@ -193,11 +193,7 @@ abbrev Other : Slot → Spaces → Slot → Type 0
 Other a S b = (b ≢ a) × Has S a
 
 right_kept : (S : Spaces) (a : Slot) (d : Cell) (b : Slot) → map.get (protected S a false) b ≡ Some d → d.write ≡ true → b ≢ a
-right_kept S a d b at write is =
-    let k : Some (record (cell_or_fresh S a) { write = false }) ≡ Some d = sym (ap (map.get (protected S a false)) is ∙ get-inserted S a (record (cell_or_fresh S a) { write = false })) ∙ at in
-    let e : record (cell_or_fresh S a) { write = false } ≡ d = cc in
-    let n : false ≡ true = ap (λ (q : Cell). q.write) e ∙ write in
-    cc
+right_kept S a d b at write is = grind (arith, get-inserted)
 
 -- a page is mapped before and after the event; for a store it takes the store afterwards
 pub record StaysMapped (s : State) (e : Event) (p : ℕ) (writes : Bool) (page : ℕ) : Type 0 where
@@ -215,10 +211,7 @@ module _ (s : State) (e : Event) (p : ℕ) where
     load_turned : (Good : Spaces → Slot → Type 0) → ((S : Spaces) (b c : Slot) → Has S b → Good S c → Good (accessed S b) c)
         → ((S : Spaces) (b : Slot) → Has S b → Good S b → O (accessed S b) ≡ accessed (O S) b) → EachTouched addr size (λ page. Good S (at_page p page))
         → O (all_accessed (with_pages S p (touched addr size)) p (touched addr size)) ≡ all_accessed (with_pages (O S) p (touched addr size)) p (touched addr size)
-    load_turned Good keep turn good =
-        ap (λ (T : Spaces). O (all_accessed T p (touched addr size))) (with_touched-same S p addr size (each_page addr size (λ page. Has S (at_page p page)) (IsThere S p) (there_is S p) pages))
-        ∙ loads_turn O Good keep turn S p (page_number addr) (second_page addr size) pages.0 pages.1 good.0 good.1
-        ∙ sym (ap (λ (T : Spaces). all_accessed T p (touched addr size)) (with_touched-same (O S) p addr size (each_page addr size (λ page. Has (O S) (at_page p page)) (IsThere (O S) p) (there_is (O S) p) left)))
+    load_turned Good keep turn good = grind (arith, with_touched-same, each_page, there_is, loads_turn)
 
     store_turned : (Good : Spaces → Slot → Type 0) → ((S : Spaces) (b c : Slot) (o : ℕ) (ys : List ℕ) → Has S b → Good S c → Good (stored S b o ys) c)
         → ((S : Spaces) (b : Slot) (o : ℕ) (ys : List ℕ) → Has S b → Good S b → O (stored S b o ys) ≡ stored (O S) b o ys) → EachTouched addr size (λ page. Good S (at_page p page)) → (v : ℕ)
@@ -314,13 +307,7 @@ next_book s a done h = ap (λ (t : State). t.book) (next-goes s a done ∙ (spac
 -- ---- An event that only takes away
 
 pub keys_of : (S T : Spaces) → Grows S T → (slot : Slot) → map.contains_key T slot ≡ map.contains_key S slot
-keys_of S T grows slot = by (map.get S slot) refl (map.get T slot) refl
-  where
-    by : (z : Option Cell) → map.get S slot ≡ z → (y : Option Cell) → map.get T slot ≡ y → map.contains_key T slot ≡ map.contains_key S slot
-    by None is None at = ap is_some at ∙ sym (ap is_some is)
-    by None is (Some d) at = absurd (let c = grows.back slot d at in let k : None ≡ Some c.0 = sym is ∙ c.1 in cc)
-    by (Some c) is None at = absurd (let d = grows.cells slot c is in let k : None ≡ Some d.0 = sym at ∙ d.1 in cc)
-    by (Some c) is (Some d) at = ap is_some at ∙ sym (ap is_some is)
+keys_of S T grows slot = grind (arith, is_some)
 
 -- is answered by what is mapped, and by who is live
 call_alike : (s t : State) (p : ℕ) (c : Call) → only_takes c ≡ true → t.book ≡ s.book → ((slot : Slot) → map.contains_key t.spaces slot ≡ map.contains_key s.spaces slot)

@@ -1,18 +1,16 @@
 -- The steps of the worked Protect.
-use Rattle.std.proofs.Common.{◌≡◌, ℕ, ◌==◌, ◌≤◌, ◌<◌, ◌^◌, ◌&&◌, Bool, true, false, List, [], ◌∷◌, refl, ap, sym, ◌∙◌, subst, inl, inr, zero, suc, arith, Option, Some, is_some, length, unwrap_or, Ok}
+use Rattle.std.proofs.Common.{◌≡◌, ℕ, ◌≤◌, ◌^◌, ◌&&◌, Bool, true, false, List, [], ◌∷◌, refl, ap, sym, ◌∙◌, subst, inr, zero, suc, arith, Some, is_some, length, unwrap_or}
 use Rattle.std.specs.Prelude.{◌⊎◌, if◌then◌else◌, slice_get, nat_lt}
 use Rattle.std.specs.Option.{option_map}
 use Rattle.std.specs.Result.{is_ok}
-use Rattle.page_words.specs.Addresses.{IsUserPage}
 use Rattle.page_words.specs.FiniteMap as map
 use Rattle.page_words.proofs.OptionLemmas.{some_value}
-use Rattle.page_words.specs.declared.addresses.Size.TheVariants.{One}
 use Rattle.table_walk.specs.declared.Access.TheVariants.{Read}
 use Rattle.table_walk.specs.Walk.{walk_of}
 use Rattle.address_space.specs.ByWalk.{finds_at}
 use Rattle.address_space.specs.Image.{is_lazy_at}
 use Rattle.address_space.specs.Spaces.{Cell, at_page}
-use Rattle.address_space.specs.Stays.{FramesStay, LooseStay, none_goes, way_of}
+use Rattle.address_space.specs.Stays.{FramesStay, none_goes}
 use Rattle.process_table.specs.Image.{memory_of}
 use Rattle.process_table.specs.State.{State, open_with}
 use Rattle.process_table.specs.View.{View}
@@ -23,7 +21,6 @@ use Rattle.kernel_calls.specs.Machine.{answer, completes, next}
 use Rattle.kernel_calls.specs.Processors.{IsCore, IsWalked, Processors, with_kept, with_bytes}
 use Rattle.kernel_calls.specs.Translations.{Kept, translation, directory_entry, Ends, ended_by, is_invalidated, left_by}
 use Rattle.kernel_calls.specs.Walked.{bytes_accessed, reply_found}
-use Rattle.kernel_calls.specs.declared.calls.Call.TheVariants as call
 use Rattle.kernel_calls.specs.declared.calls.Event.{Event}
 use Rattle.kernel_calls.specs.declared.calls.Reply.{Reply}
 use Rattle.kernel_calls.specs.declared.calls.Reply.TheVariants as reply
@@ -95,13 +92,7 @@ module _ (v w : View) (r : Reply) (core : IsCore v) (state : v.state ≡ loaded_
   q = reply_found w.bytes directory load_copy.call
 
   walks : IsWalked w load_copy q u
-  walks = record {
-    finds = ap (λ b. b && true) finds;
-    directory = directory;
-    live = given_live w later 1 0x40000 cell_later.0 cell_later.1;
-    found = refl;
-    left = refl;
-  }
+  walks = grind (arith, finds, given_live, later, found)
 
   -- ---- The store
 
@@ -131,16 +122,7 @@ module _ (v w : View) (r : Reply) (core : IsCore v) (state : v.state ≡ loaded_
   kept_then = with_kept keeps 0 (left_by x_ended (keeps 0))
 
   all : (i : ℕ) → (with_one nobody 0 i ≡ true) ⊎ KeepsNone x_ended (kept_then i)
-  all i = by (i == 0)
-    where
-      none_there : (n : ℕ) (k : Kept) → slice_get {X = Kept} [] n ≡ Some k → ⊥
-      none_there zero k h = cc
-      none_there (suc n) k h = cc
-
-      by : (b : Bool) → ((if b then true else false) ≡ true)
-          ⊎ KeepsNone x_ended (if b then left_by x_ended (keeps 0) else if b then kept ∷ [] else [])
-      by true = inl refl
-      by false = inr (λ n k h. absurd (none_there n k h))
+  all i = grind arith
 
   abbrev after : View
   after = record u { state = next (next (next v.state load_copy) store_copy) protect_it; bytes = bytes }

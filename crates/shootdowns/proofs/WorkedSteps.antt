@@ -1,6 +1,6 @@
 -- The steps of the worked window.
-use Rattle.std.proofs.Common.{◌≡◌, ℕ, ◌==◌, Bool, true, false, List, [], ◌∷◌, refl, ap, sym, ◌∙◌, subst, inl, inr, zero, suc, arith, Some}
-use Rattle.std.specs.Prelude.{◌⊎◌, if◌then◌else◌, slice_get}
+use Rattle.std.proofs.Common.{◌≡◌, ℕ, Bool, true, List, [], ◌∷◌, refl, ap, sym, ◌∙◌, subst, arith, Some}
+use Rattle.std.specs.Prelude.{◌⊎◌}
 use Rattle.std.specs.Option.{option_map}
 use Rattle.page_words.specs.FiniteMap as map
 use Rattle.page_words.proofs.OptionLemmas.{is_some-map, some_value}
@@ -77,16 +77,7 @@ module _ (v w x : View) (r : Reply) (core : IsCore v) (state : v.state ≡ next 
   last = with_kept keeps 0 (left_by x_ended (keeps 0))
 
   all : (i : ℕ) → (with_one nobody 0 i ≡ true) ⊎ KeepsNone x_ended (last i)
-  all i = by (i == 0)
-    where
-      none_there : (n : ℕ) (k : Kept) → slice_get {X = Kept} [] n ≡ Some k → ⊥
-      none_there zero k h = cc
-      none_there (suc n) k h = cc
-
-      by : (b : Bool) → ((if b then true else false) ≡ true)
-          ⊎ KeepsNone x_ended (if b then left_by x_ended (keeps 0) else if b then kept ∷ [] else [])
-      by true = inl refl
-      by false = inr (λ n k h. absurd (none_there n k h))
+  all i = grind arith
 
   steps : Steps (settled end.Nothing nobody v) none_kept (load_it ∷ store_it ∷ unmap_it ∷ []) (q ∷ reply.Done ∷ r ∷ [])
       (settled end.Nothing nobody (record x { state = next (next v.state store_it) unmap_it; bytes = bytes })) last

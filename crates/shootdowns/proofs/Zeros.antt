@@ -1,47 +1,47 @@
--- Uses of what was kept, beside a store of zeros to lazy pages.
-use Rattle.std.proofs.Common.{◌≡◌, ◌≢◌, ℕ, zero, suc, ◌+◌, ◌<◌, Bool, true, false, cond, ◌&&◌, ◌||◌, ◌==◌, List, [], ◌∷◌, refl, ap, sym, ◌∙◌, subst, arith, inl, inr, Option, Some, None, unwrap_or, is_some, eqb-true}
-use Rattle.std.specs.Prelude.{◌⊎◌, if◌then◌else◌, MatchBool, slice_get, slice_set}
+-- A lazy page that an event gives a frame has zeros afterwards, as before.
+use Rattle.std.proofs.Common.{◌≡◌, ◌≢◌, ℕ, zero, suc, ◌+◌, ◌<◌, Bool, true, false, cond, ◌||◌, List, [], ◌∷◌, refl, ap, sym, ◌∙◌, subst, arith, inl, inr, Option, Some, None, unwrap_or, is_some}
+use Rattle.std.specs.Prelude.{◌⊎◌, if◌then◌else◌, IfSome, slice_set}
 use Rattle.std.specs.Option.{option_map, option_and_then}
 use Rattle.std.proofs.lemmas.List.{set-get_or, get_or-replicate}
-use Rattle.std.proofs.lemmas.Option.{slice_get_within}
 use Rattle.page_words.specs.Addresses.{page_number, offset_number, byte_count, second_page, EachTouched}
 use Rattle.page_words.specs.declared.addresses.Size.{Size}
 use Rattle.page_words.specs.FiniteMap as map
 use Rattle.page_words.specs.FiniteMap.{same}
 use Rattle.page_words.specs.FiniteSet as set
-use Rattle.page_words.specs.Words.{frame_number, is_lazy}
-use Rattle.page_words.proofs.MapLemmas.{get-insert, get-map_values}
+use Rattle.page_words.specs.Words.{is_lazy}
+use Rattle.page_words.proofs.MapLemmas.{get-insert, get-map_values, contains-insert, same_or_not}
+use Rattle.page_words.proofs.OptionLemmas.{some_value}
 use Rattle.phys_memory.specs.Bytes.{frame_bytes}
-use Rattle.alloc_table.specs.declared.Role.{Role}
-use Rattle.alloc_table.specs.declared.Role.TheVariants.{Reserved, Page}
-use Rattle.address_space.specs.Image.{page_word, page_frame, is_lazy_at}
-use Rattle.address_space.specs.ImageWords.{own_frame}
-use Rattle.address_space.specs.Spaces.{Slot, slot_order, Cell, Spaces, at_page, slot_at, zeros, fresh, with_bytes, set_bytes, write_at, stored, all_stored, bytes_of, is_slot}
-use Rattle.address_space.specs.Stays.{of_lazy}
+use Rattle.address_space.specs.Image.{page_word, is_lazy_at, takes_stores}
+use Rattle.address_space.specs.Spaces.{Slot, slot_order, Cell, Spaces, at_page, slot_at, zeros, fresh, with_bytes, with_holders, set_bytes, write_at, stored, all_stored, bytes_of, joined, is_slot}
 use Rattle.address_space.proofs.costs.MapFirst.{IsThere, with_touched-same}
-use Rattle.address_space.proofs.standing.FramesStand.{way_parts}
-use Rattle.address_space.proofs.standing.Restored.{from_map, from_then}
-use Rattle.address_space.proofs.standing.TablesStand.{owned, own_is}
 use Rattle.address_space.proofs.steps.Bytes.{each_byte}
 use Rattle.address_space.proofs.steps.Stores.{byte_is_write}
+use Rattle.process_table.specs.Calls.{accept_refusal, after_store, offered}
 use Rattle.process_table.specs.Image.{memory_of}
 use Rattle.process_table.specs.State.{State}
 use Rattle.process_table.specs.View.{View}
-use Rattle.fault_handler.specs.Fills.{lazy_touched, lazy_second}
+use Rattle.process_table.proofs.Refusals.{may_accept}
 use Rattle.fault_handler.proofs.Settled.{each_page}
-use Rattle.kernel_calls.specs.Gone.{gone_by, gone_of_call}
-use Rattle.kernel_calls.specs.Machine.{answer, after, next, completes}
+use Rattle.kernel_calls.specs.Machine.{answer, answer_of, after, next, completes}
 use Rattle.kernel_calls.specs.Processors.{IsCore}
+use Rattle.kernel_calls.specs.Translations.{ended_by, if_lazy, is_ended, of_call, of_pages}
+use Rattle.kernel_calls.specs.declared.calls.Call.{Call}
 use Rattle.kernel_calls.specs.declared.calls.Call.TheVariants as call
 use Rattle.kernel_calls.specs.declared.calls.Event.{Event}
 use Rattle.kernel_calls.specs.declared.calls.Reply.{Reply}
-use Rattle.kernel_calls.proofs.Decided.{next-stays, next-goes}
+use Rattle.kernel_calls.specs.declared.calls.Reply.TheVariants as reply
+use Rattle.kernel_calls.specs.declared.translations.Ended.TheVariants as end
+use Rattle.kernel_calls.proofs.Decided.{next-goes}
+use Rattle.kernel_calls.proofs.Runs.{not-refused}
+use Rattle.kernel_calls.proofs.Untouched.{wider, widen, get_joined}
 use Rattle.shootdowns.specs.Windows.{Begins}
-use Rattle.shootdowns.proofs.Accesses.{frame_at, frame_is, word_mapped, way_at, lazy_zero}
-use Rattle.shootdowns.proofs.Alike.{AlikeCell, Alike}
+use Rattle.shootdowns.specs.Shadows.{LeavesZeros}
+use Rattle.shootdowns.proofs.Accesses.{lazy_zero}
+use Rattle.shootdowns.proofs.Filled.{completed}
 use Rattle.shootdowns.proofs.Onward.{stands_at}
-use Rattle.shootdowns.proofs.Taking.{mapped_word, cell_bytes, some_member}
-use Rattle.shootdowns.proofs.Turned.{Grows, Has, Mapped, grows_same, next_grows, next_book}
+use Rattle.shootdowns.proofs.Taking.{mapped_word, cell_bytes}
+use Rattle.shootdowns.proofs.Turned.{bytes_grow}
 
 -- ---- Zeros stored to zeros
 
@@ -101,199 +101,153 @@ zero_bytes (suc k) a p S r each here =
 
 -- a lazy page has a word, which is lazy
 lazy_word : (v : View) (slot : Slot) → is_lazy_at (memory_of v) slot ≡ true → (n : ℕ) × (page_word (memory_of v) slot ≡ Some n) × (is_lazy n ≡ true)
-lazy_word v slot h = by (page_word (memory_of v) slot) refl h
+lazy_word v slot h = grind (arith, unwrap_or)
+
+-- the word of a page that is lazy is
+pub word_lazy : (v : View) (slot : Slot) (n : ℕ) → page_word (memory_of v) slot ≡ Some n → is_lazy_at (memory_of v) slot ≡ true → is_lazy n ≡ true
+word_lazy v slot n there h = sym (ap (λ (y : Option ℕ). unwrap_or (option_map is_lazy y) false) there) ∙ h
+
+-- a lazy page takes no store as memory is
+pub takes_no_lazy : (v : View) (slot : Slot) → is_lazy_at (memory_of v) slot ≡ true → takes_stores v.state.spaces (memory_of v) slot ≡ true → ⊥
+takes_no_lazy v slot lazy takes = grind arith
+
+-- what is ended was lazy
+pub ended_lazy : (v : View) (e : Event) → LeavesZeros v e.pid e.call → (slot : Slot) → is_ended (ended_by v e) slot ≡ true → is_lazy_at (memory_of v) slot ≡ true
+ended_lazy v e leaves slot = by (completes (answer v.state e))
   where
-    by : (y : Option ℕ) → page_word (memory_of v) slot ≡ y → unwrap_or (option_map is_lazy y) false ≡ true → (n : ℕ) × (page_word (memory_of v) slot ≡ Some n) × (is_lazy n ≡ true)
-    by None is k = cc
-    by (Some n) is k = (n, is, k)
+    one : (p page : ℕ) → is_lazy_at (memory_of v) (at_page p page) ≡ true → is_slot p page slot ≡ true → is_lazy_at (memory_of v) slot ≡ true
+    one p page lazy is = pick (same_or_not slot_order (at_page p page) slot)
+      where
+        pick : ((at_page p page ≡ slot) × (same slot_order (at_page p page) slot ≡ true)) ⊎ (same slot_order (at_page p page) slot ≡ false) → is_lazy_at (memory_of v) slot ≡ true
+        pick (inl same) = ap (is_lazy_at (memory_of v)) (sym same.0) ∙ lazy
+        pick (inr other) = absurd (let k : true ≡ false = sym is ∙ other in cc)
 
--- no page
-abbrev pub NoPage : View → ℕ → Type 0
-NoPage v f = (c : ℕ) → slice_get v.roles f ≡ Some (Page c) → ⊥
+    if_is : (p page : ℕ) (b : Bool) → is_lazy_at (memory_of v) (at_page p page) ≡ b → IfSome (if b then Some page else None) (λ n. is_lazy_at (memory_of v) (at_page p n) ≡ true)
+    if_is p page true h = h
+    if_is p page false h = tt
 
-pub zero_no_page : (v : View) → IsCore v → NoPage v 0
-zero_no_page v core c is =
-    let within = slice_get_within v.roles 0 (Page c) is in
-    let k : ◌≡◌ {A = Option Role} (Some Reserved) (Some (Page c)) = sym ((core.image.memory.sound.reserved 0 within).1 refl) ∙ is in
-    cc
+    second : (p : ℕ) (y : Option ℕ) → IfSome (option_and_then (if_lazy (memory_of v) p) y) (λ n. is_lazy_at (memory_of v) (at_page p n) ≡ true)
+    second p None = tt
+    second p (Some page) = if_is p page (is_lazy_at (memory_of v) (at_page p page)) refl
 
-module _ (v w : View) (e : Event) (r : Reply) (core : IsCore v) (b : Begins v e r w) (addr : ℕ) (size : Size) (is : e.call ≡ call.Store addr size 0)
-    (lazy : EachTouched addr size (λ page. is_lazy_at (memory_of v) (at_page e.pid page) ≡ true)) where
-  abbrev later : IsCore w
-  later = b.carried.core
+    pages : (p : ℕ) (x y : Option ℕ) → IfSome x (λ n. is_lazy_at (memory_of v) (at_page p n) ≡ true) → IfSome y (λ n. is_lazy_at (memory_of v) (at_page p n) ≡ true)
+        → is_ended (of_pages p x y) slot ≡ true → is_lazy_at (memory_of v) slot ≡ true
+    pages p None None a b h = cc
+    pages p (Some page) None a b h = one p page a h
+    pages p None (Some page) a b h = one p page b h
+    pages p (Some page) (Some other) a b h = either (is_slot p page slot) (is_slot p other slot) refl refl h
+      where
+        either : (i j : Bool) → is_slot p page slot ≡ i → is_slot p other slot ≡ j → (i || j) ≡ true → is_lazy_at (memory_of v) slot ≡ true
+        either true j first next k = one p page a first
+        either false true first next k = one p other b next
+        either false false first next k = cc
 
+    of_kind : (c : Call) → LeavesZeros v e.pid c → is_ended (of_call v e.pid c) slot ≡ true → is_lazy_at (memory_of v) slot ≡ true
+    of_kind (call.Store addr size value) leaves h =
+        pages e.pid (if_lazy (memory_of v) e.pid (page_number addr)) (option_and_then (if_lazy (memory_of v) e.pid) (second_page addr size))
+        (if_is e.pid (page_number addr) (is_lazy_at (memory_of v) (at_page e.pid (page_number addr))) refl) (second e.pid (second_page addr size)) h
+    of_kind (call.Accept giver giver_page page) leaves h =
+        pages giver (if_lazy (memory_of v) giver giver_page) None (if_is giver giver_page (is_lazy_at (memory_of v) (at_page giver giver_page)) refl) tt h
+    of_kind _ leaves h = absurd leaves
+
+    by : (q : Bool) → is_ended (if q then of_call v e.pid e.call else end.Nothing) slot ≡ true → is_lazy_at (memory_of v) slot ≡ true
+    by true h = of_kind e.call leaves h
+    by false h = cc
+
+-- ---- What an event leaves of a lazy page
+
+-- A slot has zeros, and accessed is set. Of its group only it was mapped before.
+pub record Zeroed (v : View) (s : State) (slot : Slot) : Type 0 where
+  pub cell : Cell
+  pub there : map.get s.spaces slot ≡ Some cell
+  pub bytes : cell.bytes ≡ zeros
+  pub accessed : cell.accessed ≡ true
+  pub alone : (other : Slot) → set.contains cell.holders other ≡ true → (other ≡ slot) ⊎ (map.get v.state.spaces other ≡ None)
+
+module _ (v : View) (core : IsCore v) where
   lazy_zeros : (slot : Slot) → is_lazy_at (memory_of v) slot ≡ true → HasZeros v.state.spaces slot
   lazy_zeros slot h =
       let n = lazy_word v slot h in
-      let c = (mapped_cell slot n.0 n.1) in
+      let c = some_value (map.get v.state.spaces slot) (mapped_word v core slot n.0 n.1) in
       (c.0, c.1, cell_bytes v core slot c.0 n.0 c.1 n.1 ∙ ap (frame_bytes v.bytes) (lazy_zero v core slot n.0 n.1 n.2) ∙ core.image.memory.sound.zero_frame)
-    where
-      some : (z : Option Cell) → map.get v.state.spaces slot ≡ z → is_some z ≡ true → (c : Cell) × (map.get v.state.spaces slot ≡ Some c)
-      some None at h = cc
-      some (Some c) at h = (c, at)
 
-      mapped_cell : (slot' : Slot) (n : ℕ) → page_word (memory_of v) slot ≡ Some n → (c : Cell) × (map.get v.state.spaces slot ≡ Some c)
-      mapped_cell slot' n at = some (map.get v.state.spaces slot) refl (mapped_word v core slot n at)
+  module _ (slot : Slot) (lazy : is_lazy_at (memory_of v) slot ≡ true) (c : Cell) (there : map.get v.state.spaces slot ≡ Some c) (accessed : c.accessed ≡ true) where
+    zeros_there : c.bytes ≡ zeros
+    zeros_there = grind (arith, lazy_zeros)
 
-  touched_zeros : EachTouched addr size (λ page. HasZeros v.state.spaces (at_page e.pid page))
-  touched_zeros = each_page addr size (λ page. is_lazy_at (memory_of v) (at_page e.pid page) ≡ true) (λ page. HasZeros v.state.spaces (at_page e.pid page))
-      (λ page h. lazy_zeros (at_page e.pid page) h) lazy
+    -- it is alone in its group
+    lone : (other : Slot) → set.contains c.holders other ≡ true → other ≡ slot
+    lone other inside = grind (arith, lazy_word, stands_at)
 
-  has_pages : EachTouched addr size (λ page. Has v.state.spaces (at_page e.pid page))
-  has_pages = each_page addr size (λ page. HasZeros v.state.spaces (at_page e.pid page)) (λ page. Has v.state.spaces (at_page e.pid page)) (λ page h. (h.0, h.1)) touched_zeros
+    -- zeros stored to lazy pages
+    after_zeros : (p addr : ℕ) (size : Size) → EachTouched addr size (λ page. is_lazy_at (memory_of v) (at_page p page) ≡ true) → Zeroed v (after_store v.state p addr size 0) slot
+    after_zeros p addr size touched =
+        let S = v.state.spaces in
+        let has = each_page addr size (λ page. is_lazy_at (memory_of v) (at_page p page) ≡ true) (λ page. HasZeros S (at_page p page)) (λ page h. lazy_zeros (at_page p page) h) touched in
+        let each = λ (i : ℕ) (l : i < byte_count size). each_byte addr size (λ page. HasZeros S (at_page p page)) has i l in
+        let z = zero_bytes (byte_count size) addr p S slot each (c, there, zeros_there) in
+        let d = (bytes_grow (byte_count size) 0 addr p S (λ i l. (let h = each i l in (h.0, h.1)))).cells slot c there in
+        let k : Some z.0 ≡ Some d.0 = sym z.1 ∙ d.1 in
+        let q : z.0 ≡ d.0 = cc in
+        let same = with_touched-same S p addr size (each_page addr size (λ page. HasZeros S (at_page p page)) (IsThere S p) (λ page h. ap is_some h.1) has) in
+        subst (λ (T : Spaces). Zeroed v (record v.state { spaces = all_stored T p addr (bytes_of (byte_count size) 0) }) slot) (sym same)
+        (record {
+          cell = d.0;
+          there = d.1;
+          bytes = ap (λ (x : Cell). x.bytes) (sym q) ∙ z.2;
+          accessed = d.3.0 accessed;
+          alone = λ other h. inl (lone other (sym (ap (λ g. set.contains g other) d.2.holders) ∙ h));
+        })
 
-  -- slots stay, and cells but for flags and bytes
-  pub grows : Grows v.state.spaces w.state.spaces
-  grows = subst (λ (t : State). Grows v.state.spaces t.spaces) (sym b.carried.state) (by (completes (answer v.state e)) refl)
-    where
-      by : (q : Bool) → completes (answer v.state e) ≡ q → Grows v.state.spaces (next v.state e).spaces
-      by true done = next_grows v.state e done (subst (λ c. Mapped v.state e.pid c) (sym is) has_pages)
-      by false stops = subst (λ (t : State). Grows v.state.spaces t.spaces) (sym (next-stays v.state e stops)) (grows_same v.state.spaces)
-
-  pub same_book : w.state.book ≡ v.state.book
-  same_book = ap (λ (t : State). t.book) b.carried.state ∙ by (completes (answer v.state e)) refl
-    where
-      by : (q : Bool) → completes (answer v.state e) ≡ q → (next v.state e).book ≡ v.state.book
-      by true done = next_book v.state e done (subst (λ c. Mapped v.state e.pid c) (sym is) has_pages)
-      by false stops = ap (λ (t : State). t.book) (next-stays v.state e stops)
-
-  pub alike : Alike v.state w.state
-  alike = record { book = same_book; cells = λ slot c at. (let d = grows.cells slot c at in (d.0, d.1, d.2)); back = grows.back }
-
-  -- only lazy pages go another way
-  gone_lazy : (slot : Slot) (f : ℕ) → gone_by v.state e slot f ≡ true → (f ≡ 0) × (completes (answer v.state e) ≡ true)
-  gone_lazy slot f h = by (completes (answer v.state e)) refl
-      (sym (ap (λ c. if completes (answer v.state e) then gone_of_call e.pid c slot f else false) is) ∙ h)
-    where
-      zero_of : (x : Bool) → (x && (f == 0)) ≡ true → f ≡ 0
-      zero_of true k = eqb-true f 0 k
-      zero_of false k = cc
-
-      second : (y : Option ℕ) → lazy_second e.pid y slot f ≡ true → f ≡ 0
-      second None k = cc
-      second (Some page) k = zero_of (is_slot e.pid page slot) k
-
-      either : (x y : Bool) → (x || y) ≡ true → (x ≡ true) ⊎ (y ≡ true)
-      either true y k = inl refl
-      either false y k = inr k
-
-      by : (q : Bool) → completes (answer v.state e) ≡ q → (if q then lazy_touched e.pid addr size slot f else false) ≡ true → (f ≡ 0) × (completes (answer v.state e) ≡ true)
-      by false stops k = cc
-      by true done k = (pick (either (of_lazy e.pid (page_number addr) slot f) (lazy_second e.pid (second_page addr size) slot f) k), done)
-        where
-          pick : (of_lazy e.pid (page_number addr) slot f ≡ true) ⊎ (lazy_second e.pid (second_page addr size) slot f ≡ true) → f ≡ 0
-          pick (inl k) = zero_of (is_slot e.pid (page_number addr) slot) k
-          pick (inr k) = second (second_page addr size) k
-
-  -- a word that a way keeps
-  pub word_stays : (slot : Slot) (n : ℕ) → page_word (memory_of v) slot ≡ Some n → gone_by v.state e slot (frame_number n) ≡ false
-      → (m : ℕ) × (page_word (memory_of w) slot ≡ Some m) × (frame_number m ≡ frame_number n)
-  word_stays slot n at stays =
-      let way = way_at v slot n at in
-      let now = way_parts (memory_of w) slot way.0 (frame_number n) (b.stay.ways slot way.0 (frame_number n) stays way.1) in
-      from_map frame_number (page_word (memory_of w) slot) (frame_number n) now.names
-
-  -- the bytes of each cell are those of its frame before
-  pub full_bytes : (slot : Slot) (c : Cell) → map.get w.state.spaces slot ≡ Some c → c.bytes ≡ frame_bytes w.bytes (frame_at v slot)
-  full_bytes slot c there =
-      let d = grows.back slot c there in
-      let n = word_mapped v core slot d.0 d.1 in
-      by n.0 n.1 d (gone_by v.state e slot (frame_number n.0)) refl ∙ ap (frame_bytes w.bytes) (sym (frame_is v slot n.0 n.1))
-    where
-      by : (n : ℕ) → page_word (memory_of v) slot ≡ Some n → ((d : Cell) × (map.get v.state.spaces slot ≡ Some d) × AlikeCell d c) → (q : Bool) → gone_by v.state e slot (frame_number n) ≡ q
-          → c.bytes ≡ frame_bytes w.bytes (frame_number n)
-      by n at d false stays =
-          let m = word_stays slot n at stays in
-          cell_bytes w later slot c m.0 there m.1 ∙ ap (frame_bytes w.bytes) m.2
-      by n at d true goes =
-          let naught = gone_lazy slot (frame_number n) goes in
-          let old : HasZeros v.state.spaces slot = (d.0, d.1, cell_bytes v core slot d.0 n d.1 at ∙ ap (frame_bytes v.bytes) naught.0 ∙ core.image.memory.sound.zero_frame) in
-          let new = zero_bytes (byte_count size) addr e.pid v.state.spaces slot (λ i l. each_byte addr size (λ page. HasZeros v.state.spaces (at_page e.pid page)) touched_zeros i l) old in
-          let state : w.state ≡ record v.state { spaces = all_stored v.state.spaces e.pid addr (bytes_of (byte_count size) 0) } =
-          b.carried.state ∙ next-goes v.state e naught.1 ∙ ap (after v.state e.pid) is
-          ∙ (λ i. record v.state { spaces = all_stored (with_touched-same v.state.spaces e.pid addr size (each_page addr size (λ page. Has v.state.spaces (at_page e.pid page)) (IsThere v.state.spaces e.pid) (λ page h. ap is_some h.1) has_pages) i) e.pid addr (bytes_of (byte_count size) 0) }) in
-          let same : Some new.0 ≡ Some c = sym new.1 ∙ sym (ap (λ (t : State). map.get t.spaces slot) state) ∙ there in
-          let q : new.0 ≡ c = cc in
-          ap (λ (k : Cell). k.bytes) (sym q) ∙ new.2 ∙ sym later.image.memory.sound.zero_frame ∙ ap (frame_bytes w.bytes) (sym naught.0)
-
-  -- a page's frame stays that of a slot
-  module _ (f c : ℕ) (role : slice_get v.roles f ≡ Some (Page c)) where
-    some_zero : f ≢ 0
-    some_zero none = zero_no_page v core c (sym (ap (slice_get v.roles) none) ∙ role)
-
-    pub slot_on : (slot : Slot) × (page_frame (memory_of v) slot ≡ Some f)
-    slot_on =
-        let counted = core.image.memory.sound.counts f c role in
-        let up = counted.0 in
-        let count = counted.1.count in
-        let member = some_member counted.1.members (omega (arith, up, count)) in
-        (member.0, (counted.1.are member.0).0 member.1)
-
-    pub still_on : page_frame (memory_of w) slot_on.0 ≡ Some f
-    still_on =
-        let n = from_then (own_frame 2) (page_word (memory_of v) slot_on.0) f slot_on.1 in
-        let own = owned n.0 f n.2 in
-        let m = word_stays slot_on.0 n.0 n.1 (stays n.0 (gone_by v.state e slot_on.0 (frame_number n.0)) refl own.1) in
-        let same : frame_number m.0 ≡ f = m.2 ∙ own.1 in
-        ap (option_and_then (own_frame 2)) m.1 ∙ own_is m.0 (real m.0 m.1 (is_lazy m.0) refl same) ∙ ap Some same
+    -- the page is accepted by another slot, which wasn't mapped
+    after_joined : (p page : ℕ) (right : Bool) → map.get v.state.spaces (at_page p page) ≡ None → Zeroed v (record v.state { spaces = joined v.state.spaces slot (at_page p page) right }) slot
+    after_joined p page right none = record {
+      cell = with_holders c (wider v.state p slot.pid slot.page page right core.well_formed c there);
+      there = get_joined v.state p slot.pid slot.page page right core.well_formed c there slot apart
+          ∙ ap (option_map (widen v.state p slot.pid slot.page page right core.well_formed c there slot)) there
+          ∙ ap (λ b. Some (if b then with_holders c (wider v.state p slot.pid slot.page page right core.well_formed c there) else c)) (core.well_formed.cells slot c there).own;
+      bytes = zeros_there;
+      accessed = accessed;
+      alone = λ other h. either other (same_or_not slot_order other (at_page p page)) (sym (contains-insert c.holders (at_page p page) other) ∙ h);
+    }
       where
-        stays : (n : ℕ) (q : Bool) → gone_by v.state e slot_on.0 (frame_number n) ≡ q → frame_number n ≡ f → gone_by v.state e slot_on.0 (frame_number n) ≡ false
-        stays n false h on = h
-        stays n true h on = absurd (some_zero (sym on ∙ (gone_lazy slot_on.0 (frame_number n) h).0))
+        apart : slot ≢ at_page p page
+        apart is = let k : ◌≡◌ {A = Option Cell} None (Some c) = sym none ∙ ap (map.get v.state.spaces) (sym is) ∙ there in cc
 
-        real : (m : ℕ) → page_word (memory_of w) slot_on.0 ≡ Some m → (q : Bool) → is_lazy m ≡ q → frame_number m ≡ f → is_lazy m ≡ false
-        real m at false h on = h
-        real m at true h on = absurd (some_zero (sym on ∙ lazy_zero w later slot_on.0 m at h))
+        either : (other : Slot) → ((other ≡ at_page p page) × (same slot_order other (at_page p page) ≡ true)) ⊎ (same slot_order other (at_page p page) ≡ false)
+            → (same slot_order other (at_page p page) || set.contains c.holders other) ≡ true → (other ≡ slot) ⊎ (map.get v.state.spaces other ≡ None)
+        either other (inl new) h = inr (ap (map.get v.state.spaces) new.0 ∙ none)
+        either other (inr old) h = inl (lone other (sym (ap (λ b. b || set.contains c.holders other) old) ∙ h))
 
-    pub still_page : (d : ℕ) × (slice_get w.roles f ≡ Some (Page d))
-    still_page = later.image.memory.sound.pages slot_on.0 f still_on
+-- so it is with what the event ended
+pub zeroed_by : (v w : View) (e : Event) (r : Reply) → IsCore v → Begins v e r w → LeavesZeros v e.pid e.call → (slot : Slot) → is_ended (ended_by v e) slot ≡ true
+    → (c : Cell) → map.get v.state.spaces slot ≡ Some c → c.accessed ≡ true → Zeroed v w.state slot
+zeroed_by v w e r core b leaves slot ended c there accessed = by (completes (answer v.state e)) refl ended
+  where
+    lazy : is_lazy_at (memory_of v) slot ≡ true
+    lazy = ended_lazy v e leaves slot ended
 
-  -- a slot's frame is that which it had, or neither was a page's
-  pub split : (slot : Slot) (m : ℕ) → page_word (memory_of w) slot ≡ Some m
-      → (frame_at v slot ≡ frame_number m) ⊎ (NoPage v (frame_at v slot) × NoPage v (frame_number m))
-  split slot m there =
-      let c = some_cell (map.get w.state.spaces slot) refl (mapped_word w later slot m there) in
-      let d = grows.back slot c.0 c.1 in
-      let n = word_mapped v core slot d.0 d.1 in
-      by c.0 c.1 d n.0 n.1 (gone_by v.state e slot (frame_number n.0)) refl
-    where
-      some_cell : (z : Option Cell) → map.get w.state.spaces slot ≡ z → is_some z ≡ true → (c : Cell) × (map.get w.state.spaces slot ≡ Some c)
-      some_cell None at h = cc
-      some_cell (Some c) at h = (c, at)
+    slot_is : (p page : ℕ) (x : Bool) → is_lazy_at (memory_of v) (at_page p page) ≡ x → is_ended (of_pages p (if x then Some page else None) None) slot ≡ true → at_page p page ≡ slot
+    slot_is p page true is h = pick (same_or_not slot_order (at_page p page) slot)
+      where
+        pick : ((at_page p page ≡ slot) × (same slot_order (at_page p page) slot ≡ true)) ⊎ (same slot_order (at_page p page) slot ≡ false) → at_page p page ≡ slot
+        pick (inl same) = same.0
+        pick (inr other) = absurd (let k : true ≡ false = sym h ∙ other in cc)
+    slot_is p page false is h = cc
 
-      by : (c : Cell) → map.get w.state.spaces slot ≡ Some c → ((d : Cell) × (map.get v.state.spaces slot ≡ Some d) × AlikeCell d c) → (n : ℕ) → page_word (memory_of v) slot ≡ Some n
-          → (q : Bool) → gone_by v.state e slot (frame_number n) ≡ q → (frame_at v slot ≡ frame_number m) ⊎ (NoPage v (frame_at v slot) × NoPage v (frame_number m))
-      by c at d n was false stays =
-          let k = word_stays slot n was stays in
-          let same : ◌≡◌ {A = Option ℕ} (Some k.0) (Some m) = sym k.1 ∙ there in
-          let q : k.0 ≡ m = cc in
-          inl (frame_is v slot n was ∙ sym k.2 ∙ ap frame_number q)
-      by c at d n was true goes = inr (
-        λ p role. zero_no_page v core p (sym (ap (slice_get v.roles) (frame_is v slot n was ∙ (gone_lazy slot (frame_number n) goes).0)) ∙ role),
-        λ p role. (
-            let naught = (gone_lazy slot (frame_number n) goes).0 in
-            let other = slot_on (frame_number m) p role in
-            let on = still_on (frame_number m) p role in
-            let here = stands_at w later slot c m at there in
-            let real = real_word p role (is_lazy m) refl in
-            let inside : set.contains c.holders other.0 ≡ true =
-            (here.group other.0).1 (subst (λ q. MatchBool q (other.0 ≡ slot) (page_frame (memory_of w) other.0 ≡ Some (frame_number m))) (sym real) on) in
-            let before = stands_at v core slot d.0 n d.1 was in
-            let one = (before.group other.0).0 (sym (ap (λ g. set.contains g other.0) d.2.holders) ∙ inside) in
-            let was_lazy = lazy_by n was naught (is_lazy n) refl in
-            let itself : other.0 ≡ slot = subst (λ q. MatchBool q (other.0 ≡ slot) (page_frame (memory_of v) other.0 ≡ Some (frame_number n))) was_lazy one in
-            let framed : page_frame (memory_of v) slot ≡ Some (frame_number m) = sym (ap (page_frame (memory_of v)) itself) ∙ other.1 in
-            let none : page_frame (memory_of v) slot ≡ None = ap (option_and_then (own_frame 2)) was ∙ (λ i. if was_lazy i then None else Some (frame_number n)) in
-            let k : ◌≡◌ {A = Option ℕ} None (Some (frame_number m)) = sym none ∙ framed in
-            cc),
-      )
-        where
-          real_word : (p : ℕ) → slice_get v.roles (frame_number m) ≡ Some (Page p) → (q : Bool) → is_lazy m ≡ q → is_lazy m ≡ false
-          real_word p role false h = h
-          real_word p role true h = absurd (zero_no_page v core p (sym (ap (slice_get v.roles) (lazy_zero w later slot m there h)) ∙ role))
+    of_kind : (k : Call) → LeavesZeros v e.pid k → is_ended (of_call v e.pid k) slot ≡ true → completes (answer_of v.state e.pid k) ≡ true → Zeroed v (after v.state e.pid k) slot
+    of_kind (call.Store addr size value) leaves h done =
+        subst (λ n. Zeroed v (after_store v.state e.pid addr size n) slot) (sym leaves.0) (after_zeros v core slot lazy c there accessed e.pid addr size leaves.1)
+    of_kind (call.Accept giver giver_page page) leaves h done =
+        let may = may_accept v.state e.pid giver giver_page page (not-refused (accept_refusal v.state e.pid giver giver_page page) reply.Done done) in
+        let same = slot_is giver giver_page (is_lazy_at (memory_of v) (at_page giver giver_page)) refl h in
+        let right = offered v.state giver giver_page e.pid in
+        let joins = after_joined v core slot lazy c there accessed e.pid page right may.none in
+        let z : Zeroed v (record v.state { spaces = joined v.state.spaces (at_page giver giver_page) (at_page e.pid page) right }) slot =
+        subst (λ (x : Slot). Zeroed v (record v.state { spaces = joined v.state.spaces x (at_page e.pid page) right }) slot) (sym same) joins in
+        record { cell = z.cell; there = z.there; bytes = z.bytes; accessed = z.accessed; alone = z.alone }
+    of_kind _ leaves h done = absurd leaves
 
-          lazy_by : (n : ℕ) → page_word (memory_of v) slot ≡ Some n → frame_number n ≡ 0 → (q : Bool) → is_lazy n ≡ q → is_lazy n ≡ true
-          lazy_by n was naught true h = h
-          lazy_by n was naught false h = absurd (
-              let page = core.image.memory.sound.pages slot (frame_number n) (ap (option_and_then (own_frame 2)) was ∙ own_is n h) in
-              zero_no_page v core page.0 (sym (ap (slice_get v.roles) naught) ∙ page.1))
+    by : (q : Bool) → completes (answer v.state e) ≡ q → is_ended (if q then of_call v e.pid e.call else end.Nothing) slot ≡ true → Zeroed v w.state slot
+    by true done h = subst (λ (t : State). Zeroed v t slot) (sym (b.carried.state ∙ next-goes v.state e done)) (of_kind e.call leaves h (completed v.state e done))
+    by false stops h = cc

@@ -14,10 +14,11 @@ use Rattle.kernel_calls.specs.declared.calls.Event.{Event}
 use Rattle.kernel_calls.specs.declared.calls.Reply.{Reply}
 use Rattle.shootdowns.specs.Windows.{Begins, IsStale}
 
--- a call stores zeros, to lazy pages alone
-abbrev pub StoresZeros : View → ℕ → Call → Type 0
-StoresZeros v p (call.Store addr size value) = (value ≡ 0) × EachTouched addr size (λ page. is_lazy_at (memory_of v) (at_page p page) ≡ true)
-StoresZeros v p _ = ⊥
+-- a call gives lazy pages frames and changes none of their bytes: it stores zeros, to lazy pages alone, or accepts one
+abbrev pub LeavesZeros : View → ℕ → Call → Type 0
+LeavesZeros v p (call.Store addr size value) = (value ≡ 0) × EachTouched addr size (λ page. is_lazy_at (memory_of v) (at_page p page) ≡ true)
+LeavesZeros v p (call.Accept giver giver_page page) = is_lazy_at (memory_of v) (at_page giver giver_page) ≡ true
+LeavesZeros v p _ = ⊥
 
 -- loads and stores by what processors keep, one after another, from a memory to a memory; nobody begins to keep more
 pub data Uses (keeps : Processors) : View → List Event → List Reply → View → Type 0 where
@@ -34,8 +35,9 @@ pub record ComeAfter (w : View) (events : List Event) (told : List Reply) (x : V
   pub state : x.state ≡ end_of w.state events
   pub core : IsCore x
 
--- Suppose that walks read all that was kept before the event, and that the event stores zeros to lazy pages. It comes
--- first in the order, and then the accesses as they are made. Those by what it ended read the zeros that the pages have.
+-- Suppose that walks read all that was kept before the event, and that it gives lazy pages frames and leaves their zeros.
+-- It comes first in the order, and then the accesses as they are made. Those by what it ended read the zeros that the
+-- pages have.
 abbrev pub UsesComeAfterZeros : Type 0
 UsesComeAfterZeros = (v w x : View) (keeps : Processors) (e : Event) (r : Reply) (events : List Event) (replies : List Reply) → IsCore v
-    → AllAreRead v keeps → Begins v e r w → StoresZeros v e.pid e.call → Uses keeps w events replies x → ComeAfter w events replies x
+    → AllAreRead v keeps → Begins v e r w → LeavesZeros v e.pid e.call → Uses keeps w events replies x → ComeAfter w events replies x

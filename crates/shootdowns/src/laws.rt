@@ -24,10 +24,10 @@ pub fn shootdowns_make_events()
     ensures nothing { OthersEndNothing }
 {}
 
-/// States what others may do during a store of zeros to lazy pages, if nobody refills and nobody walks until all have
-/// invalidated. So it is where processors walk tables of a kernel's own, which it fills outside windows. The store comes
-/// first in the order, and loads and stores by what was kept before it come after it as they are made, stale ones too.
-/// It computes nothing.
+/// States what others may do during an event that gives lazy pages frames and leaves their zeros, if nobody refills and
+/// nobody walks until all have invalidated. It is a store of zeros to lazy pages, or an Accept of one. So it is where
+/// processors walk tables of a kernel's own, which it fills outside windows. The event comes first in the order. Loads and
+/// stores by what was kept before it come after it as they are made, stale ones too. It computes nothing.
 #[tactic(auto, using(crate::proofs::Shadowed::uses_come_after_zeros))]
 pub fn zeros_leave_others_be()
     ensures { UsesComeAfterZeros }
