@@ -10,3 +10,4 @@ pub mod InUse
 pub mod Told
 pub mod GatherLemmas
 pub mod Pieces
+pub mod Refusing

@@ -47,13 +47,13 @@ right_small true = omega arith
 right_small false = omega arith
 
 -- the numbers of an offer at a place
-record IsOfferAt (bytes : List ℕ) (at : ℕ) (o : PendingOffer) : Type 0 where
-  offerer : word_at bytes at ≡ o.offerer
-  page : word_at bytes (at + 4) ≡ o.page
-  target : word_at bytes (at + 8) ≡ o.target
-  right : word_at bytes (at + 12) ≡ right_number o.write
+pub record IsOfferAt (bytes : List ℕ) (at : ℕ) (o : PendingOffer) : Type 0 where
+  pub offerer : word_at bytes at ≡ o.offerer
+  pub page : word_at bytes (at + 4) ≡ o.page
+  pub target : word_at bytes (at + 8) ≡ o.target
+  pub right : word_at bytes (at + 12) ≡ right_number o.write
 
-offer_at : (bytes rest : List ℕ) (at : ℕ) (o : PendingOffer) → IsPending o → drop at bytes ≡ offer_bytes o ++ rest → IsOfferAt bytes at o
+pub offer_at : (bytes rest : List ℕ) (at : ℕ) (o : PendingOffer) → IsPending o → drop at bytes ≡ offer_bytes o ++ rest → IsOfferAt bytes at o
 unfolding word_at
 offer_at bytes rest at o K h =
     let w : (k : ℕ) → word_at bytes (at + k) ≡ word_at (offer_bytes o ++ rest) k = λ k. word-shift bytes (offer_bytes o ++ rest) at k h in
@@ -104,14 +104,14 @@ frame_passes n from place f r K used low high =
     holds (nat_le from f && nat_lt f n) place _ (and_from (nat_le from f) (nat_lt f n) (le-leb from f low) (lt-ltb f n high))
     (holds (not ((role_numbers r).0 == 1)) (place + 4) _ (not_free r used) (role_passes (place + 4) r K))
 
-record IsFrameAt (bytes : List ℕ) (at f : ℕ) (r : Role) : Type 0 where
-  frame : word_at bytes at ≡ f
-  role : word_at bytes (at + 4) ≡ (role_numbers r).0
-  pid : word_at bytes (at + 8) ≡ (role_numbers r).1
-  slot : word_at bytes (at + 12) ≡ (role_numbers r).2
-  count : word_at bytes (at + 16) ≡ (role_numbers r).3
+pub record IsFrameAt (bytes : List ℕ) (at f : ℕ) (r : Role) : Type 0 where
+  pub frame : word_at bytes at ≡ f
+  pub role : word_at bytes (at + 4) ≡ (role_numbers r).0
+  pub pid : word_at bytes (at + 8) ≡ (role_numbers r).1
+  pub slot : word_at bytes (at + 12) ≡ (role_numbers r).2
+  pub count : word_at bytes (at + 16) ≡ (role_numbers r).3
 
-frame_at : (bytes rest : List ℕ) (at f : ℕ) (r : Role) → IsRole r → IsWord f → drop at bytes ≡ number f ++ (role_bytes r ++ rest) → IsFrameAt bytes at f r
+pub frame_at : (bytes rest : List ℕ) (at f : ℕ) (r : Role) → IsRole r → IsWord f → drop at bytes ≡ number f ++ (role_bytes r ++ rest) → IsFrameAt bytes at f r
 unfolding word_at
 frame_at bytes rest at f r K small h =
     let s = role_small r K in

@@ -118,7 +118,7 @@ impl WideReader {
     }
 
     /// That its fields keep their rules. It computes nothing.
-    fn within(&self)
+    pub(crate) fn within(&self)
         ensures { IsBegun self.now }
     {
         let _ = &self.roles;

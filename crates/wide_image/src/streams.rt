@@ -1,9 +1,11 @@
 //! Images of version 3 that are read from a reader of std, one piece at a time.
 
-ghost use Rattle.std.specs.Prelude.{◌≡◌, ◌+◌, ◌<◌, ◌≤◌, ◌⊎◌, ◌++◌, IfOk, IfErr, IfSome, OnOk, length, take};
+ghost use Rattle.std.specs.Prelude.{◌≡◌, ◌+◌, ◌<◌, ◌≤◌, ◌⊎◌, ◌++◌, [], Some, IfOk, IfErr, IfSome, OnOk, length, take};
 ghost use Rattle.std.specs.Io.KnownBytes.{Consumes, IsAtEnd};
 ghost use Rattle.wide_image.specs.Pieces.{so_far, wanted, left};
-ghost use Rattle.wide_image.specs.Streams.{ReadsOn, EncodesAll};
+ghost use Rattle.wide_image.specs.Streams.{ReadsOn, EncodesAll, IsShort, IsRefusedBehind, HasMore, IsForWant};
+ghost use Rattle.wide_image.specs.Wide as wide;
+ghost use Rattle.wide_image.specs.Wide.{HasWideFields, text};
 
 use crate::faults::WideImageFault;
 use crate::images::WideImage;
@@ -53,6 +55,25 @@ pub fn fill<R: Read>(reader: &mut R, buffer: &mut [u8]) -> Result<usize, WideRea
     Err(WideReadFault::ReadFailed)
 }
 
+/// Fills a buffer whole.
+///
+/// ReadFailed if a read does. Otherwise BadLength if the reader has fewer bytes.
+fn fill_whole<R: Read>(reader: &mut R, piece: &mut [u8]) -> Result<(), WideReadFault>
+    ensures length { length piece.new ≡ length piece.old }
+    ensures bytes { OnOk result (Consumes (R.remaining reader.old) (R.remaining reader.new) piece.new) }
+    ensures short { IfErr result (IsShort (R.remaining reader.old) (length piece.old)) }
+{
+    match fill(reader, piece) {
+        Ok(read) => {
+            if read < piece.len() {
+                return Err(WideReadFault::NotRead(WideImageFault::BadLength));
+            }
+            Ok(())
+        }
+        Err(fault) => Err(fault),
+    }
+}
+
 /// Reads the next piece of an image.
 ///
 /// ReadFailed if a read does. Otherwise BadLength if the reader has fewer bytes, and the faults of `WideReader::take`.
@@ -60,14 +81,16 @@ fn take_piece<R: Read>(image: &mut WideReader, reader: &mut R) -> Result<(), Wid
     requires { 0 < wanted image.old }
     ensures read { OnOk result (ReadsOn image.old image.new (R.remaining reader.old) (R.remaining reader.new)) }
     ensures left { OnOk result (left image.old ≡ left image.new + 1) }
+    ensures refused { IfErr result (IsRefusedBehind (so_far image.old) (R.remaining reader.old)) }
 {
-    let mut piece = [0; 4116];
+    image.within();
+    let mut bytes = [0; 4116];
     let wanted = image.wants();
-    let read = fill(reader, &mut piece[..wanted])?;
-    if read < wanted {
-        return Err(WideReadFault::NotRead(WideImageFault::BadLength));
+    let piece = &mut bytes[..wanted];
+    if let Err(fault) = fill_whole(reader, piece) {
+        return Err(fault);
     }
-    match image.take(&piece[..wanted]) {
+    match image.take(piece) {
         Ok(()) => Ok(()),
         Err(fault) => Err(WideReadFault::NotRead(fault)),
     }
@@ -77,7 +100,8 @@ fn take_piece<R: Read>(image: &mut WideReader, reader: &mut R) -> Result<(), Wid
 ///
 /// ReadFailed if a read does. Otherwise the faults of `WideReader::begin`.
 fn begin_from<R: Read>(alloc: Global, reader: &mut R) -> Result<WideReader, WideReadFault>
-    ensures { IfOk result (λ image. Consumes (R.remaining reader.old) (R.remaining reader.new) (so_far image)) }
+    ensures begun { IfOk result (λ image. Consumes (R.remaining reader.old) (R.remaining reader.new) (so_far image)) }
+    ensures refused { IfErr result (IsRefusedBehind [] (R.remaining reader.old)) }
 {
     let mut front = [0; 1556];
     let read = fill(reader, &mut front)?;
@@ -91,7 +115,8 @@ fn begin_from<R: Read>(alloc: Global, reader: &mut R) -> Result<WideReader, Wide
 ///
 /// ReadFailed if the read does, and BadLength if there is one.
 fn end<R: Read>(reader: &mut R) -> Result<(), WideReadFault>
-    ensures { OnOk result (IsAtEnd (R.remaining reader.old)) }
+    ensures ended { OnOk result (IsAtEnd (R.remaining reader.old)) }
+    ensures more { IfErr result (HasMore (R.remaining reader.old)) }
 {
     let mut byte = [0; 1];
     match fill(reader, &mut byte)? {
@@ -100,22 +125,41 @@ fn end<R: Read>(reader: &mut R) -> Result<(), WideReadFault>
     }
 }
 
+/// Reads an image of version 3 to the reader's end, piece by piece.
+fn read_pieces<R: Read>(alloc: Global, reader: &mut R) -> Result<WideImage, WideReadFault>
+    ensures encoded { IfOk result (EncodesAll (R.remaining reader.old)) }
+    ensures refused { IfErr result (IsRefusedBehind [] (R.remaining reader.old)) }
+{
+    let mut image = match begin_from(alloc, reader) {
+        Ok(image) => image,
+        Err(fault) => return Err(fault),
+    };
+    while image.wants() > 0 {
+        if let Err(fault) = take_piece(&mut image, reader) {
+            return Err(fault);
+        }
+    }
+    image.within();
+    if let Err(fault) = end(reader) {
+        return Err(fault);
+    }
+    Ok(image.finish())
+}
+
 /// Reads an image of version 3 to the reader's end, piece by piece: no copy of all bytes is kept. Frames that aren't
 /// stored are free, and hold zeros.
 ///
 /// ReadFailed if a read does. The other faults are NotRead. NoMemory: there is no memory for the image. Otherwise it is the
 /// first reason against the bytes, in the order in which they are read. So BadLength comes only where they end too early or
-/// too late.
+/// too late. No fault but ReadFailed and NoMemory comes for bytes that encode an image.
 pub fn read_wide_image_from<R: Read>(
     alloc: Global,
     reader: &mut R,
 ) -> Result<WideImage, WideReadFault>
-    ensures { IfOk result (EncodesAll (R.remaining reader.old)) }
+    ensures encoded { IfOk result (EncodesAll (R.remaining reader.old)) }
+    ensures refused { IfErr result (IsRefusedBehind [] (R.remaining reader.old)) }
+    ensures read { (image : wide.WideImage) → HasWideFields image → R.remaining reader.old ≡ Some (text image)
+        → IfErr result IsForWant }
 {
-    let mut image = begin_from(alloc, reader)?;
-    while image.wants() > 0 {
-        take_piece(&mut image, reader)?;
-    }
-    end(reader)?;
-    Ok(image.finish())
+    read_pieces(alloc, reader)
 }

@@ -1,0 +1,8 @@
+use Rattle.std.proofs.Common.{arith}
+use Rattle.wide_image.proofs.Refusing.{refused_from, end_refused}
+use Rattle.wide_image.proofs.streams.read_pieces.Goals as goal
+
+pub returns-in-Err-end-clause-refused : goal.returns-in-Err-end-clause-refused
+returns-in-Err-end-clause-refused g c =
+    refused_from _ _ _ c.in-Err-end.fault c.loop-image.invariant
+    (end_refused c.loop-image.image c.within.ensures _ c.in-Err-end.fault (omega (arith, c.wants.ensures.wanted, c.loop-image-test.false)) c.in-Err-end.ensures.more)
