@@ -1,3 +1,4 @@
+pub mod FreeRows
 pub mod Listing
 pub mod RangeTexts
 pub mod SlotListing

@@ -17,12 +17,11 @@ use Rattle.alloc_table.specs.declared.Role.TheVariants.{Table}
 use Rattle.address_space.specs.Spaces.{Slot, Cell, at_page}
 use Rattle.address_space.specs.Image.{table_at, word_of, present_word, page_word, page_frame, SlotStands, CellStands}
 use Rattle.process_table.specs.State.{State}
-use Rattle.memory_image.specs.Image.{Image, IsImage, frames, role_at, memory_of}
+use Rattle.memory_image.specs.Image.{Image, IsWideImage, frames, role_at, memory_of}
 use Rattle.memory_image.specs.Sound.{IsSound, StandsFor}
 use Rattle.address_space.specs.ImageWords.{is_lazy_word, own_frame}
 use Rattle.memory_image.proofs.References.{same_some}
 use Rattle.image_check.specs.Verdict.{is_table_of}
-use Rattle.memory_image.proofs.MachineLemmas.{widened}
 use Rattle.image_check.proofs.ToldLemmas.{sound_is_told}
 use Rattle.image_map.specs.declared.runs.Run.{Run}
 use Rattle.image_map.specs.Runs.{own_table, own_if, runs_in, runs_at, pages_in}
@@ -53,10 +52,10 @@ module _ (image : Image) (p : ℕ) where
       same-range (slot_text image most p) (λ s. flat_map (run_line image) (runs_at image p s)) a n (λ s low high. all-lines s most is)
       ∙ sym (through (run_line image) (runs_at image p) a n)
 
-  limit-is : IsImage image → IsSound image → limit image ≡ 1024
-  limit-is I sound = ap (λ b. if b then 1024 else frames image) ((sound_is_told image (widened image I)).1 sound)
+  limit-is : IsWideImage image → IsSound image → limit image ≡ 1024
+  limit-is I sound = ap (λ b. if b then 1024 else frames image) ((sound_is_told image I).1 sound)
 
-  pub process-lines : IsImage image → IsSound image → pages_text image (limit image) p ≡ flat_map (run_line image) (runs_by image p)
+  pub process-lines : IsWideImage image → IsSound image → pages_text image (limit image) p ≡ flat_map (run_line image) (runs_by image p)
   unfolding pages_text runs_by
   process-lines I sound = slots-lines (limit image) 256 704 (limit-is I sound)
 

@@ -14,10 +14,10 @@ process-whole image most p r = refl
 pub process_parts : (image : Image) (most p n : ℕ) (r : Process) → n ≡ p → process_text image most p (Some r) ≡ process_line n r ++ (bar_line r ++ pages_text image most p)
 process_parts image most p n r is = process-whole image most p r ∙ ap (λ k. process_line k r ++ (bar_line r ++ pages_text image most p)) (sym is)
 
-map-whole : (image : Image) → map_text image ≡ image_line image ++ (processes_text image (limit image) ++ (frames_text image ++ verdict_text (verdict_on image)))
+map-whole : (version : ℕ) (image : Image) → map_text version image ≡ image_line version image ++ (processes_text image (limit image) ++ (frames_text image ++ verdict_text (verdict_on image)))
 unfolding map_text
-map-whole image = refl
+map-whole version image = refl
 
 -- with the limit and the verdict that were given
-pub map_parts : (image : Image) (most : ℕ) (told : Told) → most ≡ limit image → told ≡ verdict_on image → map_text image ≡ image_line image ++ (processes_text image most ++ (frames_text image ++ verdict_text told))
-map_parts image most told limited is = map-whole image ∙ sym (λ i. image_line image ++ (processes_text image (limited i) ++ (frames_text image ++ verdict_text (is i))))
+pub map_parts : (version : ℕ) (image : Image) (most : ℕ) (told : Told) → most ≡ limit image → told ≡ verdict_on image → map_text version image ≡ image_line version image ++ (processes_text image most ++ (frames_text image ++ verdict_text told))
+map_parts version image most told limited is = map-whole version image ∙ sym (λ i. image_line version image ++ (processes_text image (limited i) ++ (frames_text image ++ verdict_text (is i))))

@@ -8,7 +8,7 @@ use Rattle.page_map.specs.Pages.{user_pages}
 use Rattle.address_space.specs.Spaces.{Slot, Cell, at_page}
 use Rattle.address_space.specs.Image.{page_word}
 use Rattle.process_table.specs.State.{State}
-use Rattle.memory_image.specs.Image.{Image, IsImage, role_at, memory_of}
+use Rattle.memory_image.specs.Image.{Image, IsWideImage, role_at, memory_of}
 use Rattle.memory_image.specs.Sound.{IsSound, StandsFor}
 use Rattle.address_space.specs.ImageWords.{is_lazy_word, lets_write}
 use Rattle.image_map.specs.declared.runs.Run.{Run}
@@ -38,7 +38,7 @@ runs_by image p = flat_map (runs_at image p) (range_with_len 256 704)
 
 -- of a sound image the text has a line for each run of a process
 abbrev pub ListsEachRun : Type 0
-ListsEachRun = (image : Image) (p : ℕ) → IsImage image → IsSound image → pages_text image (limit image) p ≡ flat_map (run_line image) (runs_by image p)
+ListsEachRun = (image : Image) (p : ℕ) → IsWideImage image → IsSound image → pages_text image (limit image) p ≡ flat_map (run_line image) (runs_by image p)
 
 -- and the pages of these runs, one after the other, are the mapped pages of the process in ascending order, each once,
 -- with the flags of its cell

@@ -1,7 +1,7 @@
 -- The text of an image: a line for the image, those of each live process, the frames, 64 in a row, and the verdict.
-use Rattle.std.specs.Prelude.{ℕ, ◌+◌, ◌-◌, ◌*◌, ◌/◌, ◌%◌, ◌^◌, Bool, true, false, ◌==◌, nat_lt, if◌then◌else◌, min, List, [], ◌∷◌, ◌++◌, map, length, take, replicate, Option, Some, None, codes, decimal}
+use Rattle.std.specs.Prelude.{ℕ, ◌+◌, ◌-◌, ◌*◌, ◌/◌, ◌%◌, ◌^◌, zero, suc, Bool, true, false, not, ◌||◌, ◌==◌, nat_lt, if◌then◌else◌, min, List, [], ◌∷◌, ◌++◌, map, length, take, replicate, Option, Some, None, codes, decimal}
 use Rattle.std.specs.Char.{digit_char}
-use Rattle.std.specs.List.{flat_map, range_with_len}
+use Rattle.std.specs.List.{flat_map, list_all, range_with_len}
 use Rattle.page_words.specs.Words.{frame_number, is_writable, is_user, is_accessed, is_dirty, has_may, is_granted}
 use Rattle.page_map.specs.Pages.{count_range}
 use Rattle.alloc_table.specs.declared.Role.{Role}
@@ -37,13 +37,71 @@ letters image first count = map (λ f. letter (role_at image f)) (range_with_len
 abbrev pub padding : ℕ → List ℕ
 padding n = if nat_lt n 10 then codes "   " else if nat_lt n 100 then codes "  " else if nat_lt n 1000 then codes " " else []
 
+-- blanks before a number below 10000000, so that it ends in the seventh column
+abbrev pub wide_padding : ℕ → List ℕ
+wide_padding n =
+    if nat_lt n 10 then codes "      " else if nat_lt n 100 then codes "     " else if nat_lt n 1000 then codes "    " else
+    if nat_lt n 10000 then codes "   " else if nat_lt n 100000 then codes "  " else if nat_lt n 1000000 then codes " " else []
+
+-- more frames than an image of version 1 or 2 can have
+abbrev pub is_wide : Image → Bool
+is_wide image = nat_lt 4096 (frames image)
+
+-- how many rows the frames fill, 64 a row
+abbrev pub rows : Image → ℕ
+rows image = (frames image + 63) / 64
+
+-- how many frames a row has
+abbrev pub row_length : Image → ℕ → ℕ
+row_length image row = min (frames image - 64 * row) 64
+
+-- the blanks before the number of a row's first frame
+abbrev pub margin_blanks : Image → ℕ → List ℕ
+margin_blanks image first = if is_wide image then wide_padding first else padding first
+
+-- the number of a row's first frame, and a blank
+abbrev pub row_margin : Image → ℕ → List ℕ
+row_margin image row = margin_blanks image (64 * row) ++ decimal (64 * row) ++ 32 ∷ []
+
+-- the letters of a row
+abbrev pub row_letters : Image → ℕ → List ℕ
+row_letters image row = letters image (64 * row) (row_length image row)
+
 -- a row of up to 64 frames, behind the number of the first
 abbrev pub row_line : Image → ℕ → List ℕ
-row_line image row = padding (64 * row) ++ decimal (64 * row) ++ 32 ∷ letters image (64 * row) (min 64 (frames image - 64 * row)) ++ 10 ∷ []
+row_line image row = row_margin image row ++ row_letters image row ++ 10 ∷ []
 
--- the rows of all frames, 64 a row
+-- whether all frames of a row are free
+abbrev pub is_free_row : Image → ℕ → Bool
+is_free_row image row = list_all (λ c. c == 46) (row_letters image row)
+
+-- how many rows in sequence are free from one on, of so many
+unfoldable pub free_rows : Image → ℕ → ℕ → ℕ
+free_rows image row zero = 0
+free_rows image row (suc left) = if is_free_row image row then suc (free_rows image (row + 1) left) else 0
+
+-- whether a stretch of free rows begins with this one
+abbrev pub begins_stretch : Image → ℕ → Bool
+begins_stretch image row = row == 0 || not (is_free_row image (row - 1))
+
+-- how many frames a stretch of so many rows has
+abbrev pub stretch_length : Image → ℕ → ℕ → ℕ
+stretch_length image row count = min (frames image - 64 * row) (64 * count)
+
+-- the line of a stretch: the number of its first frame, and how many it has
+unfoldable pub stretch_line : Image → ℕ → ℕ → List ℕ
+stretch_line image row count = row_margin image row ++ (codes "free " ++ decimal (stretch_length image row count)) ++ 10 ∷ []
+
+-- The line that begins with a row. Of more than 4,096 frames a stretch of free rows has one line.
+unfoldable pub row_text : Image → ℕ → List ℕ
+row_text image row =
+    if not (is_wide image) || not (is_free_row image row) then row_line image row
+    else if begins_stretch image row then stretch_line image row (free_rows image row (rows image - row))
+    else []
+
+-- the lines of all rows
 unfoldable pub rows_text : Image → List ℕ
-rows_text image = flat_map (row_line image) (range_with_len 0 ((frames image + 63) / 64))
+rows_text image = flat_map (row_text image) (range_with_len 0 (rows image))
 
 -- the line above the rows, with the legend
 abbrev pub frames_heading : List ℕ
@@ -139,16 +197,16 @@ process_text image most p (Some r) = process_line p r ++ (bar_line r ++ pages_te
 
 -- ---- The whole
 
--- the first line of a map
-unfoldable pub image_line : Image → List ℕ
-image_line image =
-    codes "image version " ++ decimal image.version ++ codes " frames " ++ decimal (frames image) ++ codes " reserved " ++ decimal (frames_with image 35) ++ codes " free " ++ decimal (frames_with image 46)
+-- the first line of a map, of a file of this version
+unfoldable pub image_line : ℕ → Image → List ℕ
+image_line version image =
+    codes "image version " ++ decimal version ++ codes " frames " ++ decimal (frames image) ++ codes " reserved " ++ decimal (frames_with image 35) ++ codes " free " ++ decimal (frames_with image 46)
     ++ codes " directory " ++ decimal (frames_with image 68) ++ codes " table " ++ decimal (frames_with image 84) ++ codes " page " ++ decimal (frames_with image 80) ++ codes " shared " ++ decimal (frames_with image 83) ++ 10 ∷ []
 
 -- the part about processes
 unfoldable pub processes_text : Image → ℕ → List ℕ
 processes_text image most = flat_map (λ p. process_text image most p (process_at image p)) (range_with_len 0 64)
 
--- the text of an image's map
-unfoldable pub map_text : Image → List ℕ
-map_text image = image_line image ++ (processes_text image (limit image) ++ (frames_text image ++ verdict_text (verdict_on image)))
+-- the text of an image's map, of a file of this version
+unfoldable pub map_text : ℕ → Image → List ℕ
+map_text version image = image_line version image ++ (processes_text image (limit image) ++ (frames_text image ++ verdict_text (verdict_on image)))

@@ -5,6 +5,9 @@ ghost use Rattle.std.specs.Prelude.{◌≤◌};
 /// The place of the first square.
 const LEFT: u32 = 64;
 
+/// The most rows of squares that there can be.
+pub(crate) const MOST_ROWS: u32 = 131_073;
+
 pub(crate) const TOP: u32 = 56;
 
 /// How wide the legend and the bars are.
@@ -119,16 +122,42 @@ impl Scale {
         }
     }
 
-    /// The upper left corner of a frame's square.
-    pub(crate) fn corner(self, frame: u32) -> (u32, u32)
-        requires { frame ≤ 4096 }
-        ensures { (result.0 ≤ 4096) × (result.1 ≤ 262144) }
+    /// How many rows so many frames fill, the last perhaps not whole.
+    pub(crate) fn rows(self, frames: u32) -> u32
+        requires { frames ≤ 1048576 }
+        ensures { result ≤ MOST_ROWS }
     {
         match self {
-            Scale::Large => (LEFT + frame % 8 * 48, TOP + frame / 8 * 48),
-            Scale::Medium => (LEFT + frame % 16 * 42, TOP + frame / 16 * 42),
-            Scale::Small => (LEFT + frame % 32 * 26, TOP + frame / 32 * 26),
-            Scale::Tiny => (LEFT + frame % 64 * 15, TOP + frame / 64 * 15),
+            Scale::Large => (frames + 7) / 8,
+            Scale::Medium => (frames + 15) / 16,
+            Scale::Small => (frames + 31) / 32,
+            Scale::Tiny => (frames + 63) / 64,
+        }
+    }
+
+    /// The first frame of a row.
+    pub(crate) fn first(self, row: u32) -> u32
+        requires { row ≤ MOST_ROWS }
+        ensures { result ≤ 8388672 }
+    {
+        match self {
+            Scale::Large => 8 * row,
+            Scale::Medium => 16 * row,
+            Scale::Small => 32 * row,
+            Scale::Tiny => 64 * row,
+        }
+    }
+
+    /// The upper left corner of the square at a place of a line.
+    pub(crate) fn corner(self, line: u32, column: u32) -> (u32, u32)
+        requires { (line ≤ MOST_ROWS) × (column ≤ 64) }
+        ensures { (result.0 ≤ 4096) × (result.1 ≤ 8388608) }
+    {
+        match self {
+            Scale::Large => (LEFT + column * 48, TOP + line * 48),
+            Scale::Medium => (LEFT + column * 42, TOP + line * 42),
+            Scale::Small => (LEFT + column * 26, TOP + line * 26),
+            Scale::Tiny => (LEFT + column * 15, TOP + line * 15),
         }
     }
 

@@ -14,8 +14,8 @@ mod runs;
 mod squares;
 mod text;
 
-pub use image_check::{Image, Verdict, WriteFailed, check, read_image};
+pub use image_check::{Image, ImageRef, Verdict, WriteFailed, check, read_image};
 pub use laws::maps_list_each_slot;
-pub use picture::write_picture;
+pub use picture::{PictureFault, write_picture};
 pub use runs::Run;
 pub use text::write_map;

@@ -11,7 +11,7 @@ use crate::page_flags::{is_lazy_word, lets_write};
 use crate::runs::Run;
 use alloc_table::Role;
 use arrayvec::ArrayVec;
-use image_check::{Image, Process};
+use image_check::{ImageRef, Process};
 use page_words::{Frame, Page, TableWord};
 use text_output::{push_number, push_word};
 
@@ -105,7 +105,7 @@ fn push_holders(line: &mut Line, holders: u32)
 }
 
 /// Appends where a page is to a line: it is lazy, or has a frame, which may have several holders.
-fn push_place(line: &mut Line, image: &Image, word: u32)
+fn push_place(line: &mut Line, image: &ImageRef<'_>, word: u32)
     requires { array_vec_len line.old + 40 ≤ 256 }
     ensures items { line.new.items ≡ line.old.items ++ place image.now word }
     ensures len { array_vec_len line.new ≤ array_vec_len line.old + 40 }
@@ -121,7 +121,7 @@ fn push_place(line: &mut Line, image: &Image, word: u32)
 
 /// The line of a run.
 #[tactic(auto, unfolding(crate::specs::Text::run_line))]
-pub(crate) fn run_line(image: &Image, run: &Run) -> Line
+pub(crate) fn run_line(image: &ImageRef<'_>, run: &Run) -> Line
     ensures { result.items ≡ run_line image.now run.now }
 {
     let mut line = ArrayVec::new();
@@ -229,13 +229,13 @@ pub(crate) fn process_line(number: u32, process: &Process) -> Line
 
 // ---- The image
 
-/// The line of the image: its version, and how many frames have each letter.
+/// The line of the image: the version of its file, and how many frames have each letter.
 #[tactic(auto, unfolding(crate::specs::Text::image_line))]
-pub(crate) fn image_line(image: &Image) -> Line
-    ensures { result.items ≡ image_line image.now }
+pub(crate) fn image_line(version: u32, image: &ImageRef<'_>) -> Line
+    ensures { result.items ≡ image_line version image.now }
 {
     let mut line = ArrayVec::new();
-    push_number(&mut line, "image version ", image.version());
+    push_number(&mut line, "image version ", version);
     push_number(&mut line, " frames ", image.frames());
     push_number(&mut line, " reserved ", frames_with(image, b'#'));
     push_number(&mut line, " free ", frames_with(image, b'.'));

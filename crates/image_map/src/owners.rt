@@ -5,9 +5,10 @@ ghost use Rattle.memory_image.specs.Image.{process_at};
 
 use crate::page_flags::is_lazy_word;
 use crate::runs::{Run, runs_at};
-use image_check::{Image, Process, pid_of};
+use image_check::{ImageRef, Process, pid_of};
 use page_map::{FIRST_SLOT, SLOT_END};
-use page_words::{Frame, MAX_FRAMES, Pid, TableWord};
+use page_words::{Frame, Pid, TableWord};
+use std::alloc::{AllocError, Global};
 
 /// The processes that map a frame, in ascending order.
 #[derive(Clone, Copy, Debug, PartialEq, Eq)]
@@ -67,7 +68,7 @@ impl Owners {
 #[derive(Drop)]
 pub(crate) struct Mapped {
     /// Who maps each frame.
-    owners: [Owners; MAX_FRAMES as usize],
+    owners: Vec<Owners>,
     /// How many lazy pages each process has.
     lazy: [u32; 64],
 }
@@ -112,7 +113,7 @@ impl Mapped {
     }
 
     /// Adds the pages of a live process.
-    fn add_process(&mut self, image: &Image, pid: Pid, process: &Process)
+    fn add_process(&mut self, image: &ImageRef<'_>, pid: Pid, process: &Process)
         requires { process_at image.now pid ≡ Some process.now }
     {
         for slot in FIRST_SLOT..SLOT_END {
@@ -121,10 +122,10 @@ impl Mapped {
         }
     }
 
-    /// What the processes of an image map, by the tables that are their own.
-    pub(crate) fn of(image: &Image) -> Mapped {
+    /// What the processes of an image map, by the tables that are their own. An error if there is no memory for it.
+    pub(crate) fn of(alloc: Global, image: &ImageRef<'_>) -> Result<Mapped, AllocError> {
         let mut mapped = Mapped {
-            owners: [Owners::Nobody; MAX_FRAMES as usize],
+            owners: vec![in alloc; Owners::Nobody; image.frames() as usize]?,
             lazy: [0; 64],
         };
         for number in 0..64 {
@@ -133,6 +134,6 @@ impl Mapped {
                 mapped.add_process(image, pid, &process);
             }
         }
-        mapped
+        Ok(mapped)
     }
 }

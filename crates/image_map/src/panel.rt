@@ -6,13 +6,13 @@ use crate::layout::{BAR, LEGEND, Scale, TOP};
 use crate::lines::{given_marks, used_marks};
 use crate::owners::Mapped;
 use crate::squares::{draw_half, draw_ticks, light, middle, ticks};
-use image_check::{Image, Process, ProcessClause, Verdict, pid_of};
+use image_check::{ImageRef, Process, ProcessClause, Verdict, pid_of};
 use page_words::Pid;
 use std::io::Write;
 use std::{fmt, io};
 
 /// 1 where a process is live, and else 0.
-fn count_live(image: &Image, number: u8) -> u32
+fn count_live(image: &ImageRef<'_>, number: u8) -> u32
     requires { number < 64 }
     ensures { result ≤ 1 }
 {
@@ -24,7 +24,7 @@ fn count_live(image: &Image, number: u8) -> u32
 }
 
 /// How many processes are live.
-pub(crate) fn live_processes(image: &Image) -> u32
+pub(crate) fn live_processes(image: &ImageRef<'_>) -> u32
     ensures { result ≤ 64 }
 {
     let mut live = 0;
@@ -207,7 +207,7 @@ fn draw_part<W: Write>(
     marks: u32,
     color: &'static str,
 ) -> io::Result<()>
-    requires { (corner.0 ≤ 4096) × (corner.1 ≤ 262144) × (behind ≤ 40) × (marks ≤ 40) }
+    requires { (corner.0 ≤ 4096) × (corner.1 ≤ 8388608) × (behind ≤ 40) × (marks ≤ 40) }
 {
     let (left, top) = (corner.0 + 6 * behind, corner.1);
     let width = 6 * marks;
@@ -223,7 +223,7 @@ fn draw_failing<W: Write>(
     corner: (u32, u32),
     clause: ProcessClause,
 ) -> io::Result<()>
-    requires { (corner.0 ≤ 4096) × (corner.1 ≤ 262144) }
+    requires { (corner.0 ≤ 4096) × (corner.1 ≤ 8388608) }
 {
     let (left, top) = (corner.0 + 410, corner.1);
     let (text, base) = (left + 40, top + 14);
@@ -262,7 +262,7 @@ const MOST_LAZY: u32 = 12;
 /// Draws a dashed square for each lazy page after their number. Of more than `MOST_LAZY` it draws so many, and writes
 /// how many others there are.
 fn draw_lazy<W: Write>(writer: &mut W, lazy: u32, left: u32, top: u32) -> io::Result<()>
-    requires { (left ≤ 8192) × (top ≤ 262144) }
+    requires { (left ≤ 8192) × (top ≤ 8388608) }
 {
     let base = top + 12;
     write!(writer, "<text x=\"{left}\" y=\"{base}\">lazy {lazy}</text>")?;
@@ -294,7 +294,7 @@ fn draw_bar<W: Write>(
     process: &Process,
     corner: (u32, u32),
 ) -> io::Result<()>
-    requires { (corner.0 ≤ 4096) × (corner.1 ≤ 262144) }
+    requires { (corner.0 ≤ 4096) × (corner.1 ≤ 8388608) }
 {
     let (used, given) = (used_marks(process), given_marks(process));
     draw_part(writer, corner, 0, 40, "#ffffff")?;
@@ -331,7 +331,7 @@ fn draw_process<W: Write>(
 /// Draws a process, where it is live, and the mark of a clause that it fails.
 fn draw_member<W: Write>(
     writer: &mut W,
-    image: &Image,
+    image: &ImageRef<'_>,
     verdict: &Verdict,
     mapped: &Mapped,
     pid: Pid,
@@ -351,7 +351,7 @@ fn draw_member<W: Write>(
 /// Draws the bars of all live processes, one below the other.
 pub(crate) fn draw_bars<W: Write>(
     writer: &mut W,
-    image: &Image,
+    image: &ImageRef<'_>,
     verdict: &Verdict,
     mapped: &Mapped,
     scale: Scale,

@@ -9,7 +9,7 @@ ghost use Rattle.image_map.specs.Runs.{page_of, pages_of, goes_on, runs_from, ru
 
 use alloc_table::Role;
 use arrayvec::ArrayVec;
-use image_check::Image;
+use image_check::ImageRef;
 use page_words::{DirWord, Frame, Page, Pid, TableWord};
 
 /// How many words a table has.
@@ -55,7 +55,7 @@ fn push_page(pages: &mut Runs, page: u32, word: u32)
 }
 
 /// The pages of a table, which is that of a slot, each as a run by itself.
-fn pages_of(image: &Image, slot: u32, table: Frame) -> Runs
+fn pages_of(image: &ImageRef<'_>, slot: u32, table: Frame) -> Runs
     requires { slot < 1024 }
     ensures { result.items ≡ pages_of image.now slot table }
 {
@@ -130,7 +130,7 @@ fn is_table_of(pid: Pid, slot: u32, role: Option<Role>) -> bool
 }
 
 /// The table of a slot of a process's directory, where the directory names one that has this role.
-fn own_table(image: &Image, pid: Pid, directory: Frame, slot: u32) -> Option<Frame>
+fn own_table(image: &ImageRef<'_>, pid: Pid, directory: Frame, slot: u32) -> Option<Frame>
     requires directory { directory_at (memory_of image.now) pid ≡ Some directory }
     requires slot { (256 ≤ slot) × (slot < 960) }
     ensures { result ≡ own_table image.now pid slot }
@@ -145,7 +145,7 @@ fn own_table(image: &Image, pid: Pid, directory: Frame, slot: u32) -> Option<Fra
 
 /// The runs of the table of a slot of a process's directory. Each frame has one role, so that it is read
 /// for one slot at most.
-pub(crate) fn runs_at(image: &Image, pid: Pid, directory: Frame, slot: u32) -> Runs
+pub(crate) fn runs_at(image: &ImageRef<'_>, pid: Pid, directory: Frame, slot: u32) -> Runs
     requires directory { directory_at (memory_of image.now) pid ≡ Some directory }
     requires slot { (256 ≤ slot) × (slot < 960) }
     ensures { result.items ≡ runs_at image.now pid slot }

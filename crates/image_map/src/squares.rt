@@ -7,7 +7,7 @@ ghost use Rattle.image_check.specs.Told.{frame_told};
 use crate::frames::letter;
 use crate::owners::{Mapped, Owners};
 use alloc_table::Role;
-use image_check::{FrameClause, Image, Verdict};
+use image_check::{FrameClause, ImageRef, Verdict};
 use page_words::{Frame, Pid};
 use std::io::Write;
 use std::{fmt, io};
@@ -24,7 +24,12 @@ pub(crate) struct Square {
 }
 
 /// What is drawn of a frame: its role, and the clause that the check names.
-pub(crate) fn square_of(image: &Image, verdict: &Verdict, mapped: &Mapped, frame: Frame) -> Square
+pub(crate) fn square_of(
+    image: &ImageRef<'_>,
+    verdict: &Verdict,
+    mapped: &Mapped,
+    frame: Frame,
+) -> Square
     ensures frame { result.frame ≡ frame }
     ensures role { result.role ≡ role_at image.now frame }
     ensures failing { result.failing ≡ frame_told verdict.now frame }
@@ -210,7 +215,7 @@ pub(crate) fn draw_half<W: Write>(
     side: u32,
     color: &'static str,
 ) -> io::Result<()>
-    requires { (corner.0 ≤ 4096) × (corner.1 ≤ 262144) × (side ≤ 48) }
+    requires { (corner.0 ≤ 4096) × (corner.1 ≤ 8388608) × (side ≤ 48) }
 {
     let (left, top) = corner;
     let (right, bottom) = (left + side, top + side);
@@ -222,7 +227,7 @@ pub(crate) fn draw_half<W: Write>(
 
 /// Draws one tick.
 fn draw_tick<W: Write>(writer: &mut W, left: u32, top: u32, ink: &'static str) -> io::Result<()>
-    requires { top ≤ 262192 }
+    requires { top ≤ 8388656 }
 {
     let bottom = top + 8;
     write!(
@@ -239,7 +244,7 @@ pub(crate) fn draw_ticks<W: Write>(
     count: u32,
     ink: &'static str,
 ) -> io::Result<()>
-    requires { (corner.0 ≤ 4096) × (corner.1 ≤ 262192) × (step ≤ 3) × (count ≤ 12) }
+    requires { (corner.0 ≤ 4096) × (corner.1 ≤ 8388656) × (step ≤ 3) × (count ≤ 12) }
 {
     for place in 0..count {
         let behind = step.saturating_mul(place);

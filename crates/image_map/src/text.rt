@@ -7,19 +7,19 @@ ghost use Rattle.address_space.specs.Image.{directory_at};
 ghost use Rattle.memory_image.specs.Image.{frames, process_at, memory_of};
 ghost use Rattle.text_output.specs.Output.{AppendsFront};
 ghost use Rattle.image_check.specs.Told.{verdict_on};
-ghost use Rattle.image_map.specs.Text.{run_line, more_line, runs_text, slot_text, process_line, bar_line, row_line, frames_heading, image_line, pages_text, process_text, processes_text, rows_text, frames_text, limit, map_text};
+ghost use Rattle.image_map.specs.Text.{run_line, more_line, runs_text, slot_text, process_line, bar_line, rows, row_text, frames_heading, image_line, pages_text, process_text, processes_text, rows_text, frames_text, limit, map_text};
 
-use crate::frames::{row_count, row_line};
+use crate::frames::{row_count, row_text};
 use crate::lines::{bar_line, image_line, more_line, process_line, run_line};
 use crate::runs::{Run, runs_at};
-use image_check::{Image, Process, Verdict, WriteFailed, pid_of};
+use image_check::{ImageRef, Process, Verdict, WriteFailed, pid_of};
 use page_map::{FIRST_SLOT, SLOT_END};
 use page_words::{Frame, Pid};
 use std::io::Write;
 use text_output::write_whole;
 
 /// Writes the line of a run.
-fn write_run<W: Write>(image: &Image, run: &Run, writer: &mut W) -> Result<(), WriteFailed>
+fn write_run<W: Write>(image: &ImageRef<'_>, run: &Run, writer: &mut W) -> Result<(), WriteFailed>
     ensures ok { OnOk result (Appends (W.contents writer.old) (W.contents writer.new) (run_line image.now run.now)) }
     ensures err { OnErr result (AppendsFront (W.contents writer.old) (W.contents writer.new)
         (run_line image.now run.now)) }
@@ -28,7 +28,11 @@ fn write_run<W: Write>(image: &Image, run: &Run, writer: &mut W) -> Result<(), W
 }
 
 /// Writes a line for each run.
-fn write_runs<W: Write>(image: &Image, runs: &[Run], writer: &mut W) -> Result<(), WriteFailed>
+fn write_runs<W: Write>(
+    image: &ImageRef<'_>,
+    runs: &[Run],
+    writer: &mut W,
+) -> Result<(), WriteFailed>
     ensures ok { OnOk result (Appends (W.contents writer.old) (W.contents writer.new)
         (flat_map (run_line image.now) runs.now)) }
     ensures err { OnErr result (AppendsFront (W.contents writer.old) (W.contents writer.new)
@@ -61,7 +65,7 @@ fn write_more<W: Write>(most: u32, runs: &[Run], writer: &mut W) -> Result<(), W
 
 /// Writes the lines of the runs of a table, of which so many are listed at most.
 fn write_table<W: Write>(
-    image: &Image,
+    image: &ImageRef<'_>,
     most: u32,
     runs: &[Run],
     writer: &mut W,
@@ -78,7 +82,7 @@ fn write_table<W: Write>(
 
 /// Writes the lines of the runs of the table of a slot of a process's directory.
 fn write_slot<W: Write>(
-    image: &Image,
+    image: &ImageRef<'_>,
     most: u32,
     pid: Pid,
     directory: Frame,
@@ -98,7 +102,7 @@ fn write_slot<W: Write>(
 
 /// Writes the lines of the runs of all tables of a process.
 fn write_pages<W: Write>(
-    image: &Image,
+    image: &ImageRef<'_>,
     most: u32,
     pid: Pid,
     directory: Frame,
@@ -139,7 +143,7 @@ fn write_bar<W: Write>(process: &Process, writer: &mut W) -> Result<(), WriteFai
 
 /// Writes the lines of a live process: what it has, its bar and its pages.
 fn write_live<W: Write>(
-    image: &Image,
+    image: &ImageRef<'_>,
     most: u32,
     pid: Pid,
     process: &Process,
@@ -158,7 +162,7 @@ fn write_live<W: Write>(
 
 /// Writes the lines of a process, where it is live.
 fn write_process<W: Write>(
-    image: &Image,
+    image: &ImageRef<'_>,
     most: u32,
     number: u8,
     writer: &mut W,
@@ -177,7 +181,11 @@ fn write_process<W: Write>(
 }
 
 /// Writes the lines of all processes.
-fn write_processes<W: Write>(image: &Image, most: u32, writer: &mut W) -> Result<(), WriteFailed>
+fn write_processes<W: Write>(
+    image: &ImageRef<'_>,
+    most: u32,
+    writer: &mut W,
+) -> Result<(), WriteFailed>
     ensures ok { OnOk result (Appends (W.contents writer.old) (W.contents writer.new) (processes_text image.now most)) }
     ensures err { OnErr result (AppendsFront (W.contents writer.old) (W.contents writer.new)
         (processes_text image.now most)) }
@@ -188,17 +196,17 @@ fn write_processes<W: Write>(image: &Image, most: u32, writer: &mut W) -> Result
     Ok(())
 }
 
-/// Writes a row of frames.
-fn write_row<W: Write>(image: &Image, row: u32, writer: &mut W) -> Result<(), WriteFailed>
-    requires { 64 * row < frames image.now }
-    ensures ok { OnOk result (Appends (W.contents writer.old) (W.contents writer.new) (row_line image.now row)) }
-    ensures err { OnErr result (AppendsFront (W.contents writer.old) (W.contents writer.new) (row_line image.now row)) }
+/// Writes the line that begins with a row of frames, if one does.
+fn write_row<W: Write>(image: &ImageRef<'_>, row: u32, writer: &mut W) -> Result<(), WriteFailed>
+    requires { row ≤ 16384 }
+    ensures ok { OnOk result (Appends (W.contents writer.old) (W.contents writer.new) (row_text image.now row)) }
+    ensures err { OnErr result (AppendsFront (W.contents writer.old) (W.contents writer.new) (row_text image.now row)) }
 {
-    write_whole(writer, &row_line(image, row))
+    write_whole(writer, &row_text(image, row))
 }
 
 /// Writes the rows of frames.
-fn write_rows<W: Write>(image: &Image, writer: &mut W) -> Result<(), WriteFailed>
+fn write_rows<W: Write>(image: &ImageRef<'_>, writer: &mut W) -> Result<(), WriteFailed>
     ensures ok { OnOk result (Appends (W.contents writer.old) (W.contents writer.new) (rows_text image.now)) }
     ensures err { OnErr result (AppendsFront (W.contents writer.old) (W.contents writer.new) (rows_text image.now)) }
 {
@@ -220,7 +228,7 @@ fn write_heading<W: Write>(writer: &mut W) -> Result<(), WriteFailed>
 }
 
 /// Writes the rows of frames, behind what their letters mean.
-fn write_frames<W: Write>(image: &Image, writer: &mut W) -> Result<(), WriteFailed>
+fn write_frames<W: Write>(image: &ImageRef<'_>, writer: &mut W) -> Result<(), WriteFailed>
     ensures ok { OnOk result (Appends (W.contents writer.old) (W.contents writer.new) (frames_text image.now)) }
     ensures err { OnErr result (AppendsFront (W.contents writer.old) (W.contents writer.new) (frames_text image.now)) }
 {
@@ -229,7 +237,7 @@ fn write_frames<W: Write>(image: &Image, writer: &mut W) -> Result<(), WriteFail
 }
 
 /// How many runs of a table are listed at most: all where nothing fails, else as many as there are frames.
-fn limit(image: &Image, verdict: &Verdict) -> u32
+fn limit(image: &ImageRef<'_>, verdict: &Verdict) -> u32
     requires { verdict.now ≡ verdict_on image.now }
     ensures { result ≡ limit image.now }
 {
@@ -241,16 +249,22 @@ fn limit(image: &Image, verdict: &Verdict) -> u32
 }
 
 /// Writes the line of the image.
-fn write_image_line<W: Write>(image: &Image, writer: &mut W) -> Result<(), WriteFailed>
-    ensures ok { OnOk result (Appends (W.contents writer.old) (W.contents writer.new) (image_line image.now)) }
-    ensures err { OnErr result (AppendsFront (W.contents writer.old) (W.contents writer.new) (image_line image.now)) }
+fn write_image_line<W: Write>(
+    version: u32,
+    image: &ImageRef<'_>,
+    writer: &mut W,
+) -> Result<(), WriteFailed>
+    ensures ok { OnOk result (Appends (W.contents writer.old) (W.contents writer.new) (image_line version image.now)) }
+    ensures err { OnErr result (AppendsFront (W.contents writer.old) (W.contents writer.new)
+        (image_line version image.now)) }
 {
-    write_whole(writer, &image_line(image))
+    write_whole(writer, &image_line(version, image))
 }
 
-/// Writes the text of an image, with the verdict on it. It has a line for the image, and for each live process, in
-/// ascending order, its record, a bar and the runs of its pages. Then come the frames, 64 in a row, and the lines of
-/// the verdict.
+/// Writes the text of an image, of a file of this version, with the verdict on it. It has a line for the image, and for
+/// each live process, in ascending order, its record, a bar and the runs of its pages. Then come the frames, 64 in a
+/// row, and the lines of the verdict. Of more than 4,096 frames, rows in sequence that are all free have one line, with
+/// the number of their frames.
 ///
 /// Pages are listed of the tables that their process's directory names and that have this role, so that
 /// each table is read once, whatever the image holds. Where a clause fails, of each table as many runs are
@@ -258,15 +272,17 @@ fn write_image_line<W: Write>(image: &Image, writer: &mut W) -> Result<(), Write
 ///
 /// WriteFailed where a write fails; what was written is then a front of the text.
 pub fn write_map<W: Write>(
-    image: &Image,
+    version: u32,
+    image: &ImageRef<'_>,
     verdict: &Verdict,
     writer: &mut W,
 ) -> Result<(), WriteFailed>
     requires { verdict.now ≡ verdict_on image.now }
-    ensures ok { OnOk result (Appends (W.contents writer.old) (W.contents writer.new) (map_text image.now)) }
-    ensures err { OnErr result (AppendsFront (W.contents writer.old) (W.contents writer.new) (map_text image.now)) }
+    ensures ok { OnOk result (Appends (W.contents writer.old) (W.contents writer.new) (map_text version image.now)) }
+    ensures err { OnErr result (AppendsFront (W.contents writer.old) (W.contents writer.new)
+        (map_text version image.now)) }
 {
-    write_image_line(image, writer)?;
+    write_image_line(version, image, writer)?;
     write_processes(image, limit(image, verdict), writer)?;
     write_frames(image, writer)?;
     verdict.write_text(writer)

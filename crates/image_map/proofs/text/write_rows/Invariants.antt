@@ -2,9 +2,8 @@
 use Rattle.std.proofs.Common.{◌-◌, ◌+◌, ◌/◌}
 use Rattle.std.specs.List.{flat_map, range_with_len}
 use Rattle.text_output.specs.Output.{LeavesUnwritten}
-use Rattle.memory_image.specs.Image.{frames}
-use Rattle.image_map.specs.Text.{row_line, rows_text}
+use Rattle.image_map.specs.Text.{row_text, rows, rows_text}
 use Rattle.image_map.proofs.text.write_rows.Given as goal
 
 abbrev pub invariant-loop-row : goal.invariant-loop-row
-invariant-loop-row g l = LeavesUnwritten (g.W.Write.contents l.fn.writer) (g.W.Write.contents l.writer) (rows_text l.image) (flat_map (row_line l.image) (range_with_len l.row ((frames l.image + 63) / 64 - l.row)))
+invariant-loop-row g l = LeavesUnwritten (g.W.Write.contents l.fn.writer) (g.W.Write.contents l.writer) (rows_text l.image) (flat_map (row_text l.image) (range_with_len l.row (rows l.image - l.row)))
