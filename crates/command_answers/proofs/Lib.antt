@@ -1,3 +1,5 @@
+pub mod FileFaults
 pub mod FirstValue
+pub mod FrontLemmas
 pub mod OptionLemmas
 pub mod Writers

@@ -1,5 +1,5 @@
 -- The texts of faults, and their exit statuses.
-use Rattle.std.specs.Prelude.{ℕ, List, ◌++◌, codes, decimal}
+use Rattle.std.specs.Prelude.{ℕ, List, [], ◌++◌, Option, codes, decimal}
 use Rattle.memory_image.specs.declared.faults.ImageFault.{ImageFault}
 use Rattle.memory_image.specs.declared.faults.ImageFault.TheVariants as image
 use Rattle.script_run.specs.declared.faults.ScriptFault.{ScriptFault}
@@ -8,10 +8,15 @@ use Rattle.command_answers.specs.declared.faults.ToolFault.TheVariants as tool
 use Rattle.command_answers.specs.declared.given_words.WordsFault.{WordsFault}
 use Rattle.command_answers.specs.declared.given_words.WordsFault.TheVariants as words
 use Rattle.script_run.specs.declared.faults.ScriptFault.TheVariants as script
+use Rattle.wide_image.specs.Streams.{NoneEncode}
+use Rattle.wide_image.specs.declared.faults.WideImageFault.TheVariants as wide
+use Rattle.wide_image.specs.declared.streams.WideReadFault.{WideReadFault}
+use Rattle.wide_image.specs.declared.streams.WideReadFault.TheVariants.{ReadFailed, NotRead}
 
 -- what a fault says, without a program's name
 abbrev pub tool_message : ToolFault → List ℕ
 tool_message tool.BadSize = codes "frames must be 16 to 4096"
+tool_message tool.BadWideSize = codes "frames must be 16 to 1048576"
 tool_message tool.NoMemory = codes "out of memory"
 tool_message (tool.Malformed line) = codes "line " ++ (decimal line ++ codes " is malformed")
 tool_message tool.TooLong = codes "script is too long"
@@ -36,6 +41,31 @@ tool_of_image image.BadVersion = tool.BadVersion
 tool_of_image (image.BadField offset) = tool.BadField offset
 tool_of_image image.NoMemory = tool.NoMemory
 
+-- why a file gives no image of version 3
+abbrev pub tool_of_whole : WideReadFault → ToolFault
+tool_of_whole ReadFailed = tool.ReadFailed
+tool_of_whole (NotRead wide.NotImage) = tool.NotImage
+tool_of_whole (NotRead wide.BadLength) = tool.BadLength
+tool_of_whole (NotRead wide.BadVersion) = tool.BadVersion
+tool_of_whole (NotRead (wide.BadField offset)) = tool.BadField offset
+tool_of_whole (NotRead wide.NoMemory) = tool.NoMemory
+
+-- why a file gives no image of version 3: a read failed, memory ran out, or its bytes encode none
+abbrev pub IsFileFault : Option (List ℕ) → ToolFault → Type 0
+IsFileFault file tool.NotImage = NoneEncode [] file
+IsFileFault file tool.BadVersion = NoneEncode [] file
+IsFileFault file tool.BadLength = NoneEncode [] file
+IsFileFault file (tool.BadField offset) = NoneEncode [] file
+IsFileFault file tool.NoMemory = Unit {0}
+IsFileFault file tool.ReadFailed = Unit {0}
+IsFileFault file tool.WriteFailed = ⊥
+IsFileFault file tool.BadSize = ⊥
+IsFileFault file tool.BadWideSize = ⊥
+IsFileFault file (tool.Malformed line) = ⊥
+IsFileFault file tool.TooLong = ⊥
+IsFileFault file tool.RaceTurns = ⊥
+IsFileFault file tool.RaceFailed = ⊥
+
 -- what ends a script's run early
 abbrev pub tool_of_script : ScriptFault → ToolFault
 tool_of_script script.BadSize = tool.BadSize
@@ -48,6 +78,7 @@ tool_of_script script.WriteFailed = tool.WriteFailed
 -- 2 for a refused size, script or image, and 1 for all else
 abbrev pub status_of_tool : ToolFault → ℕ
 status_of_tool tool.BadSize = 2
+status_of_tool tool.BadWideSize = 2
 status_of_tool tool.NoMemory = 1
 status_of_tool (tool.Malformed line) = 2
 status_of_tool tool.TooLong = 2

@@ -1,6 +1,7 @@
 -- The word of a command line that names a file, and what is read of that file.
-use Rattle.std.specs.Prelude.{◌≡◌, ℕ, true, List, [], take, Option, IfSome, unwrap_or, slice_get, codes, option_map, option_and_then}
+use Rattle.std.specs.Prelude.{◌≡◌, ℕ, Bool, true, false, ◌&&◌, ◌==◌, List, [], ◌∷◌, take, Option, Some, IfSome, unwrap_or, slice_get, codes, option_map, option_and_then}
 use Rattle.clap.specs.Words.{Row, Rule, Text, new_rule, all_of}
+use Rattle.memory_image.specs.Refusals.{begins}
 
 -- FILE, which must be there
 abbrev pub file_argument : Rule
@@ -10,6 +11,25 @@ file_argument = record (new_rule (codes "file")) { value_names = 1; required = t
 abbrev pub file_in : List Row → Text
 file_in rows = unwrap_or (option_and_then (λ (values : List Text). slice_get values 0) (all_of (codes "file") rows)) []
 
--- of a file as much is read as the longest image has, and one byte more
+-- of a file as much is read as the longest image of version 1 or 2 has, and one byte more
 abbrev pub IsRead : Option (List ℕ) → List ℕ → Type 0
 IsRead remained bytes = IfSome (option_map (take 16844301) remained) (λ input. bytes ≡ input)
+
+-- ---- Its first bytes
+
+-- four bytes are the number 3
+abbrev pub are_three : ℕ → ℕ → ℕ → ℕ → Bool
+are_three a b c d = a == 3 && b == 0 && c == 0 && d == 0
+
+-- the first eight bytes are those of an image of version 3
+abbrev pub says_whole : List ℕ → Bool
+says_whole (p ∷ q ∷ r ∷ s ∷ a ∷ b ∷ c ∷ d ∷ rest) = begins (p ∷ q ∷ r ∷ s ∷ []) && are_three a b c d
+says_whole _ = false
+
+-- this content is the file's, where that is known
+abbrev pub IsContent : Option (List ℕ) → Option (List ℕ) → Type 0
+IsContent file content = IfSome file (λ bytes. content ≡ Some bytes)
+
+-- known content begins as an image of version 3 does, or does not
+abbrev pub SaysWhole : Bool → Option (List ℕ) → Type 0
+SaysWhole whole content = IfSome content (λ bytes. says_whole bytes ≡ whole)

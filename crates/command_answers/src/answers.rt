@@ -32,6 +32,7 @@ fn status_of_tool(fault: ToolFault) -> u8
 {
     match fault {
         ToolFault::BadSize => 2,
+        ToolFault::BadWideSize => 2,
         ToolFault::Malformed { .. } => 2,
         ToolFault::TooLong => 2,
         ToolFault::NotImage => 2,

@@ -5,12 +5,15 @@ use script_run::ScriptFault;
 use std::error::Error;
 use std::fmt;
 use text_output::WriteFailed;
+use wide_image::{WideImageFault, WideReadFault};
 
 /// Why a command of a program ends early: one for each line of the table of fault texts.
 #[derive(Clone, Copy, Debug, PartialEq, Eq)]
 pub enum ToolFault {
     /// The number of frames is not 16 to 4,096.
     BadSize,
+    /// The number of frames of a machine that is stored whole is not 16 to 1,048,576.
+    BadWideSize,
     /// There is not enough memory.
     NoMemory,
     /// A line of a script, counted from 1, says nothing that a script may say.
@@ -26,14 +29,14 @@ pub enum ToolFault {
     WriteFailed,
     /// A file does not begin as an image does.
     NotImage,
-    /// An image is of a version other than 1 and 2.
+    /// An image is of a version that the command doesn't take.
     BadVersion,
-    /// The length of an image isn't that of its number of frames.
+    /// The length of an image isn't the one that its counts give.
     BadLength,
     /// A field of an image breaks its rule.
     BadField {
         /// The place of its first byte.
-        offset: u32,
+        offset: u64,
     },
     /// A guest of a race ran out of turns.
     RaceTurns,
@@ -69,6 +72,7 @@ impl fmt::Display for Message {
     fn fmt<W: fmt::Write>(&self, f: &mut fmt::Formatter<W>) -> fmt::Result {
         match self.0 {
             ToolFault::BadSize => write!(f, "frames must be 16 to 4096"),
+            ToolFault::BadWideSize => write!(f, "frames must be 16 to 1048576"),
             ToolFault::NoMemory => write!(f, "out of memory"),
             ToolFault::Malformed { line } => write!(f, "line {line} is malformed"),
             ToolFault::TooLong => write!(f, "script is too long"),
@@ -124,8 +128,30 @@ impl From<ImageFault> for ToolFault {
             ImageFault::NotImage => ToolFault::NotImage,
             ImageFault::BadLength => ToolFault::BadLength,
             ImageFault::BadVersion => ToolFault::BadVersion,
-            ImageFault::BadField { offset } => ToolFault::BadField { offset },
+            ImageFault::BadField { offset } => ToolFault::BadField {
+                offset: u64::from(offset),
+            },
             ImageFault::NoMemory => ToolFault::NoMemory,
+        }
+    }
+}
+
+impl From<WideReadFault> for ToolFault {
+    ghost use Rattle.std.specs.Prelude.{◌≡◌};
+    ghost use Rattle.command_answers.specs.Faults.{tool_of_whole};
+
+    ghost from_gives = { λ fault e. e ≡ tool_of_whole fault };
+
+    fn from(fault: WideReadFault) -> ToolFault {
+        match fault {
+            WideReadFault::ReadFailed => ToolFault::ReadFailed,
+            WideReadFault::NotRead(WideImageFault::NotImage) => ToolFault::NotImage,
+            WideReadFault::NotRead(WideImageFault::BadLength) => ToolFault::BadLength,
+            WideReadFault::NotRead(WideImageFault::BadVersion) => ToolFault::BadVersion,
+            WideReadFault::NotRead(WideImageFault::BadField { offset }) => {
+                ToolFault::BadField { offset }
+            }
+            WideReadFault::NotRead(WideImageFault::NoMemory) => ToolFault::NoMemory,
         }
     }
 }

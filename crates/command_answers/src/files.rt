@@ -1,17 +1,21 @@
 //! The bytes of the file that a command line names.
 
-ghost use Rattle.std.specs.Prelude.{◌≡◌, ◌⊎◌, IfOk, IfErr};
-ghost use Rattle.command_answers.specs.Files.{IsRead};
+ghost use Rattle.std.specs.Prelude.{◌≡◌, ◌≤◌, ◌⊎◌, Some, IfOk, IfErr, length};
+ghost use Rattle.std.specs.Fmt.{option_append};
+ghost use Rattle.command_answers.specs.Files.{IsContent, IsRead, SaysWhole, are_three, says_whole};
 
 use crate::faults::ToolFault;
+use arrayvec::ArrayVec;
+use memory_image::begins;
 use std::alloc::Global;
 use std::io;
 use std::io::Read;
+use wide_image::fill;
 
-/// One byte more than an image of 4,096 frames has.
+/// One byte more than an image of version 1 or 2 of 4,096 frames has.
 const FILE_BYTES: u64 = 16_844_301;
 
-/// The bytes of a file, of which no more are read than one more than the largest image has.
+/// The bytes of a file, of which no more are read than one more than the largest image of version 1 or 2 has.
 ///
 /// NoMemory where there is no memory for them; ReadFailed where a read answers another error.
 pub fn bytes_of<F: Read + Drop>(alloc: Global, file: F) -> Result<Vec<u8>, ToolFault>
@@ -24,4 +28,47 @@ pub fn bytes_of<F: Read + Drop>(alloc: Global, file: F) -> Result<Vec<u8>, ToolF
         Err(error) if error.kind() == io::ErrorKind::OutOfMemory => Err(ToolFault::NoMemory),
         Err(_) => Err(ToolFault::ReadFailed),
     }
+}
+
+/// Whether four bytes are the number 3.
+fn are_three(a: u8, b: u8, c: u8, d: u8) -> bool
+    ensures { result ≡ are_three a b c d }
+{
+    a == 3 && b == 0 && c == 0 && d == 0
+}
+
+/// Returns whether bytes begin as an image of version 3 does, by the first eight.
+pub fn says_whole(bytes: &[u8]) -> bool
+    ensures { result ≡ says_whole bytes.now }
+{
+    match bytes {
+        [_, _, _, _, a, b, c, d, ..] => begins(bytes) && are_three(*a, *b, *c, *d),
+        _ => false,
+    }
+}
+
+/// These bytes, at most eight.
+fn kept(bytes: &[u8]) -> ArrayVec<u8, 8>
+    requires { length bytes.now ≤ 8 }
+    ensures { result.items ≡ bytes.now }
+{
+    let mut front = ArrayVec::new();
+    front.try_extend_from_slice(bytes).unwrap();
+    front
+}
+
+/// Reads the first bytes of a file: eight, or all if there are fewer. They and what the file has left are its content,
+/// and whether that begins as an image of version 3 does is for them to say.
+///
+/// ReadFailed if a read answers an error.
+pub fn front_of<F: Read>(file: &mut F) -> Result<ArrayVec<u8, 8>, ToolFault>
+    ensures content { IfOk result (λ front. IsContent (F.remaining file.old)
+        (option_append (Some front.items) (F.remaining file.new))) }
+    ensures says { IfOk result (λ front. SaysWhole (says_whole front.items)
+        (option_append (Some front.items) (F.remaining file.new))) }
+    ensures fault { IfErr result (λ fault. fault ≡ ToolFault.ReadFailed) }
+{
+    let mut bytes = [0; 8];
+    let read = fill(file, &mut bytes)?;
+    Ok(kept(&bytes[..read]))
 }

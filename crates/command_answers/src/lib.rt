@@ -12,6 +12,6 @@ mod options;
 pub use answers::{Answer, answer_of_words, refuse, status_of, tell};
 pub use faults::{Message, ToolFault};
 pub use file_words::{file_argument, file_in};
-pub use files::bytes_of;
+pub use files::{bytes_of, front_of, says_whole};
 pub use given_words::{WordsFault, words};
 pub use options::{frames_in, frames_option, number_in};

@@ -92,6 +92,11 @@ fn check_image<R: AllocGlobal + Abort>(rt: &R, words: &[&str], frames: u32) {
     check_asked(rt, words, Ok(Job::Image { frames }));
 }
 
+/// Checks that these arguments request an image of version 3 of so many frames.
+fn check_whole<R: AllocGlobal + Abort>(rt: &R, words: &[&str], frames: u32) {
+    check_asked(rt, words, Ok(Job::Whole { frames }));
+}
+
 /// These words ask to check a file.
 fn check_file<R: AllocGlobal + Abort>(rt: &R, words: &[&str], file: &'static str) {
     check_asked(rt, words, Ok(Job::Check { file }));
@@ -103,6 +108,9 @@ fn reads_images_and_checks_as_clap_does(rt: HostRuntime) {
     let missing = ErrorKind::MissingRequiredArgument;
     check_image(&rt, &["tower", "image"], 16);
     check_image(&rt, &["tower", "image", "--frames=64"], 64);
+    check_whole(&rt, &["tower", "image", "--whole"], 16);
+    check_whole(&rt, &["tower", "image", "--whole", "--frames=5000"], 5000);
+    check_refused(&rt, &["tower", "run", "--whole"], unknown);
     check_refused(&rt, &["tower", "image", "--rounds", "2"], unknown);
     check_file(&rt, &["tower", "check", "an.image"], "an.image");
     check_refused(&rt, &["tower", "check"], missing);

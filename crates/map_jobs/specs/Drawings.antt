@@ -13,8 +13,8 @@ use Rattle.memory_image.specs.Spelling.{Spells}
 use Rattle.memory_image.specs.declared.faults.ImageFault.{ImageFault}
 use Rattle.text_output.specs.Output.{AppendsFront}
 use Rattle.command_answers.specs.Answers.{Refuses}
-use Rattle.command_answers.specs.Faults.{tool_of_image}
-use Rattle.command_answers.specs.Files.{IsRead, file_argument, file_in}
+use Rattle.command_answers.specs.Faults.{IsFileFault, tool_of_image}
+use Rattle.command_answers.specs.Files.{IsContent, IsRead, SaysWhole, file_argument, file_in}
 use Rattle.command_answers.specs.declared.answers.Answer.{Answer}
 use Rattle.command_answers.specs.declared.answers.Answer.TheVariants.{Done, NotSound, Failed, NotText, Refused}
 use Rattle.command_answers.specs.declared.faults.ToolFault.{ToolFault}
@@ -23,28 +23,44 @@ use Rattle.map_jobs.specs.declared.drawing.Form.{Form}
 use Rattle.map_jobs.specs.declared.drawing.Form.TheVariants as form
 use Rattle.map_jobs.specs.declared.jobs.Request.{Request}
 use Rattle.image_map.specs.Text.{map_text}
+use Rattle.wide_image.specs.Streams.{EncodesAll}
+use Rattle.wide_image.specs.Wide.{WideImage}
 
 -- ---- Drawings
 
--- the text was written; of a picture nothing is said
-abbrev pub Shows : Form → Image → Option (List ℕ) → Option (List ℕ) → Type 0
-Shows form.Text image held holds = Appends held holds (map_text image)
-Shows form.Picture image held holds = Unit {0}
+-- the text of a file of this version was written; of a picture nothing is said
+abbrev pub Shows : Form → ℕ → Image → Option (List ℕ) → Option (List ℕ) → Type 0
+Shows form.Text version image held holds = Appends held holds (map_text version image)
+Shows form.Picture version image held holds = Unit {0}
 
 -- a front of the text was written, and at least one byte of it was not
-abbrev pub ShowsFront : Form → Image → Option (List ℕ) → Option (List ℕ) → Type 0
-ShowsFront form.Text image held holds = AppendsFront held holds (map_text image)
-ShowsFront form.Picture image held holds = Unit {0}
+abbrev pub ShowsFront : Form → ℕ → Image → Option (List ℕ) → Option (List ℕ) → Type 0
+ShowsFront form.Text version image held holds = AppendsFront held holds (map_text version image)
+ShowsFront form.Picture version image held holds = Unit {0}
+
+-- there is no memory for a picture, and nothing was written; or a write failed
+abbrev pub EndsForm : Form → ℕ → Image → ToolFault → Option (List ℕ) → Option (List ℕ) → Type 0
+EndsForm form version image fault held holds = ((fault ≡ tool.NoMemory) × Keeps held holds) ⊎ ((fault ≡ tool.WriteFailed) × ShowsFront form version image held holds)
 
 -- the bytes encode an image, which was drawn; the result is whether the image is sound
 abbrev pub Draws : Form → List ℕ → Bool → Option (List ℕ) → Option (List ℕ) → Type 0
-Draws form bytes sound held holds = (image : Image) × Spells bytes image × (sound ≡ fails_nothing (verdict_on image)) × Shows form image held holds
+Draws form bytes sound held holds = (image : Image) × Spells bytes image × (sound ≡ fails_nothing (verdict_on image)) × Shows form image.version image held holds
 
 -- the bytes are refused, or there is no memory, and nothing was written; or a write failed
 abbrev pub EndsDrawing : Form → List ℕ → ToolFault → Option (List ℕ) → Option (List ℕ) → Type 0
 EndsDrawing form bytes fault held holds =
     ((refusal : ImageFault) × (fault ≡ tool_of_image refusal) × IsRefusal bytes refusal × Keeps held holds)
-    ⊎ ((image : Image) × (fault ≡ tool.WriteFailed) × Spells bytes image × ShowsFront form image held holds)
+    ⊎ ((image : Image) × (fault ≡ tool.WriteFailed) × Spells bytes image × ShowsFront form image.version image held holds)
+
+-- the file's bytes encode an image of version 3, which was drawn; the result is whether it is sound apart from its offers
+abbrev pub DrawsWhole : Form → Option (List ℕ) → Bool → Option (List ℕ) → Option (List ℕ) → Type 0
+DrawsWhole form file sound held holds = (image : WideImage) × EncodesAll file image × (sound ≡ fails_nothing (verdict_on image.image)) × Shows form 3 image.image held holds
+
+-- the file gives no image, or there is no memory, and nothing was written; or a write failed
+abbrev pub EndsWhole : Form → Option (List ℕ) → ToolFault → Option (List ℕ) → Option (List ℕ) → Type 0
+EndsWhole form file fault held holds =
+    (IsFileFault file fault × Keeps held holds)
+    ⊎ ((image : WideImage) × (fault ≡ tool.WriteFailed) × EncodesAll file image × ShowsFront form 3 image.image held holds)
 
 -- ---- Command lines
 
@@ -87,14 +103,33 @@ request_asked words = request_in (matches_of map_app words)
 
 -- ---- Answers
 
--- what was read encodes an image, which was drawn, and it is sound or not; or the file was not read; or what was read
--- is refused
+-- what was read encodes an image of version 1 or 2, which was drawn, and it is sound or not; or the file was not read; or
+-- what was read is refused
+abbrev pub DrawsPlain : Form → Answer → Option (List ℕ) → Option (List ℕ) → Option (List ℕ) → Type 0
+DrawsPlain form Done file held holds = (bytes : List ℕ) × IsRead file bytes × Draws form bytes true held holds
+DrawsPlain form NotSound file held holds = (bytes : List ℕ) × IsRead file bytes × Draws form bytes false held holds
+DrawsPlain form (Failed fault) file held holds = (((fault ≡ tool.NoMemory) ⊎ (fault ≡ tool.ReadFailed)) × Keeps held holds) ⊎ ((bytes : List ℕ) × IsRead file bytes × EndsDrawing form bytes fault held holds)
+DrawsPlain form NotText file held holds = ⊥
+DrawsPlain form (Refused error) file held holds = ⊥
+
+-- the file's bytes encode an image of version 3, which was drawn, and it is sound or not; or they are no such image
+abbrev pub DrawsStored : Form → Answer → Option (List ℕ) → Option (List ℕ) → Option (List ℕ) → Type 0
+DrawsStored form Done file held holds = DrawsWhole form file true held holds
+DrawsStored form NotSound file held holds = DrawsWhole form file false held holds
+DrawsStored form (Failed fault) file held holds = EndsWhole form file fault held holds
+DrawsStored form NotText file held holds = ⊥
+DrawsStored form (Refused error) file held holds = ⊥
+
+-- a file that begins as one of version 3 does, or another
+abbrev pub DrawsAs : Bool → Form → Answer → Option (List ℕ) → Option (List ℕ) → Option (List ℕ) → Type 0
+DrawsAs true form answer file held holds = DrawsStored form answer file held holds
+DrawsAs false form answer file held holds = DrawsPlain form answer file held holds
+
+-- the file was drawn as its first bytes say; or these were not read
 abbrev pub DrawsFile : Form → Answer → Option (List ℕ) → Option (List ℕ) → Option (List ℕ) → Type 0
-DrawsFile form Done remained held holds = (bytes : List ℕ) × IsRead remained bytes × Draws form bytes true held holds
-DrawsFile form NotSound remained held holds = (bytes : List ℕ) × IsRead remained bytes × Draws form bytes false held holds
-DrawsFile form (Failed fault) remained held holds = (((fault ≡ tool.NoMemory) ⊎ (fault ≡ tool.ReadFailed)) × Keeps held holds) ⊎ ((bytes : List ℕ) × IsRead remained bytes × EndsDrawing form bytes fault held holds)
-DrawsFile form NotText remained held holds = ⊥
-DrawsFile form (Refused error) remained held holds = ⊥
+DrawsFile form answer file held holds =
+    ((answer ≡ Failed tool.ReadFailed) × Keeps held holds)
+    ⊎ ((content : Option (List ℕ)) × (whole : Bool) × IsContent file content × SaysWhole whole content × DrawsAs whole form answer content held holds)
 
 -- `clap` takes the words, and the file that they name was drawn, of whose bytes nothing is said; or it refuses them, or
 -- there was no memory for them, and nothing was written

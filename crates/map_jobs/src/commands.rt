@@ -1,22 +1,27 @@
 //! Runs a command line of `memory_map`.
 
 ghost use Rattle.std.specs.Prelude.{◌≡◌, None, map};
-ghost use Rattle.map_jobs.specs.Drawings.{AnswersWords, DrawsFile};
+ghost use Rattle.map_jobs.specs.Drawings.{AnswersWords, DrawsFile, DrawsPlain, DrawsStored};
 ghost use Rattle.map_jobs.specs.Films.{AnswersAll, AnswersFilm};
 
-use crate::drawing::{Form, draw_bytes};
+use crate::drawing::{Form, draw_bytes, draw_whole};
 use crate::films::film_script;
 use crate::jobs::{asks_film, frames_of, request_of};
-use command_answers::{Answer, ToolFault, bytes_of, refuse};
+use command_answers::{Answer, ToolFault, bytes_of, front_of, refuse, says_whole};
 use std::alloc::Global;
 use std::convert::AsStr;
 use std::fs;
 use std::fs::Files;
 use std::io::{Read, Write};
 
-/// Draws the image that a file has.
-fn draw_file<F: Read + Drop, O: Write>(alloc: Global, form: Form, file: F, output: &mut O) -> Answer
-    ensures { DrawsFile form result (F.remaining file) (O.contents output.old) (O.contents output.new) }
+/// Draws the image of version 1 or 2 that a file has.
+fn draw_plain<F: Read + Drop, O: Write>(
+    alloc: Global,
+    form: Form,
+    file: F,
+    output: &mut O,
+) -> Answer
+    ensures { DrawsPlain form result (F.remaining file) (O.contents output.old) (O.contents output.new) }
 {
     let bytes = match bytes_of(alloc, file) {
         Ok(bytes) => bytes,
@@ -26,6 +31,34 @@ fn draw_file<F: Read + Drop, O: Write>(alloc: Global, form: Form, file: F, outpu
         Ok(true) => Answer::Done,
         Ok(false) => Answer::NotSound,
         Err(fault) => Answer::Failed(fault),
+    }
+}
+
+/// Draws the image of version 3 that a file has, piece by piece.
+fn draw_stored<F: Read, O: Write>(alloc: Global, form: Form, file: &mut F, output: &mut O) -> Answer
+    ensures { DrawsStored form result (F.remaining file.old) (O.contents output.old) (O.contents output.new) }
+{
+    match draw_whole(alloc, form, file, output) {
+        Ok(true) => Answer::Done,
+        Ok(false) => Answer::NotSound,
+        Err(fault) => Answer::Failed(fault),
+    }
+}
+
+/// Draws the image that a file has, of the version that its first bytes say.
+fn draw_file<F: Read + Drop, O: Write>(alloc: Global, form: Form, file: F, output: &mut O) -> Answer
+    ensures { DrawsFile form result (F.remaining file) (O.contents output.old) (O.contents output.new) }
+{
+    let mut file = file;
+    let front = match front_of(&mut file) {
+        Ok(front) => front,
+        Err(fault) => return Answer::Failed(fault),
+    };
+    let mut content = front.as_slice().chain(file);
+    if says_whole(front.as_slice()) {
+        draw_stored(alloc, form, &mut content, output)
+    } else {
+        draw_plain(alloc, form, content, output)
     }
 }
 
@@ -48,7 +81,7 @@ fn draw_named<R: AllocGlobal + Files, O: Write>(
 /// with `--svg` as a picture.
 ///
 /// Done where the image is sound, NotSound where it isn't; ReadFailed where the file can't be opened or
-/// read; the other faults are those of `draw_bytes`.
+/// read; the other faults are those of `draw_bytes`, or for an image of version 3 of `draw_whole`.
 pub fn draw<R: AllocGlobal + Files, S: AsStr, O: Write>(
     rt: &R,
     words: &[S],

@@ -10,7 +10,7 @@ mod jobs;
 
 pub use command_answers::{Answer, ToolFault};
 pub use commands::{answer, draw};
-pub use drawing::{Form, draw_bytes};
+pub use drawing::{Form, draw_bytes, draw_whole};
 pub use films::{film_script, write_film};
 pub use jobs::{Request, asks_film, frames_of, request_of};
 pub use script_film::End;

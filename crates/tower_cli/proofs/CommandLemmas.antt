@@ -16,9 +16,9 @@ use Rattle.clap.specs.declared.parser.matches.ArgMatches.TheViews.{out-ArgMatche
 use Rattle.clap.specs.declared.parser.matches.SubCommand.{SubCommand}
 use Rattle.clap.proofs.OnLiterals.{clap_on_literals}
 use Rattle.command_answers.specs.Options.{frames_option, number_named}
-use Rattle.tower_cli.specs.Jobs.{tower_app, run_app, race_app, image_app, check_app, resume_app, rounds_option, job_named}
+use Rattle.tower_cli.specs.Jobs.{tower_app, run_app, race_app, image_app, check_app, resume_app, rounds_option, whole_flag, asks, job_named}
 use Rattle.tower_cli.proofs.JobLemmas.{first_none, second_none}
-use Rattle.tower_cli.proofs.ValueLemmas.{IsHelp, IsNumbered, IsOption, RaceNumbered, run_is_named, race_is_named}
+use Rattle.tower_cli.proofs.ValueLemmas.{IsFlag, IsHelp, IsNumbered, IsOption, RaceNumbered, image_is_named, run_is_named, race_is_named}
 
 -- ---- `help` is never entered
 
@@ -197,6 +197,10 @@ rounds_is : IsOption (codes "rounds") 1 1000 (with_index 1 (filled rounds_option
 unfolding clap_on_literals
 rounds_is = record { id_is = refl; action = refl; parses = refl; case = refl; bare = refl }
 
+whole_is : IsFlag (with_index 1 (filled whole_flag))
+unfolding clap_on_literals
+whole_is = record { action = refl; apart = refl; too = refl }
+
 help_is : IsHelp (with_index 1 (filled help_rule))
 unfolding clap_on_literals
 help_is = record { action = refl; bare = refl }
@@ -214,7 +218,7 @@ enters_known stop stops none =
       aliases = refl;
       runs = run_is_named built_run (with_index 1 (filled frames_option)) (with_index 1 (filled help_rule)) refl frames_is help_is;
       races = race_is_named built_race (with_index 1 (filled frames_option)) (with_index 1 (filled rounds_option)) (with_index 1 (filled help_rule)) refl frames_is rounds_is help_is;
-      images = run_is_named built_image (with_index 1 (filled frames_option)) (with_index 1 (filled help_rule)) refl frames_is help_is;
+      images = image_is_named built_image (with_index 1 (filled frames_option)) (with_index 1 (filled whole_flag)) (with_index 1 (filled help_rule)) refl frames_is whole_is help_is;
     }) stop stops none
 
 pub only_known : (words : List Text) → fault_of tower_app words ≡ [] → IsKnown (subcommand_of tower_app words)

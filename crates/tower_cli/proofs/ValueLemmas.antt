@@ -16,14 +16,15 @@ use Rattle.clap.specs.ValueTests.{accepts, is_numeral}
 use Rattle.clap.specs.Values.{read_as, refused_kind}
 use Rattle.clap.specs.Walk.{Held, Names, Outcome, Row, Rule, Step, Text, Waiting, Walk, after_flag, action_of, after_step, arg_by_id, arg_by_index, arg_by_long, arg_by_short, at_row, attached_value, bundle, bundle_met, bundle_step, default_rows, done, flag_met, has_row, idle, is_pending, long_met, long_or_other, more_values, next, nothing_held, one_of, option, option_met, option_word, plain, plain_word, positional, positional_held, reacted, reading_by, refused, row_text, rows_after, settled, settled_rows, short_met, short_or_plain, subcommand, subcommand_met, subcommand_or_other, takes_several, takes_values, to_positional, trailing, used, used_by_id, value, values_or_missing, waits, walk, walk_from, walked, walked_from, with_default, with_values, without, word_met}
 use Rattle.clap.specs.Simple.{Shape}
+use Rattle.clap.specs.declared.builder.value_parser.Reading.{Reading}
 use Rattle.clap.specs.declared.builder.value_parser.Reading.TheVariants as reading
 use Rattle.clap.specs.declared.builder.value_parser.ValueParser.{ValueParser}
 use Rattle.clap.specs.declared.builder.value_parser.ValueParser.TheVariants as parser
 use Rattle.clap.specs.declared.error.kind.ErrorKind.TheVariants.{DisplayHelp, TooManyValues}
 use Rattle.clap.specs.declared.parser.matches.ValueSource.{ValueSource}
-use Rattle.clap.specs.declared.parser.matches.ValueSource.TheVariants.{CommandLine}
+use Rattle.clap.specs.declared.parser.matches.ValueSource.TheVariants.{CommandLine, DefaultValue}
 use Rattle.clap.specs.declared.builder.action.ArgAction.{ArgAction}
-use Rattle.clap.specs.declared.builder.action.ArgAction.TheVariants.{Help, Set}
+use Rattle.clap.specs.declared.builder.action.ArgAction.TheVariants.{Help, Set, SetTrue}
 use Rattle.clap.proofs.CallerReads.{signed_reads}
 use Rattle.clap.proofs.ValueTestLemmas.{accepts-Accepts}
 use Rattle.clap.proofs.WalkLemmas.{both}
@@ -119,6 +120,13 @@ good_rounds source values rows are good =
     good_at (codes "rounds") (more_values source values) _ rows
     (λ row is own. ((λ named. not_both row.id (codes "rounds") (codes "frames") refl is named, λ named. ((own.1 named).0, both_accepted of_rounds row.values values (own.1 named).1 are)), tt))
     ((λ named. absurd (false≢true named), λ named. (refl, are)), tt) good
+
+-- values of an argument that is neither
+good_other : (id : Text) (how : Reading) (source : ValueSource) (values : List Text) (rows : List Row) → bytes_eq id (codes "frames") ≡ false → bytes_eq id (codes "rounds") ≡ false → Good rows → Good (with_values id how source values rows)
+good_other id how source values rows apart too good =
+    good_at id (more_values source values) _ rows
+    (λ row is own. ((λ named. not_both row.id id (codes "frames") apart is named, λ named. not_both row.id id (codes "rounds") too is named), tt))
+    ((λ named. absurd (false≢true (sym apart ∙ named)), λ named. absurd (false≢true (sym too ∙ named))), tt) good
 
 -- ---- A use of an argument
 
@@ -274,29 +282,33 @@ module _ (s : Shape) (names : Names) (all : AllUseWell s.args_override_self s.ru
 
 -- ---- After the walk
 
--- no argument has a default value
-abbrev pub AllBare : List Rule → Type 0
-AllBare [] = ⊤
-AllBare (a ∷ rules) = (a.defaults ≡ []) × AllBare rules
+-- an argument that was not used keeps rows good
+abbrev pub EndsWell : Rule → Type 0
+EndsWell a = (rows : List Row) → Good rows → Good (with_default rows a)
 
-default_well : (a : Rule) (rows : List Row) → a.defaults ≡ [] → Good rows → Good (with_default rows a)
-default_well a rows bare good = go (has_row a.id rows)
+abbrev pub AllEndWell : List Rule → Type 0
+AllEndWell [] = ⊤
+AllEndWell (a ∷ rules) = EndsWell a × AllEndWell rules
+
+-- one without a default value
+bare_well : (a : Rule) → a.defaults ≡ [] → EndsWell a
+bare_well a bare rows good = go (has_row a.id rows)
   where
     go : (b : Bool) → Good (cond b rows (default_rows a.id (reading_by a) a.defaults rows))
     go true = good
     go false = rw bare good
 
-defaults_well : (rules : List Rule) (rows : List Row) → AllBare rules → Good rows → Good (fold with_default rows rules)
-defaults_well [] rows bare good = good
-defaults_well (a ∷ rules) rows bare good = defaults_well rules (with_default rows a) bare.1 (default_well a rows bare.0 good)
+defaults_well : (rules : List Rule) (rows : List Row) → AllEndWell rules → Good rows → Good (fold with_default rows rules)
+defaults_well [] rows all good = good
+defaults_well (a ∷ rules) rows all good = defaults_well rules (with_default rows a) all.1 (all.0 rows good)
 
 -- a level of the parse without a fault
-level_well : (s : Shape) (words : List Text) → AllUseWell s.args_override_self s.rules → AllBare s.rules → level_fault s [] nothing_held words false [] ≡ [] → Good (rows_after s.rules [] words)
-level_well s words all bare none =
+level_well : (s : Shape) (words : List Text) → AllUseWell s.args_override_self s.rules → AllEndWell s.rules → level_fault s [] nothing_held words false [] ≡ [] → Good (rows_after s.rules [] words)
+level_well s words all ends none =
     let walked_good = walk_well s [] all (walk_from nothing_held) words (first_none _ _ none) tt in
     let end = (walk s.rules [] nothing_held words).held in
     let rest : or_else (settle_fault s.rules s.args_override_self end) _ ≡ [] = second_none _ _ none in
-    defaults_well s.rules (settled s.rules end).rows bare (settled_well s.rules s.args_override_self all end (first_none _ _ rest) walked_good)
+    defaults_well s.rules (settled s.rules end).rows ends (settled_well s.rules s.args_override_self all end (first_none _ _ rest) walked_good)
 
 -- ---- What is read of the rows
 
@@ -370,13 +382,39 @@ pub record IsHelp (a : Rule) : Type 0 where
   pub action : action_of a ≡ Help
   pub bare : a.defaults ≡ []
 
+-- a flag of another name
+pub record IsFlag (a : Rule) : Type 0 where
+  pub action : action_of a ≡ SetTrue
+  pub apart : bytes_eq a.id (codes "frames") ≡ false
+  pub too : bytes_eq a.id (codes "rounds") ≡ false
+
+other_flag_well : (again : Bool) (a : Rule) → IsFlag a → UsesWell again a
+other_flag_well again a is values rows none good =
+    rw is.action (good_other a.id (reading_by a) CommandLine (values_or_missing a values) (without a.id rows) is.apart is.too (good_without a.id rows good))
+
+other_flag_ends_well : (a : Rule) → IsFlag a → EndsWell a
+other_flag_ends_well a is rows good = go (has_row a.id rows) a.defaults
+  where
+    go : (b : Bool) (values : List Text) → Good (cond b rows (default_rows a.id (reading_by a) values rows))
+    go true values = good
+    go false [] = good
+    go false (v ∷ values) = good_other a.id (reading_by a) DefaultValue (v ∷ values) rows is.apart is.too good
+
 -- a subcommand whose arguments are `--frames` and a call for help
 pub run_is_named : (s : Shape) (frames help : Rule) → s.rules ≡ frames ∷ help ∷ [] → IsOption (codes "frames") 0 4294967295 frames → IsHelp help
     → (words : List Text) → level_fault s [] nothing_held words false [] ≡ [] → IsNumbered 0 4294967295 (one_of (codes "frames") (rows_after s.rules [] words))
 run_is_named s frames help rules is asks words none =
     let all : AllUseWell s.args_override_self (frames ∷ help ∷ []) = (frames_well _ frames is, (help_well _ help asks.action, tt)) in
-    let no_defaults : AllBare (frames ∷ help ∷ []) = (is.bare, (asks.bare, tt)) in
-    frames_named _ (level_well s words (subst (AllUseWell s.args_override_self) (sym rules) all) (subst AllBare (sym rules) no_defaults) none)
+    let ends : AllEndWell (frames ∷ help ∷ []) = (bare_well frames is.bare, (bare_well help asks.bare, tt)) in
+    frames_named _ (level_well s words (subst (AllUseWell s.args_override_self) (sym rules) all) (subst AllEndWell (sym rules) ends) none)
+
+-- one whose arguments are `--frames`, a flag and a call for help
+pub image_is_named : (s : Shape) (frames flag help : Rule) → s.rules ≡ frames ∷ flag ∷ help ∷ [] → IsOption (codes "frames") 0 4294967295 frames → IsFlag flag → IsHelp help
+    → (words : List Text) → level_fault s [] nothing_held words false [] ≡ [] → IsNumbered 0 4294967295 (one_of (codes "frames") (rows_after s.rules [] words))
+image_is_named s frames flag help rules is flags asks words none =
+    let all : AllUseWell s.args_override_self (frames ∷ flag ∷ help ∷ []) = (frames_well _ frames is, (other_flag_well _ flag flags, (help_well _ help asks.action, tt))) in
+    let ends : AllEndWell (frames ∷ flag ∷ help ∷ []) = (bare_well frames is.bare, (other_flag_ends_well flag flags, (bare_well help asks.bare, tt))) in
+    frames_named _ (level_well s words (subst (AllUseWell s.args_override_self) (sym rules) all) (subst AllEndWell (sym rules) ends) none)
 
 abbrev pub RaceNumbered : List Row → Type 0
 RaceNumbered rows = IsNumbered 0 4294967295 (one_of (codes "frames") rows) × IsNumbered 1 1000 (one_of (codes "rounds") rows)
@@ -386,6 +424,6 @@ pub race_is_named : (s : Shape) (frames rounds help : Rule) → s.rules ≡ fram
     → (words : List Text) → level_fault s [] nothing_held words false [] ≡ [] → RaceNumbered (rows_after s.rules [] words)
 race_is_named s frames rounds help rules is too asks words none =
     let all : AllUseWell s.args_override_self (frames ∷ rounds ∷ help ∷ []) = (frames_well _ frames is, (rounds_well _ rounds too, (help_well _ help asks.action, tt))) in
-    let no_defaults : AllBare (frames ∷ rounds ∷ help ∷ []) = (is.bare, (too.bare, (asks.bare, tt))) in
-    let good = level_well s words (subst (AllUseWell s.args_override_self) (sym rules) all) (subst AllBare (sym rules) no_defaults) none in
+    let ends : AllEndWell (frames ∷ rounds ∷ help ∷ []) = (bare_well frames is.bare, (bare_well rounds too.bare, (bare_well help asks.bare, tt))) in
+    let good = level_well s words (subst (AllUseWell s.args_override_self) (sym rules) all) (subst AllEndWell (sym rules) ends) none in
     (frames_named _ good, rounds_named _ good)

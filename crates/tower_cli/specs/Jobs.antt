@@ -10,15 +10,19 @@ use Rattle.clap.specs.declared.builder.value_parser.ValueParser.TheVariants as p
 use Rattle.command_answers.specs.Files.{file_argument, file_in}
 use Rattle.command_answers.specs.Options.{frames_option, frames_in, number_in}
 use Rattle.tower_cli.specs.declared.jobs.Job.{Job}
-use Rattle.tower_cli.specs.declared.jobs.Job.TheVariants.{Run, Race, Image, Check, Resume, ResumeImage}
+use Rattle.tower_cli.specs.declared.jobs.Job.TheVariants.{Run, Race, Image, Whole, Check, Resume, ResumeImage}
 
 -- tower run [--frames N]
 abbrev pub run_app : App
 run_app = with_rule (new_app (codes "run")) frames_option
 
--- tower image [--frames N]
+-- --whole
+abbrev pub whole_flag : Rule
+whole_flag = record (new_rule (codes "whole")) { long = Some (codes "whole"); action = Some SetTrue }
+
+-- tower image [--frames N] [--whole]
 abbrev pub image_app : App
-image_app = with_rule (new_app (codes "image")) frames_option
+image_app = with_rule (with_rule (new_app (codes "image")) frames_option) whole_flag
 
 -- tower check FILE
 abbrev pub check_app : App
@@ -60,6 +64,7 @@ rounds_in rows = option_and_then playable (number_in (codes "rounds") 100 rows)
 pub data Asked : Type 0 where
   a_run : ℕ → Asked
   an_image : ℕ → Asked
+  a_whole : ℕ → Asked
   a_check : Text → Asked
   a_resume : Text → Asked
   a_resumed_image : Text → Asked
@@ -69,6 +74,7 @@ pub data Asked : Type 0 where
 abbrev pub as_asked : Job → Asked
 as_asked (Run frames) = a_run frames
 as_asked (Image frames) = an_image frames
+as_asked (Whole frames) = a_whole frames
 as_asked (Check file) = a_check file.now
 as_asked (Resume file) = a_resume file.now
 as_asked (ResumeImage file) = a_resumed_image file.now
@@ -78,20 +84,24 @@ as_asked (Race frames rounds) = a_race frames rounds
 abbrev pub race_in : List Row → Option Asked
 race_in rows = option_and_then (λ frames. option_map (λ rounds. a_race frames rounds) (rounds_in rows)) (frames_in rows)
 
--- whether `--image` is among the arguments
-abbrev pub asks_image : List Row → Bool
-asks_image rows = option_map_or (λ text. bytes_eq text (codes "true")) (option_and_then (λ (values : List Text). slice_get values 0) (all_of (codes "image") rows)) false
+-- whether the flag of that name is among the arguments
+abbrev pub asks : Text → List Row → Bool
+asks name rows = option_map_or (λ text. bytes_eq text (codes "true")) (option_and_then (λ (values : List Text). slice_get values 0) (all_of name rows)) false
+
+-- the image of a run's last state on a machine of so many frames: of version 2, or with `--whole` of version 3
+abbrev pub image_in : List Row → Option Asked
+image_in rows = option_map (λ frames. if asks (codes "whole") rows then a_whole frames else an_image frames) (frames_in rows)
 
 -- a run on the machine of an image, for its replies or for the image of its last state
 abbrev pub resume_in : List Row → Asked
-resume_in rows = if asks_image rows then a_resumed_image (file_in rows) else a_resume (file_in rows)
+resume_in rows = if asks (codes "image") rows then a_resumed_image (file_in rows) else a_resume (file_in rows)
 
 -- the job of a subcommand's name and of the arguments after it
 abbrev pub job_named : Text → List Row → Option Asked
 job_named name rows =
     if bytes_eq name (codes "run") then option_map (λ frames. a_run frames) (frames_in rows) else
     if bytes_eq name (codes "race") then race_in rows else
-    if bytes_eq name (codes "image") then option_map (λ frames. an_image frames) (frames_in rows) else
+    if bytes_eq name (codes "image") then image_in rows else
     if bytes_eq name (codes "check") then Some (a_check (file_in rows)) else
     if bytes_eq name (codes "resume") then Some (resume_in rows) else
     None
@@ -105,6 +115,7 @@ job_asked (Some found) = job_named found.0 found.1
 abbrev pub HasRounds : Job → Type 0
 HasRounds (Run frames) = Unit {0}
 HasRounds (Image frames) = Unit {0}
+HasRounds (Whole frames) = Unit {0}
 HasRounds (Check file) = Unit {0}
 HasRounds (Resume file) = Unit {0}
 HasRounds (ResumeImage file) = Unit {0}

@@ -4,7 +4,7 @@ ghost use Rattle.std.specs.Prelude.{◌≡◌, ◌≤◌, true, false, map, opti
 ghost use Rattle.clap.specs.Words.{app_of, fault_of, found_of, kind_of, rows_of, rule_of, subcommand_of, takes, with_subcommand, FailsBy};
 ghost use Rattle.clap.specs.declared.builder.command.Command.TheViews.{out-Command as fields_of};
 ghost use Rattle.command_answers.specs.Options.{frames_option, frames_in, number_in};
-ghost use Rattle.tower_cli.specs.Jobs.{tower_app, run_app, race_app, image_app, check_app, resume_app, image_flag, rounds_option, playable, rounds_in, race_in, asks_image, resume_in, job_named, job_asked, as_asked, HasRounds};
+ghost use Rattle.tower_cli.specs.Jobs.{tower_app, run_app, race_app, image_app, check_app, resume_app, image_flag, whole_flag, rounds_option, playable, rounds_in, race_in, asks, image_in, resume_in, job_named, job_asked, as_asked, HasRounds};
 
 use clap::error::ErrorKind;
 use clap::{Arg, ArgAction, ArgMatches, Command, Error};
@@ -20,13 +20,15 @@ const ROUNDS: u32 = 100;
 pub enum Job<'a> {
     /// To run a script on a machine of so many frames.
     Run { frames: u32 },
-    /// To write the image of the state that a script ends in, on a machine of so many frames.
+    /// To write the image of version 2 of the state that a script ends in, on a machine of so many frames.
     Image { frames: u32 },
+    /// To write the image of version 3 of the machine that a script leaves, of so many frames.
+    Whole { frames: u32 },
     /// To check the image in a file of that name.
     Check { file: &'a str },
     /// To run a script on the machine of the image in a file of that name.
     Resume { file: &'a str },
-    /// To run a script on such a machine, and write the image of the state that it ends in.
+    /// To run a script on such a machine, and write the image of the machine that it leaves, of the file's version.
     ResumeImage { file: &'a str },
     /// To play so many rounds of a race, 1 to 1000, each on a machine of so many frames.
     Race { frames: u32, rounds: u32 },
@@ -54,14 +56,26 @@ fn run_command<'a>(alloc: Global) -> Result<Command<'a>, AllocError>
         .arg(frames_option(alloc))
 }
 
-/// `image [--frames N]`.
+/// `--whole`.
+fn whole_flag<'a>(alloc: Global) -> Arg<'a>
+    ensures rule { rule_of result ≡ whole_flag }
+    ensures local { result.global ≡ false }
+{
+    Arg::new(alloc, "whole")
+        .long("whole")
+        .action(ArgAction::SetTrue)
+        .help("Writes version 3, with pending offers; frames may be up to 1048576")
+}
+
+/// `image [--frames N] [--whole]`.
 fn image_command<'a>(alloc: Global) -> Result<Command<'a>, AllocError>
     ensures app { IfOk result (λ command. app_of command ≡ image_app) }
     ensures globals { IfOk result (λ command. (fields_of command).has_globals ≡ false) }
 {
     Command::new(alloc, "image")
         .about("Runs a script from standard input, and writes the image of its last state")
-        .arg(frames_option(alloc))
+        .arg(frames_option(alloc))?
+        .arg(whole_flag(alloc))
 }
 
 /// `check FILE`.
@@ -157,13 +171,26 @@ fn race_in<'a>(matches: &ArgMatches<'a>) -> Option<Job<'a>>
     Some(Job::Race { frames, rounds })
 }
 
-/// Whether `--image` is among the arguments.
-fn asks_image(matches: &ArgMatches<'_>) -> bool
-    ensures { result ≡ asks_image (rows_of (found_of matches.now)) }
+/// Whether the flag of that name is among the arguments.
+fn asks(matches: &ArgMatches<'_>, name: &str) -> bool
+    ensures { result ≡ asks name.now (rows_of (found_of matches.now)) }
 {
-    match matches.get_str("image") {
+    match matches.get_str(name) {
         Some(text) => text == "true",
         None => false,
+    }
+}
+
+/// A run for the image of its last state, of version 2, or with `--whole` of version 3.
+fn image_in<'a>(matches: &ArgMatches<'a>) -> Option<Job<'a>>
+    ensures job { option_map as_asked result ≡ image_in (rows_of (found_of matches.now)) }
+    ensures rounds { IfSome result HasRounds }
+{
+    let frames = frames_in(matches)?;
+    if asks(matches, "whole") {
+        Some(Job::Whole { frames })
+    } else {
+        Some(Job::Image { frames })
     }
 }
 
@@ -173,7 +200,7 @@ fn resume_in<'a>(matches: &ArgMatches<'a>) -> Job<'a>
     ensures rounds { HasRounds result }
 {
     let file = file_in(matches);
-    if asks_image(matches) {
+    if asks(matches, "image") {
         Job::ResumeImage { file }
     } else {
         Job::Resume { file }
@@ -191,10 +218,7 @@ fn job_named<'a>(name: &str, matches: &ArgMatches<'a>) -> Option<Job<'a>>
             Some(Job::Run { frames })
         }
         "race" => race_in(matches),
-        "image" => {
-            let frames = frames_in(matches)?;
-            Some(Job::Image { frames })
-        }
+        "image" => image_in(matches),
         "check" => {
             let file = file_in(matches);
             Some(Job::Check { file })

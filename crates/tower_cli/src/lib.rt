@@ -8,4 +8,4 @@ mod whole;
 
 pub use images::{check_bytes, restore_bytes, write_resumed_image, write_script_image};
 pub use jobs::{Job, job_of};
-pub use whole::{check_whole, restore_whole, write_resumed_whole};
+pub use whole::{check_whole, restore_whole, write_resumed_whole, write_script_whole};

@@ -1,70 +1,42 @@
 //! The commands on images of version 3, which have a machine of any size with its offers.
 
-ghost use Rattle.std.specs.Prelude.{◌≡◌, ◌≢◌, ◌⊎◌, ◌++◌, [], ◌∷◌, codes, decimal, min, IfOk, IfErr, IfSome, IfNone, OnOk, OnErr};
+ghost use Rattle.std.specs.Prelude.{◌≡◌, ◌≢◌, ◌≤◌, ◌↔◌, IfOk, IfErr, IfSome, IfNone, IsErrOf, OnOk, OnErr};
 ghost use Rattle.std.specs.Io.KnownBytes.{Appends};
 ghost use Rattle.text_output.specs.Output.{AppendsFront};
-ghost use Rattle.arrayvec.specs.ArrayVec.{array_vec_len};
 ghost use Rattle.memory_image.specs.Sound.{IsSound};
-ghost use Rattle.image_restore.specs.Resumed.{IsSoundWide};
+ghost use Rattle.image_restore.specs.Resumed.{IsSoundWide, RefusesOffer};
+ghost use Rattle.process_table.specs.State.{open_with};
+ghost use Rattle.command_answers.specs.Faults.{IsFileFault};
 ghost use Rattle.image_check.specs.Text.{verdict_text};
 ghost use Rattle.image_check.specs.Told.{fails_nothing};
 ghost use Rattle.tower_cli.specs.Images.{EndsScript};
-ghost use Rattle.tower_cli.specs.Whole.{ChecksWhole, EndsCheckWhole, EndsIn, EndsWhole, IsFileFault, RestoresWhole, WritesWhole, offer_line, tool_of_whole, RefusedOffer};
+ghost use Rattle.tower_cli.specs.Whole.{ChecksWhole, EndsCheckWhole, EndsIn, EndsScriptWhole, EndsWhole, FailsToWrite, IsBootFault, RestoresWhole, WritesWhole, offer_line};
 
 use arrayvec::ArrayVec;
 use command_answers::ToolFault;
 use image_check::{Verdict, check_by_ref};
 use image_restore::{WideRestoreFault, restore_wide};
-use kernel_calls::Core;
+use kernel_calls::{Core, Reply, WideFault};
 use memory_image::NoMemory;
-use script_run::{ScriptFault, resume_script};
+use script_run::{Block, ScriptFault, push_reply_line, resume_script};
 use std::alloc::Global;
 use std::io;
 use std::io::{Read, Write};
 use text_output::{WriteFailed, push_number, push_word, write_whole};
-use wide_image::{
-    StoreFault, WideImage, WideImageFault, WideReadFault, read_wide_image_from, write_core,
-};
-
-/// A place in 32 bits: the highest number for one that needs more.
-fn short_place(offset: u64) -> u32
-    ensures { result ≡ min offset 4294967295 }
-{
-    if offset < 4_294_967_295 {
-        offset as u32
-    } else {
-        4_294_967_295
-    }
-}
-
-/// The fault of a program whose file gives no image of version 3.
-fn tool_of_whole(fault: WideReadFault) -> ToolFault
-    ensures is { result ≡ tool_of_whole fault }
-    ensures file { IsFileFault result }
-{
-    match fault {
-        WideReadFault::ReadFailed => ToolFault::ReadFailed,
-        WideReadFault::NotRead(WideImageFault::NotImage) => ToolFault::NotImage,
-        WideReadFault::NotRead(WideImageFault::BadLength) => ToolFault::BadLength,
-        WideReadFault::NotRead(WideImageFault::BadVersion) => ToolFault::BadVersion,
-        WideReadFault::NotRead(WideImageFault::BadField { offset }) => ToolFault::BadField {
-            offset: short_place(offset),
-        },
-        WideReadFault::NotRead(WideImageFault::NoMemory) => ToolFault::NoMemory,
-    }
-}
+use wide_image::{StoreFault, WideImage, read_wide_image_from, write_core};
 
 /// Makes the core of the image of version 3 that a file has, with its offers; None if it isn't sound.
 ///
 /// ReadFailed if a read fails. NotImage, BadVersion, BadLength and BadField if the bytes are no such image, by the first
 /// reason in the order in which they are read. NoMemory if there is none for the image, its check or the core.
+#[tactic(auto, using(command_answers::proofs::FileFaults::file_fault))]
 pub fn restore_whole<F: Read>(alloc: Global, file: &mut F) -> Result<Option<Core>, ToolFault>
     ensures restored { IfOk result (RestoresWhole (F.remaining file.old)) }
-    ensures fault { IfErr result IsFileFault }
+    ensures fault { IfErr result (IsFileFault (F.remaining file.old)) }
 {
     let image = match read_wide_image_from(alloc, file) {
         Ok(image) => image,
-        Err(fault) => return Err(tool_of_whole(fault)),
+        Err(fault) => return Err(ToolFault::from(fault)),
     };
     match restore_wide(alloc, image) {
         Ok(core) => Ok(Some(core)),
@@ -74,12 +46,12 @@ pub fn restore_whole<F: Read>(alloc: Global, file: &mut F) -> Result<Option<Core
     }
 }
 
-/// The number of the first offer that the machine refuses, of an image that is sound apart from its offers; None if it
-/// refuses none.
-fn refused_offer(alloc: Global, image: WideImage) -> Result<Option<u32>, NoMemory>
+/// The first offer that the machine refuses, by its number, and the reply, of an image that is sound apart from its
+/// offers; None if it refuses none.
+fn refused_offer(alloc: Global, image: WideImage) -> Result<Option<(u32, Reply)>, NoMemory>
     requires { IsSound image.image }
-    ensures sound { IfOk result (λ number. IfNone number (IsSoundWide image)) }
-    ensures refused { IfOk result (λ number. IfSome number (RefusedOffer image)) }
+    ensures sound { IfOk result (λ found. IfNone found (IsSoundWide image)) }
+    ensures refused { IfOk result (λ found. IfSome found (λ offer. RefusesOffer image offer.0 offer.1)) }
 {
     image.within();
     match restore_wide(alloc, image) {
@@ -87,28 +59,31 @@ fn refused_offer(alloc: Global, image: WideImage) -> Result<Option<u32>, NoMemor
             core.stands();
             Ok(None)
         }
-        Err(WideRestoreFault::BadOffer { number, reply: _ }) => Ok(Some(number)),
+        Err(WideRestoreFault::BadOffer { number, reply }) => Ok(Some((number, reply))),
         Err(WideRestoreFault::NotSound(_)) => unreachable!(),
         Err(WideRestoreFault::NoMemory) => Err(NoMemory),
     }
 }
 
 /// The line of an offer that the machine refuses.
-fn offer_line(number: u32) -> ArrayVec<u8, 32>
-    ensures { result.items ≡ offer_line number }
+#[tactic(auto, unfolding(crate::specs::Whole::offer_line))]
+fn offer_line(number: u32, reply: &Reply) -> Block
+    ensures { result.items ≡ offer_line number reply.now }
 {
     let mut line = ArrayVec::new();
     push_number(&mut line, "offer ", number);
-    push_word(&mut line, "\n");
+    push_word(&mut line, " ");
+    push_reply_line(&mut line, reply);
     line
 }
 
 /// Writes the line of an offer that the machine refuses.
-fn write_offer<W: Write>(number: u32, writer: &mut W) -> Result<(), WriteFailed>
-    ensures ok { OnOk result (Appends (W.contents writer.old) (W.contents writer.new) (offer_line number)) }
-    ensures err { OnErr result (AppendsFront (W.contents writer.old) (W.contents writer.new) (offer_line number)) }
+fn write_offer<W: Write>(number: u32, reply: &Reply, writer: &mut W) -> Result<(), WriteFailed>
+    ensures ok { OnOk result (Appends (W.contents writer.old) (W.contents writer.new) (offer_line number reply.now)) }
+    ensures err { OnErr result (AppendsFront (W.contents writer.old) (W.contents writer.new)
+        (offer_line number reply.now)) }
 {
-    write_whole(writer, offer_line(number).as_slice())
+    write_whole(writer, offer_line(number, reply).as_slice())
 }
 
 /// Writes a verdict, and returns whether no clause fails.
@@ -117,7 +92,7 @@ fn write_offer<W: Write>(number: u32, writer: &mut W) -> Result<(), WriteFailed>
 fn tell_verdict<W: Write>(verdict: &Verdict, writer: &mut W) -> Result<bool, ToolFault>
     ensures told { IfOk result (λ sound. (sound ≡ fails_nothing verdict.now)
         × Appends (W.contents writer.old) (W.contents writer.new) (verdict_text verdict.now)) }
-    ensures fault { IfErr result (λ fault. EndsCheckWhole fault (W.contents writer.old) (W.contents writer.new)) }
+    ensures fault { IfErr result (λ fault. FailsToWrite fault (W.contents writer.old) (W.contents writer.new)) }
 {
     match verdict.write_text(writer) {
         Ok(()) => Ok(verdict.sound()),
@@ -126,10 +101,11 @@ fn tell_verdict<W: Write>(verdict: &Verdict, writer: &mut W) -> Result<bool, Too
 }
 
 /// Reads the image of version 3 that a file has, writes the verdict on it, and returns whether it is sound, offers included.
-/// If only an offer is refused, it writes `offer` and the number of the first.
+/// If only an offer is refused, it writes `offer`, the number of the first, and the reply.
 ///
 /// The faults of `restore_whole`, with which nothing is written. WriteFailed comes last, and what was written is then a
 /// front of the text.
+#[tactic(auto, using(command_answers::proofs::FileFaults::file_fault))]
 pub fn check_whole<F: Read, W: Write>(
     alloc: Global,
     file: &mut F,
@@ -137,11 +113,12 @@ pub fn check_whole<F: Read, W: Write>(
 ) -> Result<bool, ToolFault>
     ensures told { IfOk result (λ sound. ChecksWhole (F.remaining file.old) sound (W.contents writer.old)
         (W.contents writer.new)) }
-    ensures fault { IfErr result (λ fault. EndsCheckWhole fault (W.contents writer.old) (W.contents writer.new)) }
+    ensures fault { IfErr result (λ fault. EndsCheckWhole (F.remaining file.old) fault (W.contents writer.old)
+        (W.contents writer.new)) }
 {
     let image = match read_wide_image_from(alloc, file) {
         Ok(image) => image,
-        Err(fault) => return Err(tool_of_whole(fault)),
+        Err(fault) => return Err(ToolFault::from(fault)),
     };
     let Ok(verdict) = check_by_ref(alloc, &image.image()) else {
         return Err(ToolFault::NoMemory);
@@ -153,11 +130,11 @@ pub fn check_whole<F: Read, W: Write>(
         Ok(refused) => refused,
         Err(_) => return Err(ToolFault::NoMemory),
     };
-    let number = match refused {
-        Some(number) => number,
+    let offer = match refused {
+        Some(offer) => offer,
         None => return tell_verdict(&verdict, writer),
     };
-    match write_offer(number, writer) {
+    match write_offer(offer.0, &offer.1, writer) {
         Ok(()) => Ok(false),
         Err(_) => Err(ToolFault::WriteFailed),
     }
@@ -198,5 +175,47 @@ pub fn write_resumed_whole<R: Read, W: Write>(
         Ok(()) => Ok(()),
         Err(StoreFault::NoMemory) => Err(ScriptFault::NoMemory),
         Err(StoreFault::WriteFailed) => Err(ScriptFault::WriteFailed),
+    }
+}
+
+/// A machine of so many frames, 16 to 1,048,576.
+///
+/// BadWideSize for another number of frames, else NoMemory if there is none for them.
+fn booted(alloc: Global, frames: u32) -> Result<Core, ToolFault>
+    ensures opening { IfOk result (λ core. core.state ≡ open_with frames) }
+    ensures size { IsErrOf result ToolFault.BadWideSize ↔ (16 ≤ frames → frames ≤ 1048576 → ⊥) }
+    ensures fault { IfErr result IsBootFault }
+{
+    match Core::boot_wide(alloc, frames) {
+        Ok(core) => Ok(core),
+        Err(WideFault::BadSize) => Err(ToolFault::BadWideSize),
+        Err(WideFault::NoMemory) => Err(ToolFault::NoMemory),
+    }
+}
+
+/// Runs a script on a freshly booted machine of so many frames, 16 to 1,048,576. It writes the image of version 3 of the
+/// machine that the script leaves, with its pending offers, in place of replies.
+///
+/// BadWideSize for another number of frames. The other faults are those of `write_resumed_whole`; NoMemory comes also if
+/// there is none for the frames. Before the script ends, nothing is written.
+pub fn write_script_whole<R: Read, W: Write>(
+    alloc: Global,
+    reader: &mut R,
+    writer: &mut W,
+    frames: u32,
+) -> Result<(), ToolFault>
+    ensures size { IsErrOf result ToolFault.BadWideSize ↔ (16 ≤ frames → frames ≤ 1048576 → ⊥) }
+    ensures image { OnOk result (WritesWhole (open_with frames) (R.remaining reader.old) (W.contents writer.old)
+        (W.contents writer.new)) }
+    ensures fault { IfErr result (λ fault. EndsScriptWhole (open_with frames) fault (R.remaining reader.old)
+        (R.remaining reader.new) (W.contents writer.old) (W.contents writer.new)) }
+{
+    let core = match booted(alloc, frames) {
+        Ok(core) => core,
+        Err(fault) => return Err(fault),
+    };
+    match write_resumed_whole(alloc, core, reader, writer) {
+        Ok(()) => Ok(()),
+        Err(fault) => Err(ToolFault::from(fault)),
     }
 }

@@ -1,7 +1,7 @@
 -- The answer to a command line, and what was read and written for each answer.
 --     DoesJob asked answer ..      what a job with that answer read and wrote
 --     AnswersWords words answer ..      what a command line with that answer read and wrote
-use Rattle.std.specs.Prelude.{◌≡◌, ◌≢◌, ◌⊎◌, ℕ, List, true, false, Option, Some, None, IfSome}
+use Rattle.std.specs.Prelude.{◌≡◌, ◌≢◌, ◌⊎◌, ℕ, Bool, List, true, false, Option, Some, None, IfSome}
 use Rattle.std.specs.Io.KnownBytes.{Appends, Keeps}
 use Rattle.clap.specs.Words.{HasKind, fault_of as clap_faults, subcommand_of}
 use Rattle.clap.specs.declared.error.Error.{Error}
@@ -12,14 +12,15 @@ use Rattle.script_run.specs.Script.{events_of, replies_text}
 use Rattle.script_run.specs.declared.faults.ScriptFault.{ScriptFault}
 use Rattle.script_run.specs.declared.faults.ScriptFault.TheVariants as script
 use Rattle.command_answers.specs.Answers.{Refuses}
-use Rattle.command_answers.specs.Faults.{tool_of_script}
-use Rattle.command_answers.specs.Files.{IsRead}
+use Rattle.command_answers.specs.Faults.{IsFileFault, tool_of_script}
+use Rattle.command_answers.specs.Files.{IsContent, IsRead, SaysWhole}
 use Rattle.command_answers.specs.declared.answers.Answer.{Answer}
 use Rattle.command_answers.specs.declared.answers.Answer.TheVariants.{Done, NotSound, Failed, NotText, Refused}
 use Rattle.command_answers.specs.declared.faults.ToolFault.{ToolFault}
 use Rattle.command_answers.specs.declared.faults.ToolFault.TheVariants as tool
 use Rattle.tower_cli.specs.Images.{Checks, EndsCheck, EndsImage, EndsRestore, IsWhole, Restores, WritesImage}
-use Rattle.tower_cli.specs.Jobs.{Asked, a_run, an_image, a_check, a_resume, a_resumed_image, a_race, job_asked, tower_app}
+use Rattle.tower_cli.specs.Whole.{ChecksWhole, EndsCheckWhole, EndsScriptWhole, EndsWhole, RestoresWhole, WritesWhole}
+use Rattle.tower_cli.specs.Jobs.{Asked, a_run, an_image, a_whole, a_check, a_resume, a_resumed_image, a_race, job_asked, tower_app}
 use Rattle.tower_jobs.specs.Races.{EndsRace, Writes}
 
 -- ---- Jobs
@@ -40,25 +41,74 @@ ImagesScript frames NotSound remained remains held holds = ⊥
 ImagesScript frames NotText remained remains held holds = ⊥
 ImagesScript frames (Refused error) remained remains held holds = ⊥
 
--- what was read encodes an image, and it is sound or not; or the file was not read; or what was read is refused
-abbrev pub ChecksFile : Answer → Option (List ℕ) → Option (List ℕ) → Option (List ℕ) → Type 0
-ChecksFile Done remained held holds = (bytes : List ℕ) × IsRead remained bytes × Checks bytes true held holds
-ChecksFile NotSound remained held holds = (bytes : List ℕ) × IsRead remained bytes × Checks bytes false held holds
-ChecksFile (Failed fault) remained held holds = (((fault ≡ tool.NoMemory) ⊎ (fault ≡ tool.ReadFailed)) × Keeps held holds) ⊎ ((bytes : List ℕ) × IsRead remained bytes × EndsCheck bytes fault held holds)
-ChecksFile NotText remained held holds = ⊥
-ChecksFile (Refused error) remained held holds = ⊥
+-- the image of version 3 of the machine that it leaves was written of a whole script, or the run ended by the fault
+abbrev pub StoresScript : ℕ → Answer → Option (List ℕ) → Option (List ℕ) → Option (List ℕ) → Option (List ℕ) → Type 0
+StoresScript frames Done remained remains held holds = WritesWhole (open_with frames) remained held holds
+StoresScript frames (Failed fault) remained remains held holds = EndsScriptWhole (open_with frames) fault remained remains held holds
+StoresScript frames NotSound remained remains held holds = ⊥
+StoresScript frames NotText remained remains held holds = ⊥
+StoresScript frames (Refused error) remained remains held holds = ⊥
 
--- what was read of a file encodes an image of which this core was made
-abbrev pub HasCore : Option (List ℕ) → View → Type 0
-HasCore file core = (bytes : List ℕ) × IsRead file bytes × Restores bytes (Some core)
+-- ---- Files
+
+-- what was read encodes an image of version 1 or 2, and it is sound or not; or the file was not read; or what was read
+-- is refused
+abbrev pub ChecksPlain : Answer → Option (List ℕ) → Option (List ℕ) → Option (List ℕ) → Type 0
+ChecksPlain Done file held holds = (bytes : List ℕ) × IsRead file bytes × Checks bytes true held holds
+ChecksPlain NotSound file held holds = (bytes : List ℕ) × IsRead file bytes × Checks bytes false held holds
+ChecksPlain (Failed fault) file held holds = (((fault ≡ tool.NoMemory) ⊎ (fault ≡ tool.ReadFailed)) × Keeps held holds) ⊎ ((bytes : List ℕ) × IsRead file bytes × EndsCheck bytes fault held holds)
+ChecksPlain NotText file held holds = ⊥
+ChecksPlain (Refused error) file held holds = ⊥
+
+-- the file's bytes encode an image of version 3, and it is sound or not, offers included; or they are no such image
+abbrev pub ChecksStored : Answer → Option (List ℕ) → Option (List ℕ) → Option (List ℕ) → Type 0
+ChecksStored Done file held holds = ChecksWhole file true held holds
+ChecksStored NotSound file held holds = ChecksWhole file false held holds
+ChecksStored (Failed fault) file held holds = EndsCheckWhole file fault held holds
+ChecksStored NotText file held holds = ⊥
+ChecksStored (Refused error) file held holds = ⊥
+
+-- a file that begins as one of version 3 does, or another
+abbrev pub ChecksAs : Bool → Answer → Option (List ℕ) → Option (List ℕ) → Option (List ℕ) → Type 0
+ChecksAs true answer file held holds = ChecksStored answer file held holds
+ChecksAs false answer file held holds = ChecksPlain answer file held holds
+
+-- the file was checked as its first bytes say; or these were not read
+abbrev pub ChecksFile : Answer → Option (List ℕ) → Option (List ℕ) → Option (List ℕ) → Type 0
+ChecksFile answer file held holds =
+    ((answer ≡ Failed tool.ReadFailed) × Keeps held holds)
+    ⊎ ((content : Option (List ℕ)) × (whole : Bool) × IsContent file content × SaysWhole whole content × ChecksAs whole answer content held holds)
+
+-- a file's bytes encode an image of version 3 of which this core was made, with its offers; or what was read of it
+-- encodes one of version 2 of which it was made
+abbrev pub HasCoreAs : Bool → Option (List ℕ) → View → Type 0
+HasCoreAs true file core = RestoresWhole file (Some core)
+HasCoreAs false file core = (bytes : List ℕ) × IsRead file bytes × Restores bytes (Some core)
+
+-- the core of a file's image, which is of version 3 or not, as the first bytes say
+abbrev pub HasCore : Bool → Option (List ℕ) → View → Type 0
+HasCore whole file core = (content : Option (List ℕ)) × IsContent file content × SaysWhole whole content × HasCoreAs whole content core
 
 -- why no core came of a file: its image isn't sound; or it was not read, or what was read is refused
+abbrev pub LacksAs : Bool → Option (List ℕ) → Answer → Type 0
+LacksAs true file NotSound = RestoresWhole file None
+LacksAs true file (Failed fault) = IsFileFault file fault
+LacksAs true file Done = ⊥
+LacksAs true file NotText = ⊥
+LacksAs true file (Refused error) = ⊥
+LacksAs false file NotSound = (bytes : List ℕ) × IsRead file bytes × Restores bytes None
+LacksAs false file (Failed fault) = ((fault ≡ tool.NoMemory) ⊎ (fault ≡ tool.ReadFailed)) ⊎ ((bytes : List ℕ) × IsRead file bytes × EndsRestore bytes fault)
+LacksAs false file Done = ⊥
+LacksAs false file NotText = ⊥
+LacksAs false file (Refused error) = ⊥
+
+-- the same of a file as its first bytes say; or these were not read
 abbrev pub HasNoCore : Option (List ℕ) → Answer → Type 0
-HasNoCore file NotSound = (bytes : List ℕ) × IsRead file bytes × Restores bytes None
-HasNoCore file (Failed fault) = ((fault ≡ tool.NoMemory) ⊎ (fault ≡ tool.ReadFailed)) ⊎ ((bytes : List ℕ) × IsRead file bytes × EndsRestore bytes fault)
-HasNoCore file Done = ⊥
-HasNoCore file NotText = ⊥
-HasNoCore file (Refused error) = ⊥
+HasNoCore file answer =
+    (answer ≡ Failed tool.ReadFailed)
+    ⊎ ((content : Option (List ℕ)) × (whole : Bool) × IsContent file content × SaysWhole whole content × LacksAs whole content answer)
+
+-- ---- Scripts that resume
 
 -- the replies were written of a whole script, from a state on, or the run ended by the fault
 abbrev pub ResumesScript : State → Answer → Option (List ℕ) → Option (List ℕ) → Option (List ℕ) → Option (List ℕ) → Type 0
@@ -76,14 +126,28 @@ ImagesResumed begun NotSound remained remains held holds = ⊥
 ImagesResumed begun NotText remained remains held holds = ⊥
 ImagesResumed begun (Refused error) remained remains held holds = ⊥
 
+-- the image of version 3 of the machine that it leaves was written of a whole script, from a state on, or the run ended by
+-- the fault
+abbrev pub ImagesWhole : State → Answer → Option (List ℕ) → Option (List ℕ) → Option (List ℕ) → Option (List ℕ) → Type 0
+ImagesWhole begun Done remained remains held holds = WritesWhole begun remained held holds
+ImagesWhole begun (Failed fault) remained remains held holds = (ended : ScriptFault) × (ended ≢ script.BadSize) × (fault ≡ tool_of_script ended) × EndsWhole begun ended remained remains held holds
+ImagesWhole begun NotSound remained remains held holds = ⊥
+ImagesWhole begun NotText remained remains held holds = ⊥
+ImagesWhole begun (Refused error) remained remains held holds = ⊥
+
+-- the image is of version 3, or of version 2
+abbrev pub ImagesAs : Bool → State → Answer → Option (List ℕ) → Option (List ℕ) → Option (List ℕ) → Option (List ℕ) → Type 0
+ImagesAs true begun answer remained remains held holds = ImagesWhole begun answer remained remains held holds
+ImagesAs false begun answer remained remains held holds = ImagesResumed begun answer remained remains held holds
+
 -- No core came of the file, and nothing was read of the script or written. Or a core came of it, from whose state the
 -- script ran.
 abbrev pub ResumesFile : Answer → Option (List ℕ) → Option (List ℕ) → Option (List ℕ) → Option (List ℕ) → Option (List ℕ) → Type 0
-ResumesFile answer file remained remains held holds = (HasNoCore file answer × Keeps remained remains × Keeps held holds) ⊎ ((core : View) × HasCore file core × ResumesScript core.state answer remained remains held holds)
+ResumesFile answer file remained remains held holds = (HasNoCore file answer × Keeps remained remains × Keeps held holds) ⊎ ((core : View) × (whole : Bool) × HasCore whole file core × ResumesScript core.state answer remained remains held holds)
 
--- No core came of the file, as above. Or a core came of it, and the script ran for the image of its last state.
+-- No core came of the file, as above. Or a core came of it, and the script ran for an image of the file's version.
 abbrev pub ImagesFile : Answer → Option (List ℕ) → Option (List ℕ) → Option (List ℕ) → Option (List ℕ) → Option (List ℕ) → Type 0
-ImagesFile answer file remained remains held holds = (HasNoCore file answer × Keeps remained remains × Keeps held holds) ⊎ ((core : View) × HasCore file core × ImagesResumed core.state answer remained remains held holds)
+ImagesFile answer file remained remains held holds = (HasNoCore file answer × Keeps remained remains × Keeps held holds) ⊎ ((core : View) × (whole : Bool) × HasCore whole file core × ImagesAs whole core.state answer remained remains held holds)
 
 -- all rounds were played and their text written, or the race ended by the fault
 abbrev pub PlaysRace : ℕ → ℕ → Answer → Option (List ℕ) → Option (List ℕ) → Type 0
@@ -97,6 +161,7 @@ PlaysRace frames rounds (Refused error) held holds = ⊥
 abbrev pub DoesJob : Asked → Answer → Option (List ℕ) → Option (List ℕ) → Option (List ℕ) → Option (List ℕ) → Type 0
 DoesJob (a_run frames) answer remained remains held holds = RunsScript frames answer remained remains held holds
 DoesJob (an_image frames) answer remained remains held holds = ImagesScript frames answer remained remains held holds
+DoesJob (a_whole frames) answer remained remains held holds = StoresScript frames answer remained remains held holds
 DoesJob (a_check file) answer remained remains held holds = ChecksFile answer None held holds
 DoesJob (a_resume file) answer remained remains held holds = ResumesFile answer None remained remains held holds
 DoesJob (a_resumed_image file) answer remained remains held holds = ImagesFile answer None remained remains held holds

@@ -54,6 +54,7 @@ fault_of_round round.Failed = tool.RaceFailed
 abbrev pub EndsRace : ℕ → ℕ → ToolFault → Option (List ℕ) → Option (List ℕ) → Type 0
 EndsRace frames rounds tool.WriteFailed held holds = (rows : List (Option Row)) × Raced frames rounds rows × AppendsFront held holds (race_text rounds rows)
 EndsRace frames rounds tool.BadSize held holds = Keeps held holds
+EndsRace frames rounds tool.BadWideSize held holds = ⊥
 EndsRace frames rounds (tool.Malformed line) held holds = ⊥
 EndsRace frames rounds tool.TooLong held holds = ⊥
 EndsRace frames rounds tool.ReadFailed held holds = ⊥

@@ -1,11 +1,11 @@
 //! The jobs, each with the answer that comes of it.
 
-ghost use Rattle.std.specs.Prelude.{◌≤◌, None, IfOk, IfErr, map};
-ghost use Rattle.tower_jobs.specs.Answers.{AnswersWords, ChecksFile, DoesJob, HasCore, HasNoCore, ImagesFile, ImagesResumed, ImagesScript, PlaysRace, ResumesFile, ResumesScript, RunsScript};
+ghost use Rattle.std.specs.Prelude.{◌≡◌, ◌≤◌, true, false, None, IfOk, IfErr, map};
+ghost use Rattle.tower_jobs.specs.Answers.{AnswersWords, ChecksFile, ChecksPlain, ChecksStored, DoesJob, HasCore, HasCoreAs, HasNoCore, ImagesAs, ImagesFile, ImagesResumed, ImagesScript, ImagesWhole, LacksAs, PlaysRace, ResumesFile, ResumesScript, RunsScript, StoresScript};
 ghost use Rattle.tower_cli.specs.Jobs.{HasRounds, as_asked};
 
 use crate::races::race;
-use command_answers::{Answer, ToolFault, bytes_of, refuse};
+use command_answers::{Answer, ToolFault, bytes_of, front_of, refuse, says_whole};
 use kernel_calls::Core;
 use script_run::{resume_script, run_script};
 use std::alloc::Global;
@@ -15,7 +15,10 @@ use std::fs::Files;
 use std::io::{Read, Write};
 use std::sync::Wait;
 use std::thread::Threads;
-use tower_cli::{Job, check_bytes, job_of, restore_bytes, write_resumed_image, write_script_image};
+use tower_cli::{
+    Job, check_bytes, check_whole, job_of, restore_bytes, restore_whole, write_resumed_image,
+    write_resumed_whole, write_script_image, write_script_whole,
+};
 
 /// Runs a script on a machine of so many frames, and writes its replies.
 fn run_replies<I: Read, O: Write>(
@@ -33,7 +36,7 @@ fn run_replies<I: Read, O: Write>(
     }
 }
 
-/// Runs a script on a machine of so many frames, and writes the image of its last state.
+/// Runs a script on a machine of so many frames, and writes the image of version 2 of its last state.
 fn write_image_of<I: Read, O: Write>(
     alloc: Global,
     input: &mut I,
@@ -49,10 +52,26 @@ fn write_image_of<I: Read, O: Write>(
     }
 }
 
-/// Checks the image that a file has, and writes the verdict on it. Of the file no more is read than one
-/// byte more than the largest image has.
-fn check_file<F: Read + Drop, O: Write>(alloc: Global, file: F, output: &mut O) -> Answer
-    ensures { ChecksFile result (F.remaining file) (O.contents output.old) (O.contents output.new) }
+/// Runs a script on a machine of so many frames, and writes the image of version 3 of the machine that it leaves.
+fn write_whole_of<I: Read, O: Write>(
+    alloc: Global,
+    input: &mut I,
+    output: &mut O,
+    frames: u32,
+) -> Answer
+    ensures { StoresScript frames result (I.remaining input.old) (I.remaining input.new) (O.contents output.old)
+        (O.contents output.new) }
+{
+    match write_script_whole(alloc, input, output, frames) {
+        Ok(()) => Answer::Done,
+        Err(fault) => Answer::Failed(fault),
+    }
+}
+
+/// Checks the image of version 1 or 2 that a file has, and writes the verdict on it. Of the file no more is read than
+/// one byte more than the largest such image has.
+fn check_plain<F: Read + Drop, O: Write>(alloc: Global, file: F, output: &mut O) -> Answer
+    ensures { ChecksPlain result (F.remaining file) (O.contents output.old) (O.contents output.new) }
 {
     let bytes = match bytes_of(alloc, file) {
         Ok(bytes) => bytes,
@@ -62,6 +81,34 @@ fn check_file<F: Read + Drop, O: Write>(alloc: Global, file: F, output: &mut O) 
         Ok(true) => Answer::Done,
         Ok(false) => Answer::NotSound,
         Err(fault) => Answer::Failed(fault),
+    }
+}
+
+/// Checks the image of version 3 that a file has, piece by piece, and writes the verdict on it.
+fn check_stored<F: Read, O: Write>(alloc: Global, file: &mut F, output: &mut O) -> Answer
+    ensures { ChecksStored result (F.remaining file.old) (O.contents output.old) (O.contents output.new) }
+{
+    match check_whole(alloc, file, output) {
+        Ok(true) => Answer::Done,
+        Ok(false) => Answer::NotSound,
+        Err(fault) => Answer::Failed(fault),
+    }
+}
+
+/// Checks the image that a file has, of the version that its first bytes say, and writes the verdict on it.
+fn check_file<F: Read + Drop, O: Write>(alloc: Global, file: F, output: &mut O) -> Answer
+    ensures { ChecksFile result (F.remaining file) (O.contents output.old) (O.contents output.new) }
+{
+    let mut file = file;
+    let front = match front_of(&mut file) {
+        Ok(front) => front,
+        Err(fault) => return Answer::Failed(fault),
+    };
+    let mut content = front.as_slice().chain(file);
+    if says_whole(front.as_slice()) {
+        check_stored(alloc, &mut content, output)
+    } else {
+        check_plain(alloc, content, output)
     }
 }
 
@@ -75,26 +122,66 @@ fn check_named<R: AllocGlobal + Files, O: Write>(rt: &R, name: &str, output: &mu
     }
 }
 
-/// The core of the image that a file has, or why there is none. Of the file no more is read than one byte more than the
-/// largest image has.
-fn core_in<F: Read + Drop>(alloc: Global, file: F) -> Result<Core, Answer>
-    ensures core { IfOk result (HasCore (F.remaining file)) }
-    ensures none { IfErr result (HasNoCore (F.remaining file)) }
+/// A core that came of an image.
+#[derive(Drop)]
+struct Resumed {
+    core: Core,
+    /// Whether the image is of version 3.
+    whole: bool,
+}
+
+/// The core of the image of version 1 or 2 that a file has, or why there is none. Of the file no more is read than one
+/// byte more than the largest such image has.
+fn plain_core<F: Read + Drop>(alloc: Global, file: F) -> Result<Resumed, Answer>
+    ensures core { IfOk result (λ resumed. HasCoreAs resumed.whole (F.remaining file) resumed.core) }
+    ensures plain { IfOk result (λ resumed. resumed.whole ≡ false) }
+    ensures none { IfErr result (LacksAs false (F.remaining file)) }
 {
     let bytes = match bytes_of(alloc, file) {
         Ok(bytes) => bytes,
         Err(fault) => return Err(Answer::Failed(fault)),
     };
     match restore_bytes(alloc, bytes.as_slice()) {
-        Ok(Some(core)) => Ok(core),
+        Ok(Some(core)) => Ok(Resumed { core, whole: false }),
         Ok(None) => Err(Answer::NotSound),
         Err(fault) => Err(Answer::Failed(fault)),
     }
 }
 
+/// The core of the image of version 3 that a file has, with its offers, or why there is none.
+fn stored_core<F: Read>(alloc: Global, file: &mut F) -> Result<Resumed, Answer>
+    ensures core { IfOk result (λ resumed. HasCoreAs resumed.whole (F.remaining file.old) resumed.core) }
+    ensures whole { IfOk result (λ resumed. resumed.whole ≡ true) }
+    ensures none { IfErr result (LacksAs true (F.remaining file.old)) }
+{
+    match restore_whole(alloc, file) {
+        Ok(Some(core)) => Ok(Resumed { core, whole: true }),
+        Ok(None) => Err(Answer::NotSound),
+        Err(fault) => Err(Answer::Failed(fault)),
+    }
+}
+
+/// The core of the image that a file has, of the version that its first bytes say, or why there is none.
+fn core_in<F: Read + Drop>(alloc: Global, file: F) -> Result<Resumed, Answer>
+    ensures core { IfOk result (λ resumed. HasCore resumed.whole (F.remaining file) resumed.core) }
+    ensures none { IfErr result (HasNoCore (F.remaining file)) }
+{
+    let mut file = file;
+    let front = match front_of(&mut file) {
+        Ok(front) => front,
+        Err(fault) => return Err(Answer::Failed(fault)),
+    };
+    let mut content = front.as_slice().chain(file);
+    if says_whole(front.as_slice()) {
+        stored_core(alloc, &mut content)
+    } else {
+        plain_core(alloc, content)
+    }
+}
+
 /// The core of the image in the file of that name; ReadFailed where it can't be opened.
-fn core_named<R: AllocGlobal + Files>(rt: &R, name: &str) -> Result<Core, Answer>
-    ensures core { IfOk result (HasCore None) }
+fn core_named<R: AllocGlobal + Files>(rt: &R, name: &str) -> Result<Resumed, Answer>
+    ensures core { IfOk result (λ resumed. HasCore resumed.whole None resumed.core) }
     ensures none { IfErr result (HasNoCore None) }
 {
     match fs::open(rt, name) {
@@ -119,8 +206,8 @@ fn resume_replies<I: Read, O: Write>(
     }
 }
 
-/// Runs a script on a core, and writes the image of its last state.
-fn resume_image<I: Read, O: Write>(
+/// Runs a script on a core, and writes the image of version 2 of its last state.
+fn resume_plain<I: Read, O: Write>(
     alloc: Global,
     core: Core,
     input: &mut I,
@@ -135,6 +222,39 @@ fn resume_image<I: Read, O: Write>(
     }
 }
 
+/// Runs a script on a core, and writes the image of version 3 of the machine that it leaves.
+fn resume_stored<I: Read, O: Write>(
+    alloc: Global,
+    core: Core,
+    input: &mut I,
+    output: &mut O,
+) -> Answer
+    ensures { ImagesWhole core.state result (I.remaining input.old) (I.remaining input.new) (O.contents output.old)
+        (O.contents output.new) }
+{
+    match write_resumed_whole(alloc, core, input, output) {
+        Ok(()) => Answer::Done,
+        Err(fault) => Answer::Failed(ToolFault::from(fault)),
+    }
+}
+
+/// Runs a script on a core that came of an image, and writes an image of that version.
+fn resume_image<I: Read, O: Write>(
+    alloc: Global,
+    resumed: Resumed,
+    input: &mut I,
+    output: &mut O,
+) -> Answer
+    ensures { ImagesAs resumed.whole resumed.core.state result (I.remaining input.old) (I.remaining input.new)
+        (O.contents output.old) (O.contents output.new) }
+{
+    if resumed.whole {
+        resume_stored(alloc, resumed.core, input, output)
+    } else {
+        resume_plain(alloc, resumed.core, input, output)
+    }
+}
+
 /// Runs a script on the machine of the image in the file of that name, and writes its replies.
 fn resume_named<R: AllocGlobal + Files, I: Read, O: Write>(
     rt: &R,
@@ -146,12 +266,12 @@ fn resume_named<R: AllocGlobal + Files, I: Read, O: Write>(
         (O.contents output.new) }
 {
     match core_named(rt, name) {
-        Ok(core) => resume_replies(rt.alloc(), core, input, output),
+        Ok(resumed) => resume_replies(rt.alloc(), resumed.core, input, output),
         Err(answer) => answer,
     }
 }
 
-/// Runs a script on such a machine, and writes the image of its last state.
+/// Runs a script on such a machine, and writes the image of the machine that it leaves, of the file's version.
 fn image_named<R: AllocGlobal + Files, I: Read, O: Write>(
     rt: &R,
     name: &str,
@@ -162,7 +282,7 @@ fn image_named<R: AllocGlobal + Files, I: Read, O: Write>(
         (O.contents output.new) }
 {
     match core_named(rt, name) {
-        Ok(core) => resume_image(rt.alloc(), core, input, output),
+        Ok(resumed) => resume_image(rt.alloc(), resumed, input, output),
         Err(answer) => answer,
     }
 }
@@ -198,6 +318,7 @@ fn answer_job<R: AllocGlobal + Files + Threads + Wait + Sync, I: Read, O: Write>
     match job {
         Job::Run { frames } => run_replies(rt.alloc(), input, output, frames),
         Job::Image { frames } => write_image_of(rt.alloc(), input, output, frames),
+        Job::Whole { frames } => write_whole_of(rt.alloc(), input, output, frames),
         Job::Check { file } => check_named(rt, file, output),
         Job::Resume { file } => resume_named(rt, file, input, output),
         Job::ResumeImage { file } => image_named(rt, file, input, output),

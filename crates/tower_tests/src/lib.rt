@@ -16,3 +16,5 @@ mod race_tests;
 mod resume_tests;
 #[cfg(test)]
 mod status_tests;
+#[cfg(test)]
+mod whole_tests;

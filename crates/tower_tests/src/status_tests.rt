@@ -143,7 +143,9 @@ fn each_fault_has_its_text_and_status(rt: HostRuntime) {
     let field = ToolFault::BadField { offset: 1548 };
     let field_line = "tower: bad field at byte 1548\n";
     let turns = "tower: race ran out of turns\n";
+    let wide = "tower: frames must be 16 to 1048576\n";
     check_fault(&rt, ToolFault::BadSize, 2, BAD_SIZE);
+    check_fault(&rt, ToolFault::BadWideSize, 2, wide);
     check_fault(&rt, ToolFault::NoMemory, 1, "tower: out of memory\n");
     check_fault(&rt, malformed, 2, "tower: line 7 is malformed\n");
     check_fault(&rt, ToolFault::TooLong, 2, "tower: script is too long\n");

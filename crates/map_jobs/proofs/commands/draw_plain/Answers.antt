@@ -1,7 +1,7 @@
 use Rattle.std.proofs.Common.{ℕ, Bool, List, inl, inr, subst}
 use Rattle.command_answers.proofs.Writers.{keeps_itself}
 use Rattle.map_jobs.specs.Drawings.{Draws, EndsDrawing}
-use Rattle.map_jobs.proofs.commands.draw_file.Goals as goal
+use Rattle.map_jobs.proofs.commands.draw_plain.Goals as goal
 
 pub returns-in-Err : goal.returns-in-Err
 returns-in-Err g c = inl (c.in-Err.ensures.fault, keeps_itself (g.O.Write.contents c.args.output.now))
