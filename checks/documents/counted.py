@@ -178,11 +178,10 @@ def unlike_texts():
     model = re.sub(r"\{\w+\}", "N", page("checks/model/machine.py"))
     used = ("BadSize", "Malformed", "TooLong")
     yield from (f"machine.py: the text of {name}" for name in used if f'"tower: {texts[name]}"' not in model)
-    wide = "frames must be {} to {}".format(
-        of("page_words", "addresses", "MIN_FRAMES"), of("page_words", "addresses", "WIDE_FRAMES")
-    )
+    most = "{} to {}".format(of("page_words", "addresses", "MIN_FRAMES"), of("page_words", "addresses", "WIDE_FRAMES"))
+    known = {texts["BadSize"], f"frames must be {most}", f"{texts['BadSize']}, of a wide kernel {most}"}
     for path in (pathlib.Path(ROOT / "examples/rust/src/core.rs"), *sorted(CRATES.glob("*/src/*faults.rt"))):
-        others = {"".join(it) for it in REFUSAL.findall(path.read_text())} - {texts["BadSize"], wide}
+        others = {"".join(it) for it in REFUSAL.findall(path.read_text())} - known
         yield from (f"{path.relative_to(ROOT)}: the text '{it}'" for it in sorted(others))
 
 

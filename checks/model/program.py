@@ -8,6 +8,7 @@ from pathlib import Path
 
 import machine
 import memory
+import stored
 
 ROOT = Path(__file__).resolve().parent.parent.parent
 sys.path.append(str(ROOT / "tools"))
@@ -52,6 +53,46 @@ class Image:
         """The processes as a film's rows have them."""
         both = zip(self.containers, self.directories)
         return [f"{it.parent},{it.quota},{it.used},{it.given},{at}" if it else "-" for it, at in both]
+
+
+class WholeImage:
+    """The content of an image of version 3 (docs/IMAGES.md), in the same form. A frame that isn't stored is free."""
+
+    def __init__(self, image):
+        refused = stored.refusal(image)
+        if refused:
+            raise ValueError(f"no image of version 3: {refused}")
+        self.frames, self.offers = stored.word_at(image, 8), stored.offers(image)
+        records = [struct.unpack_from("<6I", image, RECORDS + 24 * number) for number in range(machine.PROCESSES)]
+        self.containers = [memory.Container(*record[1:5]) if record[0] else None for record in records]
+        self.directories = [record[5] if record[0] else None for record in records]
+        begins = stored.FRONT + stored.OFFER * len(self.offers)
+        self.image = image
+        self.places = {stored.word_at(image, at): at for at in range(begins, len(image), stored.RECORD)}
+        self.roles = [self.role(frame) for frame in range(self.frames)]
+
+    def role(self, frame):
+        place = self.places.get(frame)
+        return memory.FREE if place is None else memory.Role(*stored.words_at(self.image, place + 4, 4))
+
+    def page(self, frame):
+        place = self.places.get(frame)
+        return memory.ZEROS if place is None else self.image[place + 20 : place + stored.RECORD]
+
+    def word(self, frame, index):
+        return struct.unpack_from("<I", self.page(frame), 4 * index)[0]
+
+
+def whole_differs(state, image):
+    """How an image of version 3 differs from a state, offers included, or None."""
+    try:
+        seen = WholeImage(image)
+    except (ValueError, struct.error) as fault:
+        return str(fault)
+    offers = [stored.Offer(*key, int(right)) for key, right in sorted(state.offers.items())]
+    if seen.offers != offers:
+        return f"the image has the offers {seen.offers}, not {offers}"
+    return memory.difference(state, seen)
 
 
 def program_here(check):

@@ -1,6 +1,8 @@
 /* Each allocation of each function of the C library that makes one is refused in turn. The function then returns that
- * there is no memory, leaves the handle and the number of blocks as they were, and succeeds at the next call. Prints how
- * many allocations each makes. The status is 1 at the first that does otherwise. checks/programs/fail_alloc runs it. */
+ * there is no memory, leaves the handle and the number of blocks as they were, and answers at the next call as it does
+ * with memory. Where no allocation is refused, it never returns that: checks and restores of damaged images name the
+ * damage. Prints how many allocations each makes. The status is 1 at the first that does otherwise.
+ * checks/programs/fail_alloc runs it. */
 #include <stdio.h>
 #include <string.h>
 
@@ -9,11 +11,21 @@
 #include "tower_images.h"
 
 enum { FRAMES = 32, LENGTH = TOWER_IMAGE_LENGTH(FRAMES), NONE = -1 };
+/* The bytes of an image that are changed (docs/IMAGES.md): of its version, of process 0, of the page of its offer, and
+ * the first of frame 0 in each version. */
+enum { VERSION = 4, ACCOUNT = 12 + 8, OFFERED = 1556 + 4, ZERO = 1548 + 16 * FRAMES, WHOLE_ZERO = 1556 + 16 + 20 };
 
-static uint8_t image[LENGTH], bytes[LENGTH];
+/* What is changed of an image: its last byte is missing, the charge of process 0 or a byte of frame 0 is another, it is
+ * of version 1, its offer is of a page that isn't mapped. */
+enum damage { SOUND, CUT, PROCESS, FRAME, OLD, OFFER };
+
+static uint8_t image[LENGTH], bytes[LENGTH], front[LENGTH];
 /* of version 3, with an offer */
-static uint8_t whole[LENGTH], front[LENGTH];
+static uint8_t whole[LENGTH];
 static size_t whole_length;
+/* what is checked and restored: one of these two, damaged or not */
+static uint8_t given[LENGTH];
+static size_t given_length;
 static struct tower tower = TOWER_NONE;
 
 static void need(bool holds, const char *name, const char *what) {
@@ -43,12 +55,12 @@ static uint32_t check(void) {
 
 static uint32_t check_bytes(void) {
     struct tower_verdict verdict = {0};
-    return tower_check_bytes(image, LENGTH, &verdict);
+    return tower_check_bytes(given, given_length, &verdict);
 }
 
 static uint32_t restore(void) {
     struct tower_verdict verdict = {0};
-    return tower_restore(image, LENGTH, &tower, &verdict);
+    return tower_restore(given, given_length, &tower, &verdict);
 }
 
 static uint32_t store_front(void) {
@@ -58,31 +70,60 @@ static uint32_t store_front(void) {
 
 static uint32_t check_whole(void) {
     struct tower_verdict verdict = {0};
-    return tower_check_whole(whole, whole_length, &verdict);
+    return tower_check_whole(given, given_length, &verdict);
 }
 
 static uint32_t restore_whole(void) {
     struct tower_verdict verdict = {0};
-    return tower_restore_whole(whole, whole_length, &tower, &verdict);
+    return tower_restore_whole(given, given_length, &tower, &verdict);
 }
 
-/* A function, what it returns where there is no memory, and whether it makes a core. It returns 0 where it succeeds. */
+/* A function, what it returns where there is no memory, whether it makes a core, what it is given, and what it returns
+ * with memory. */
 static const struct trial {
     const char *name;
     uint32_t (*call)(void);
     uint32_t no_memory;
-    bool makes_core;
+    bool makes_core, is_whole;
+    enum damage damage;
+    uint32_t status;
 } trials[] = {
-    {"tower_boot", boot, TOWER_NO_MEMORY, true},
-    {"tower_boot_wide", boot_wide, TOWER_NO_MEMORY, true},
-    {"tower_image", write_image, TOWER_IMAGE_NO_MEMORY, false},
-    {"tower_check", check, TOWER_CHECK_NO_MEMORY, false},
-    {"tower_check_bytes", check_bytes, TOWER_CHECK_NO_MEMORY, false},
-    {"tower_restore", restore, TOWER_RESTORE_NO_MEMORY, true},
-    {"tower_store_front", store_front, TOWER_STORE_NO_MEMORY, false},
-    {"tower_check_whole", check_whole, TOWER_CHECK_NO_MEMORY, false},
-    {"tower_restore_whole", restore_whole, TOWER_RESTORE_NO_MEMORY, true},
+    {"tower_boot", boot, TOWER_NO_MEMORY, true, false, SOUND, TOWER_BOOTED},
+    {"tower_boot_wide", boot_wide, TOWER_NO_MEMORY, true, false, SOUND, TOWER_BOOTED},
+    {"tower_image", write_image, TOWER_IMAGE_NO_MEMORY, false, false, SOUND, TOWER_IMAGE_WRITTEN},
+    {"tower_store_front", store_front, TOWER_STORE_NO_MEMORY, false, false, SOUND, TOWER_STORED},
+    {"tower_check", check, TOWER_CHECK_NO_MEMORY, false, false, SOUND, TOWER_SOUND},
+    {"tower_check_bytes", check_bytes, TOWER_CHECK_NO_MEMORY, false, false, SOUND, TOWER_SOUND},
+    {"tower_check_bytes, cut", check_bytes, TOWER_CHECK_NO_MEMORY, false, false, CUT, TOWER_NOT_IMAGE},
+    {"tower_check_bytes, process", check_bytes, TOWER_CHECK_NO_MEMORY, false, false, PROCESS, TOWER_PROCESS_FAILS},
+    {"tower_check_bytes, frame", check_bytes, TOWER_CHECK_NO_MEMORY, false, false, FRAME, TOWER_FRAME_FAILS},
+    {"tower_restore", restore, TOWER_RESTORE_NO_MEMORY, true, false, SOUND, TOWER_RESTORED},
+    {"tower_restore, cut", restore, TOWER_RESTORE_NO_MEMORY, true, false, CUT, TOWER_NOT_IMAGE},
+    {"tower_restore, process", restore, TOWER_RESTORE_NO_MEMORY, true, false, PROCESS, TOWER_PROCESS_FAILS},
+    {"tower_restore, frame", restore, TOWER_RESTORE_NO_MEMORY, true, false, FRAME, TOWER_FRAME_FAILS},
+    {"tower_restore, old", restore, TOWER_RESTORE_NO_MEMORY, true, false, OLD, TOWER_RESTORE_OLD_WORDS},
+    {"tower_check_whole", check_whole, TOWER_CHECK_NO_MEMORY, false, true, SOUND, TOWER_SOUND},
+    {"tower_check_whole, cut", check_whole, TOWER_CHECK_NO_MEMORY, false, true, CUT, TOWER_NOT_IMAGE},
+    {"tower_check_whole, process", check_whole, TOWER_CHECK_NO_MEMORY, false, true, PROCESS, TOWER_PROCESS_FAILS},
+    {"tower_check_whole, frame", check_whole, TOWER_CHECK_NO_MEMORY, false, true, FRAME, TOWER_FRAME_FAILS},
+    {"tower_check_whole, offer", check_whole, TOWER_CHECK_NO_MEMORY, false, true, OFFER, TOWER_OFFER_REFUSED},
+    {"tower_restore_whole", restore_whole, TOWER_RESTORE_NO_MEMORY, true, true, SOUND, TOWER_RESTORED},
+    {"tower_restore_whole, cut", restore_whole, TOWER_RESTORE_NO_MEMORY, true, true, CUT, TOWER_NOT_IMAGE},
+    {"tower_restore_whole, process", restore_whole, TOWER_RESTORE_NO_MEMORY, true, true, PROCESS, TOWER_PROCESS_FAILS},
+    {"tower_restore_whole, frame", restore_whole, TOWER_RESTORE_NO_MEMORY, true, true, FRAME, TOWER_FRAME_FAILS},
+    {"tower_restore_whole, offer", restore_whole, TOWER_RESTORE_NO_MEMORY, true, true, OFFER, TOWER_OFFER_REFUSED},
 };
+
+/* Makes the image that a function is given. */
+static void give(const struct trial *it) {
+    memcpy(given, it->is_whole ? whole : image, LENGTH);
+    given_length = it->is_whole ? whole_length : LENGTH;
+    given_length -= it->damage == CUT;
+    given[VERSION] = it->damage == OLD ? 1 : given[VERSION];
+    given[ACCOUNT] ^= it->damage == PROCESS;
+    given[it->is_whole ? WHOLE_ZERO : ZERO] ^= it->damage == FRAME;
+    given[OFFERED] ^= it->damage == OFFER;
+}
 
 static bool is_done(struct tower_event event) {
     struct tower_reply reply;
@@ -121,7 +162,8 @@ static bool refuses(const struct trial *it, long which) {
         status = it->call();
     }
     heap_refused = NONE;
-    need(status == 0, it->name, "it succeeds with memory");
+    need(status == it->status, it->name, "it answers with memory as it is to");
+    need(tower.live == (was_live || (it->makes_core && status == 0)), it->name, "it makes a core if it is to");
     if (it->makes_core) {
         tower_free(&tower);
     }
@@ -137,6 +179,7 @@ int main(void) {
     tower_free(&tower);
     for (size_t at = 0; at < sizeof trials / sizeof *trials; at++) {
         long which = 0;
+        give(&trials[at]);
         if (!trials[at].makes_core) {
             open_core();
         }

@@ -36,6 +36,12 @@ def pairs_of(text):
             yield Pair(file, inside, old, rest.removeprefix(" "))
 
 
+def is_whole(edit):
+    """Whether each line of a mutant is of one of these kinds, and each of its pairs changes something."""
+    lines = (line for line in edit.split("\n") if line)
+    return all(re.match(r"(file|in|old|new):", it) for it in lines) and all(it.old != it.new for it in pairs_of(edit))
+
+
 def first_line(lines, function):
     """The line at which a function's attributes and docstring begin."""
     at = function.head
