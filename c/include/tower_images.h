@@ -36,6 +36,10 @@ enum tower_check_status {
     TOWER_NOT_IMAGE = 5,      /* the first reason against the bytes is `clause`, a tower_image_fault */
 };
 
+/* A status of tower_check_whole and tower_restore_whole: the machine refuses the image's offer `number`, counted from 0.
+ * Of the other statuses these have the same as tower_check_bytes and tower_restore, without TOWER_RESTORE_OLD_WORDS. */
+#define TOWER_OFFER_REFUSED 8
+
 enum tower_image_fault {
     TOWER_FAULT_NOT_IMAGE = 1,
     TOWER_FAULT_BAD_LENGTH = 2,
@@ -91,8 +95,8 @@ static inline const char *tower_clause_name(uint32_t status, uint32_t clause) {
     return is_clause ? names[status - TOWER_PROCESS_FAILS][clause - 1] : "";
 }
 
-/* Writes the verdict with a status of 0 or 3 to 5 as `tower check` prints it, such as "sound", "process 3 P2", "frame 9
- * F4" or "bad field at byte 16". With any other status the text is empty. The rest is as in tower_text.h. */
+/* Writes the verdict with a status of 0, 3 to 5 or 8 as `tower check` prints it, such as "sound", "process 3 P2", "frame 9
+ * F4", "bad field at byte 16" or "offer 2". With any other status the text is empty. The rest is as in tower_text.h. */
 static inline size_t tower_verdict_text(uint32_t status, const struct tower_verdict *verdict, char *to, size_t size) {
     static const char *const faults[] = {"not an image", "wrong image length", "unknown image version",
                                          "bad field at byte"};
@@ -109,6 +113,9 @@ static inline size_t tower_verdict_text(uint32_t status, const struct tower_verd
         if (verdict->clause == TOWER_FAULT_BAD_FIELD) {
             tower_put_decimal(&text, verdict->number);
         }
+    } else if (status == TOWER_OFFER_REFUSED) {
+        tower_put_letters(&text, "offer");
+        tower_put_decimal(&text, verdict->number);
     }
     return tower_end_text(&text);
 }
@@ -158,7 +165,8 @@ TOWER_NODISCARD uint32_t tower_restore(const uint8_t *bytes, size_t byte_count, 
 
 /* ---- Images of version 3: a core of any size, with its pending offers. Free frames are not stored. */
 
-/* How many bytes the record of a frame has. */
+/* How many bytes an image with that many offers begins with, up to the records of frames; and how many a record has. */
+#define TOWER_FRONT_LENGTH(offers) ((size_t)1556 + (size_t)16 * (offers))
 #define TOWER_RECORD_BYTES 4116
 
 /* The statuses of tower_store_front and tower_store_frame. */
@@ -169,10 +177,6 @@ enum tower_store_status {
     TOWER_STORE_TOO_SHORT = 3,
     TOWER_STORE_FREE_FRAME = 4, /* the frame is free, or there is none of that number: it has no record */
 };
-
-/* A status of tower_check_whole and tower_restore_whole: the machine refuses the image's offer `number`, counted from 0.
- * Of the other statuses these have the same as tower_check_bytes and tower_restore, without TOWER_RESTORE_OLD_WORDS. */
-#define TOWER_OFFER_REFUSED 8
 
 /* The name of a status of tower_store_front and tower_store_frame; "" for a number that is no status. */
 static inline const char *tower_store_status_name(uint32_t status) {

@@ -38,6 +38,11 @@ static inline const char *tower_restore_over_status_name(uint32_t status) {
     return status == TOWER_RESTORE_BAD_BLOCK ? "BadBlock" : tower_restore_status_name(status);
 }
 
+/* The name of a status of tower_restore_whole_over; "" for a number that is no status. */
+static inline const char *tower_restore_whole_over_status_name(uint32_t status) {
+    return status == TOWER_RESTORE_BAD_BLOCK ? "BadBlock" : tower_whole_status_name(status);
+}
+
 #ifdef __cplusplus
 }
 #endif

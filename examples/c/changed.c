@@ -14,7 +14,7 @@
 #include "heap.h"
 #include "tower_images.h"
 
-enum { FRAMES = 20, OFFERS = 3, FRONT = 1556 + 16 * OFFERS, MOST = FRONT + TOWER_RECORD_BYTES * FRAMES, PAGE = 4096 };
+enum { FRAMES = 20, OFFERS = 3, FRONT = TOWER_FRONT_LENGTH(OFFERS), MOST = FRONT + TOWER_RECORD_BYTES * FRAMES, PAGE = 4096 };
 enum { COUNT_AT = 8, FIRST = TOWER_FIRST_PAGE };
 
 static uint8_t image[MOST], again[MOST];

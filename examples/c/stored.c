@@ -18,7 +18,7 @@
 #include "tower_region_images.h"
 
 enum { FRAMES = TOWER_WIDE_FRAMES, USED = 2560, CHILD = 1, OFFERED = TOWER_OFFERS, SECONDS = 2, BESIDE = 64 << 20 };
-enum { FRONT = 1556 + 16 * OFFERED, LENGTH = FRONT + TOWER_RECORD_BYTES * USED };
+enum { FRONT = TOWER_FRONT_LENGTH(OFFERED), LENGTH = FRONT + TOWER_RECORD_BYTES * USED };
 enum { PAGES = USED - 6 /* frame 0, two directories, three tables */ };
 
 static uint8_t *zeros, *zeros_end;
