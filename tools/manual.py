@@ -61,7 +61,7 @@ def faults(program):
     found = {}
     of_section = read("docs/MACHINE.md").partition(f"\n{SECTION}\n")[2].partition("\n## ")[0]
     for text, status in re.findall(r"^\| .*? \| `(.*?)` \| (\d) \|$", of_section, re.M):
-        if program == "tower" or not text.startswith("race "):
+        if program == "tower" or not (text.startswith("race ") or "1048576" in text):
             found.setdefault(status, []).append(text)
     return found
 

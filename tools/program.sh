@@ -271,8 +271,18 @@ look_at_input() {
     }
 }
 
+# What the program may read of the file of that word: all of an image of version 3, of any other file one byte more than
+# the largest image has.
+read_of() {
+    word=$1
+    case $(head -c 8 "$word" | od -An -tx1 | tr -d ' \n') in
+    6d43324903000000) cat <"$word" ;;
+    *) head -c 16844301 <"$word" ;;
+    esac
+}
+
 # An unproved run reads no terminal, no slow pipe and no file except those that it gets. The whole script is therefore
-# read first, and each file is copied, up to one byte more than the program takes.
+# read first, and each file is copied, as far as the program may read it.
 unproved() {
     begin_unproved "$@"
     if reads_script "$@"; then head -c 16777217 >"$work/script"; fi
@@ -282,7 +292,7 @@ unproved() {
     for word do
         shift
         if [ -n "$files" ] && [ -f "$word" ] && [ "$name$nth" != tower0 ]; then
-            head -c 16844301 <"$word" >"$work/image$nth"
+            read_of "$word" >"$work/image$nth"
             word=$work/image$nth
         fi
         set -- "$@" "$word"
