@@ -88,12 +88,12 @@ word_at_slot v core slot word is =
     }
 
 -- two words of tables that are present alike are one
-two_words : (a b : ℕ) → IsTableWord 2 a → IsTableWord 2 b
+pub two_words : (a b : ℕ) → IsTableWord 2 a → IsTableWord 2 b
     → (if is_present a then Some a else None) ≡ (if is_present b then Some b else None) → a ≡ b
 two_words a b k known h = grind arith
 
 -- two words of directories that name the same table, or none, are the same but for accessed
-two_dir_words : (a b : ℕ) → IsKernelDirWord a → IsKernelDirWord b
+pub two_dir_words : (a b : ℕ) → IsKernelDirWord a → IsKernelDirWord b
     → (if is_present a then Some (frame_number a) else None) ≡ (if is_present b then Some (frame_number b) else None)
     → IsSameButAccessed a b
 two_dir_words a b k known h = grind arith
@@ -106,7 +106,7 @@ pub record Mapped (v : View) (slot : Slot) : Type 0 where
   pub mapped : map.get v.state.spaces slot ≡ Some cell
   pub stands : CellStands (memory_of v) slot word cell
 
-mapped_slot : (v : View) → IsCore v → (slot : Slot) → is_some (map.get v.state.spaces slot) ≡ true → Mapped v slot
+pub mapped_slot : (v : View) → IsCore v → (slot : Slot) → is_some (map.get v.state.spaces slot) ≡ true → Mapped v slot
 mapped_slot v core slot h = by (page_word (memory_of v) slot) refl (map.get v.state.spaces slot) refl h (core.image.memory.cells slot)
   where
     by : (x : Option ℕ) → page_word (memory_of v) slot ≡ x → (y : Option Cell) → map.get v.state.spaces slot ≡ y
@@ -121,12 +121,30 @@ pub unmapped_slot : (v : View) → IsCore v → (slot : Slot) → is_some (map.g
 unmapped_slot v core slot h = grind arith
 
 -- a set that isn't empty has a member
-some_member : {K : Type 0} {o : Order K} (s : Set o) → 0 < set.len s → (k : K) × (set.contains s k ≡ true)
+pub some_member : {K : Type 0} {o : Order K} (s : Set o) → 0 < set.len s → (k : K) × (set.contains s k ≡ true)
 some_member {K} {o} s up = go s.entries up
   where
     go : (es : List (K × Unit {0})) → 0 < length es → (k : K) × (is_some (find o.cmp k es) ≡ true)
     go [] h = absurd (omega (arith, h))
     go (x ∷ es) h = (x.0, ap (λ b. is_some (cond b (Some x.1) (find o.cmp x.0 es))) (same_itself o x.0))
+
+-- the slot of an index of a table has its word, where that is present
+pub slot_word : (u : View) → IsCore u → (q region table index page : ℕ) → table_at (memory_of u) q region ≡ Some table
+    → slot_number page ≡ region → index_number page ≡ index
+    → page_word (memory_of u) (at_page q page)
+    ≡ (if is_present (word_of (memory_of u) table index) then Some (word_of (memory_of u) table index) else None)
+slot_word u core q region table index page linked inside at =
+    ap (λ s. option_and_then (λ t. present_word (memory_of u) t (word_of (memory_of u) t (index_number page)))
+    (table_at (memory_of u) q s)) inside
+    ∙ ap (option_and_then (λ t. present_word (memory_of u) t (word_of (memory_of u) t (index_number page)))) linked
+    ∙ ap (λ i. present_word (memory_of u) table (word_of (memory_of u) table i)) at
+    ∙ ap (λ b. if b && is_present (word_of (memory_of u) table index) then Some (word_of (memory_of u) table index) else None) fits
+  where
+    within : table < length u.roles
+    within = slice_get_within u.roles table (Table q region) ((core.image.memory.sound.tables table q region).1 linked)
+
+    fits : nat_lt table (length u.roles) ≡ true
+    fits = let l = within in grind (arith, nat_tests)
 
 -- ---- From one core to another
 
@@ -268,24 +286,6 @@ module _ (v w : View) (e : Event) (before : IsCore v) (later : IsCore w) (state 
       by (Some t) is y new = entry_stays (ended_by v e) v w q region t ends spared is ∙ sym is
       by None is None new = new ∙ sym is
       by None is (Some t) new = absurd (no_table_comes q region t differ live is new)
-
-  -- the slot of an index of a table has its word, where that is present
-  slot_word : (u : View) → IsCore u → (q region table index page : ℕ) → table_at (memory_of u) q region ≡ Some table
-      → slot_number page ≡ region → index_number page ≡ index
-      → page_word (memory_of u) (at_page q page)
-      ≡ (if is_present (word_of (memory_of u) table index) then Some (word_of (memory_of u) table index) else None)
-  slot_word u core q region table index page linked inside at =
-      ap (λ s. option_and_then (λ t. present_word (memory_of u) t (word_of (memory_of u) t (index_number page)))
-      (table_at (memory_of u) q s)) inside
-      ∙ ap (option_and_then (λ t. present_word (memory_of u) t (word_of (memory_of u) t (index_number page)))) linked
-      ∙ ap (λ i. present_word (memory_of u) table (word_of (memory_of u) table i)) at
-      ∙ ap (λ b. if b && is_present (word_of (memory_of u) table index) then Some (word_of (memory_of u) table index) else None) fits
-    where
-      within : table < length u.roles
-      within = slice_get_within u.roles table (Table q region) ((core.image.memory.sound.tables table q region).1 linked)
-
-      fits : nat_lt table (length u.roles) ≡ true
-      fits = let l = within in grind (arith, nat_tests)
 
   -- who has a table is live
   has_table : (q region table : ℕ) → table_at (memory_of v) q region ≡ Some table → is_live v.state q ≡ true
