@@ -22,6 +22,7 @@ pub mod Taking
 pub mod Turned
 pub mod Untouched
 pub mod WalkedIn
+pub mod WorkedAccepts
 pub mod WorkedProtects
 pub mod WorkedSteps
 pub mod Zeros

@@ -1,5 +1,5 @@
 -- The steps of the worked Protect.
-use Rattle.std.proofs.Common.{◌≡◌, ℕ, ◌≤◌, ◌^◌, ◌&&◌, Bool, true, false, List, [], ◌∷◌, refl, ap, sym, ◌∙◌, subst, inr, zero, suc, arith, Some, is_some, length, unwrap_or}
+use Rattle.std.proofs.Common.{◌≡◌, ◌≢◌, ◌==◌, ℕ, ◌≤◌, ◌^◌, ◌&&◌, Bool, true, false, List, [], ◌∷◌, refl, ap, sym, ◌∙◌, subst, inr, zero, suc, arith, Some, is_some, length, unwrap_or}
 use Rattle.std.specs.Prelude.{◌⊎◌, if◌then◌else◌, slice_get, nat_lt}
 use Rattle.std.specs.Option.{option_map}
 use Rattle.std.specs.Result.{is_ok}
@@ -18,8 +18,8 @@ use Rattle.kernel_calls.specs.Gone.{gone_by, gone_of_call}
 use Rattle.kernel_calls.specs.Kept.{bytes_kept}
 use Rattle.kernel_calls.specs.Lazy.{LeavesLazy}
 use Rattle.kernel_calls.specs.Machine.{answer, completes, next}
-use Rattle.kernel_calls.specs.Processors.{IsCore, IsWalked, Processors, with_kept, with_bytes}
-use Rattle.kernel_calls.specs.Translations.{Kept, translation, directory_entry, Ends, ended_by, is_invalidated, left_by}
+use Rattle.kernel_calls.specs.Processors.{AllAreRead, IsCore, IsWalked, Processors, with_kept, with_bytes}
+use Rattle.kernel_calls.specs.Translations.{AreRead, IsRead, Kept, translation, directory_entry, Ends, ended_by, is_invalidated, left_by}
 use Rattle.kernel_calls.specs.Walked.{bytes_accessed, reply_found}
 use Rattle.kernel_calls.specs.declared.calls.Event.{Event}
 use Rattle.kernel_calls.specs.declared.calls.Reply.{Reply}
@@ -31,7 +31,7 @@ use Rattle.kernel_calls.proofs.Decided.{next-stays, next-goes}
 use Rattle.kernel_calls.proofs.Leaving.{nothing_ends}
 use Rattle.kernel_calls.proofs.LeftByProcessors.{walks_leave_cores}
 use Rattle.kernel_calls.proofs.Linked.{mapped_way}
-use Rattle.shootdowns.specs.Windows.{Begins, IsStaleClean, KeepsNone, Steps, begun, walked, stored_clean, ordered, refilled, forgotten, invalidated, told, none, first, nobody, with_one, settled, all_dirty}
+use Rattle.shootdowns.specs.Windows.{Begins, IsStaleClean, KeepsNone, Steps, begun, walked, stored_clean, ordered, refilled, forgotten, invalidated, told, none, first, nobody, with_one, settled, under_way, all_dirty}
 use Rattle.shootdowns.specs.Worked.{first_store, fork_it, load_copy, store_copy, protect_it, ask_it, none_kept, WorkedProtect}
 use Rattle.shootdowns.proofs.Given.{dirty_real, given, given_directory, given_frame, given_live, found}
 use Rattle.shootdowns.proofs.InOrder.{shootdowns_make_events}
@@ -44,6 +44,13 @@ cell_there = some_value (map.get loaded_state.spaces (at_page 1 0x40000)) refl
 
 flag_there : (flag : Cell → Bool) → option_map flag (map.get loaded_state.spaces (at_page 1 0x40000)) ≡ Some true → flag cell_there.0 ≡ true
 flag_there flag h = let e : Some (flag cell_there.0) ≡ Some true = sym (ap (option_map flag) cell_there.1) ∙ h in cc
+
+-- the root's page is there too
+root_there : (c : Cell) × (map.get loaded_state.spaces (at_page 0 0x40000) ≡ Some c)
+root_there = some_value (map.get loaded_state.spaces (at_page 0 0x40000)) refl
+
+root_flag : (flag : Cell → Bool) → option_map flag (map.get loaded_state.spaces (at_page 0 0x40000)) ≡ Some true → flag root_there.0 ≡ true
+root_flag flag h = let e : Some (flag root_there.0) ≡ Some true = sym (ap (option_map flag) root_there.1) ∙ h in cc
 
 ask_stays : (s : State) → next s ask_it ≡ s
 ask_stays s = grind (arith, next-stays, next-goes)
@@ -63,8 +70,28 @@ module _ (v w : View) (r : Reply) (core : IsCore v) (state : v.state ≡ loaded_
   abbrev kept : Kept
   kept = translation (record { slot = at_page 1 0x40000; frame = frame; write = true; dirty = false })
 
+  root_at : map.get v.state.spaces (at_page 0 0x40000) ≡ Some root_there.0
+  root_at = ap (λ (s : State). map.get s.spaces (at_page 0 0x40000)) state ∙ root_there.1
+
+  abbrev other : Kept
+  other = translation (record { slot = at_page 0 0x40000; frame = given_frame v core 0 0x40000 root_there.0 root_at; write = true; dirty = true })
+
   abbrev keeps : Processors
-  keeps = with_kept none_kept 0 (kept ∷ [])
+  keeps = with_kept (with_kept none_kept 0 (other ∷ [])) 0 (kept ∷ other ∷ [])
+
+  kept_given : IsRead v kept
+  kept_given = given v core 1 0x40000 cell_there.0 there false (flag_there (λ c. c.write) refl) (flag_there (λ c. c.accessed) refl) real (λ no. (let k = no in cc))
+
+  other_given : IsRead v other
+  other_given = given v core 0 0x40000 root_there.0 root_at true (root_flag (λ c. c.write) refl) (root_flag (λ c. c.accessed) refl)
+      (dirty_real v core (at_page 0 0x40000) root_there.0 root_at (root_flag (λ c. c.dirty) refl)) (λ _. root_flag (λ c. c.dirty) refl)
+
+  read : AllAreRead v keeps
+  read i = by (i == 0)
+    where
+      by : (is : Bool) → AreRead v (if is then kept ∷ other ∷ [] else (if is then other ∷ [] else []))
+      by true = (kept_given, (other_given, tt))
+      by false = tt
 
   -- ---- The walk
 
@@ -127,15 +154,35 @@ module _ (v w : View) (r : Reply) (core : IsCore v) (state : v.state ≡ loaded_
   abbrev after : View
   after = record u { state = next (next (next v.state load_copy) store_copy) protect_it; bytes = bytes }
 
-  -- the window, and whatever steps come after it
-  window : {last : Processors} {events : List Event} {replies : List Reply} → Steps (settled end.Nothing nobody after) kept_then events replies (settled end.Nothing nobody after) last
-      → Steps (settled end.Nothing nobody v) none_kept (load_copy ∷ store_copy ∷ protect_it ∷ events) (q ∷ reply.Done ∷ r ∷ replies) (settled end.Nothing nobody after) last
-  window more =
-      first (refilled 0 kept (given v core 1 0x40000 cell_there.0 there false (flag_there (λ c. c.write) refl) (flag_there (λ c. c.accessed) refl) real (λ no. (let k = no in cc))))
-      (first (begun b) (first (walked refl walks) (first (stored_clean 0 refl stores) (first (invalidated 0) (first ordered (first (told all) more))))))
+  opens : Steps (settled end.Nothing nobody v) none_kept [] [] (under_way x_ended nobody protect_it r v.state w) keeps
+  opens = first (refilled 0 other other_given) (first (refilled 0 kept kept_given) (first (begun b) none))
+
+  window : Steps (under_way x_ended nobody protect_it r v.state w) keeps (load_copy ∷ store_copy ∷ protect_it ∷ []) (q ∷ reply.Done ∷ r ∷ [])
+      (settled end.Nothing nobody after) kept_then
+  window = first (walked refl walks) (first (stored_clean 0 refl stores) (first (invalidated 0) (first ordered (first (told all) none))))
+
+  whole : Steps (settled end.Nothing nobody v) none_kept (load_copy ∷ store_copy ∷ protect_it ∷ []) (q ∷ reply.Done ∷ r ∷ [])
+      (settled end.Nothing nobody after) kept_then
+  whole = first (refilled 0 other other_given) (first (refilled 0 kept kept_given) (first (begun b) window))
+
+  -- a Protect ends nothing of the root's
+  other_spared : is_invalidated x_ended other ≡ false
+  other_spared = grind arith
+
+  some_left : kept_then 0 ≢ []
+  some_left empty = by (is_invalidated x_ended kept) refl
+    where
+      by : (c : Bool) → is_invalidated x_ended kept ≡ c → ⊥
+      by true is =
+          let k : kept_then 0 ≡ (other ∷ []) = ap (λ c. if c then left_by x_ended (other ∷ []) else kept ∷ left_by x_ended (other ∷ [])) is
+          ∙ ap (λ c. if c then [] else other ∷ []) other_spared in
+          let m : ◌≡◌ {A = List Kept} (other ∷ []) [] = sym k ∙ empty in cc
+      by false is =
+          let k : kept_then 0 ≡ (kept ∷ left_by x_ended (other ∷ [])) = ap (λ c. if c then left_by x_ended (other ∷ []) else kept ∷ left_by x_ended (other ∷ [])) is in
+          let m : ◌≡◌ {A = List Kept} (kept ∷ left_by x_ended (other ∷ [])) [] = sym k ∙ empty in cc
 
   core_after : IsCore after
-  core_after = (shootdowns_make_events v (settled end.Nothing nobody after) none_kept kept_then (load_copy ∷ store_copy ∷ protect_it ∷ []) (q ∷ reply.Done ∷ r ∷ []) core (λ i. tt) (window none)).stands.0
+  core_after = (shootdowns_make_events v (settled end.Nothing nobody after) none_kept kept_then (load_copy ∷ store_copy ∷ protect_it ∷ []) (q ∷ reply.Done ∷ r ∷ []) core (λ i. tt) whole).stands.0
 
   -- ---- The next window
 
@@ -166,8 +213,11 @@ module _ (v w : View) (r : Reply) (core : IsCore v) (state : v.state ≡ loaded_
   abbrev last : Processors
   last = with_kept kept_then 0 []
 
-  asks : Steps (settled end.Nothing nobody after) kept_then (ask_it ∷ []) (p ∷ []) (settled end.Nothing nobody after) last
-  asks = first (begun asked) (first (forgotten 0 [] (λ m k h. absurd (none_there m k h))) (first ordered (first (told (λ i. inr (keeps_none i))) none)))
+  asks : Steps (settled end.Nothing nobody after) kept_then [] [] (under_way (ended_by after ask_it) nobody ask_it p after.state after) kept_then
+  asks = first (begun asked) none
+
+  forgets : Steps (under_way (ended_by after ask_it) nobody ask_it p after.state after) kept_then (ask_it ∷ []) (p ∷ []) (settled end.Nothing nobody after) last
+  forgets = first (forgotten 0 [] (λ m k h. absurd (none_there m k h))) (first ordered (first (told (λ i. inr (keeps_none i))) none))
     where
       none_there : (n : ℕ) (k : Kept) → slice_get {X = Kept} [] n ≡ Some k → ⊥
       none_there zero k h = cc
@@ -175,9 +225,6 @@ module _ (v w : View) (r : Reply) (core : IsCore v) (state : v.state ≡ loaded_
 
       keeps_none : (i : ℕ) → KeepsNone (ended_by after ask_it) (last i)
       keeps_none i n k h = subst (λ (x : Ended). KeepsNone x (last i)) (sym asks_none) (λ n k h. none_invalidated k) n k h
-
-  steps : Steps (settled end.Nothing nobody v) none_kept (load_copy ∷ store_copy ∷ protect_it ∷ ask_it ∷ []) (q ∷ reply.Done ∷ r ∷ p ∷ []) (settled end.Nothing nobody after) last
-  steps = window asks
 
   -- ---- The replies
 
@@ -190,21 +237,40 @@ module _ (v w : View) (r : Reply) (core : IsCore v) (state : v.state ≡ loaded_
   quota : p ≡ reply.Quota 8 3 0
   quota = ap (λ (s : State). answer (next (next (next s load_copy) store_copy) protect_it) ask_it) state
 
+  abbrev Opens : Reply → Type 0
+  Opens done = Steps (settled end.Nothing nobody v) none_kept [] [] (under_way x_ended nobody protect_it done v.state w) keeps
+
+  abbrev Window : Reply → Reply → Type 0
+  Window value done = Steps (under_way x_ended nobody protect_it done v.state w) keeps (load_copy ∷ store_copy ∷ protect_it ∷ [])
+      (value ∷ reply.Done ∷ done ∷ []) (settled end.Nothing nobody after) kept_then
+
+  abbrev Asks : Reply → Type 0
+  Asks answered = Steps (settled end.Nothing nobody after) kept_then [] [] (under_way (ended_by after ask_it) nobody ask_it answered after.state after) kept_then
+
+  abbrev Forgets : Reply → Type 0
+  Forgets answered = Steps (under_way (ended_by after ask_it) nobody ask_it answered after.state after) kept_then (ask_it ∷ []) (answered ∷ [])
+      (settled end.Nothing nobody after) last
+
   pub worked : WorkedProtect w
   worked = record {
     before = v;
     opened = state;
+    keeps = keeps;
+    read = read;
     begins = subst (λ (y : Reply). Begins v protect_it y w) replied b;
     walked_to = u;
     walked = subst (λ (y : Reply). IsWalked w load_copy y u) value walks;
-    keeps = keeps;
     bytes = bytes;
     clean = stores;
     after = after;
+    left = kept_then;
+    some_left = some_left;
     last = last;
-    steps = subst (λ (y : Reply). Steps (settled end.Nothing nobody v) none_kept (load_copy ∷ store_copy ∷ protect_it ∷ ask_it ∷ []) (y ∷ reply.Done ∷ reply.Done ∷ reply.Quota 8 3 0 ∷ []) (settled end.Nothing nobody after) last) value
-        (subst (λ (y : Reply). Steps (settled end.Nothing nobody v) none_kept (load_copy ∷ store_copy ∷ protect_it ∷ ask_it ∷ []) (q ∷ reply.Done ∷ y ∷ reply.Quota 8 3 0 ∷ []) (settled end.Nothing nobody after) last) replied
-        (subst (λ (y : Reply). Steps (settled end.Nothing nobody v) none_kept (load_copy ∷ store_copy ∷ protect_it ∷ ask_it ∷ []) (q ∷ reply.Done ∷ r ∷ y ∷ []) (settled end.Nothing nobody after) last) quota steps));
+    none_left = refl;
+    opens = subst Opens replied opens;
+    window = subst (λ (y : Reply). Window y reply.Done) value (subst (λ (y : Reply). Window q y) replied window);
+    asks = subst Asks quota asks;
+    forgets = subst Forgets quota forgets;
   }
 
 -- what the calls of a core that boots ensure, with these events

@@ -1,37 +1,46 @@
 -- The steps of the worked window.
-use Rattle.std.proofs.Common.{◌≡◌, ℕ, Bool, true, List, [], ◌∷◌, refl, ap, sym, ◌∙◌, subst, arith, Some}
-use Rattle.std.specs.Prelude.{◌⊎◌}
-use Rattle.std.specs.Option.{option_map}
+use Rattle.std.proofs.Common.{◌≡◌, ◌≢◌, ℕ, ◌+◌, ◌<◌, ◌≤◌, ◌^◌, Bool, true, false, List, [], ◌∷◌, length, refl, ap, sym, ◌∙◌, subst, arith, Some, None, is_some}
+use Rattle.std.specs.Prelude.{◌⊎◌, ◌&&◌, if◌then◌else◌, ◌==◌}
+use Rattle.std.specs.Option.{option_and_then, option_map}
+use Rattle.std.proofs.lemmas.Option.{slice_get_within}
+use Rattle.alloc_table.specs.declared.Role.TheVariants.{Directory, Table}
+use Rattle.page_words.specs.Addresses.{index_number, slot_number}
 use Rattle.page_words.specs.FiniteMap as map
+use Rattle.page_words.specs.Words.{flag, frame_number, is_present, with_flag}
+use Rattle.page_words.proofs.Flags.{flag-with_flag_other, flag-with_flag_same}
+use Rattle.address_space.proofs.Prelude.{with_flag_lt}
 use Rattle.page_words.proofs.OptionLemmas.{is_some-map, some_value}
+use Rattle.phys_memory.specs.Bytes.{word_at, word_place, with_word}
+use Rattle.phys_memory.proofs.Frames.{word_in-frame}
+use Rattle.phys_memory.proofs.Words.{length-with_word, word_at-with_word_same}
 use Rattle.table_walk.specs.declared.Access.{Access}
 use Rattle.table_walk.specs.declared.Access.TheVariants.{Read, Write}
 use Rattle.address_space.specs.ByWalk.{with_walked}
-use Rattle.address_space.specs.Image.{directory_at}
+use Rattle.address_space.specs.Image.{directory_at, is_user_slot, named_by, present_word, table_at, word_of}
 use Rattle.address_space.specs.Spaces.{Cell, at_page}
 use Rattle.address_space.specs.Stays.{FramesStay, LooseStay}
-use Rattle.page_words.specs.declared.addresses.Size.TheVariants.{One}
+use Rattle.address_space.proofs.standing.Restored.{from_then}
 use Rattle.process_table.specs.Image.{memory_of}
 use Rattle.process_table.specs.State.{State, is_live, open_with}
 use Rattle.process_table.specs.View.{View}
 use Rattle.kernel_calls.specs.Gone.{gone_by}
 use Rattle.kernel_calls.specs.Kept.{reply_kept, bytes_kept}
 use Rattle.kernel_calls.specs.Machine.{answer, answers, next}
-use Rattle.kernel_calls.specs.Processors.{IsCore, Processors, with_kept, LetsThrough, IsLoaded, IsMarked}
-use Rattle.kernel_calls.specs.Translations.{Kept, translation, Ends, ended_by, left_by}
-use Rattle.kernel_calls.specs.declared.calls.Call.TheVariants as call
+use Rattle.kernel_calls.specs.Processors.{AllAreRead, IsCore, Processors, with_kept, LetsThrough, IsLoaded, IsMarked}
+use Rattle.kernel_calls.specs.Translations.{AreRead, Kept, translation, Ends, ended_by, left_by}
 use Rattle.kernel_calls.specs.declared.calls.Event.{Event}
 use Rattle.kernel_calls.specs.declared.calls.Reply.{Reply}
 use Rattle.kernel_calls.specs.declared.calls.Reply.TheVariants as reply
 use Rattle.kernel_calls.specs.declared.translations.Ended.{Ended}
 use Rattle.kernel_calls.specs.declared.translations.Ended.TheVariants as end
-use Rattle.shootdowns.specs.Windows.{Begins, IsStale, KeepsNone, Steps, begun, loaded, stored, marked, ordered, refilled, invalidated, told, none, first, nobody, with_one, settled}
-use Rattle.shootdowns.specs.Worked.{first_store, unmap_it, load_it, store_it, none_kept, WorkedWindow}
+use Rattle.shootdowns.specs.Windows.{Begins, IsStale, KeepsNone, Steps, begun, loaded, stored, marked, ordered, refilled, invalidated, told, none, first, nobody, with_one, settled, under_way}
+use Rattle.shootdowns.specs.Worked.{first_store, second_store, unmap_it, load_it, store_it, none_kept, WorkedWindow}
+use Rattle.shootdowns.proofs.Accesses.{word_mapped}
 use Rattle.shootdowns.proofs.Given.{dirty_real, given, given_frame}
 use Rattle.shootdowns.proofs.InOrder.{shootdowns_make_events}
 
 abbrev stored_state : State
-stored_state = next (open_with 16) first_store
+stored_state = next (next (open_with 16) first_store) second_store
 
 cell_there : (c : Cell) × (map.get stored_state.spaces (at_page 0 0x40000) ≡ Some c)
 cell_there = some_value (map.get stored_state.spaces (at_page 0 0x40000)) refl
@@ -42,7 +51,84 @@ flag_there flag h = let e : Some (flag cell_there.0) ≡ Some true = sym (ap (op
 first_told : (q : Reply) (rest : List Reply) (s : State) (events : List Event) (e : Event) → (q ∷ rest) ≡ (answer s e ∷ answers (next s e) events) → q ≡ answer s e
 first_told q rest s events e h = cc
 
-module _ (v w x : View) (r : Reply) (core : IsCore v) (state : v.state ≡ next (open_with 16) first_store) (b : Begins v unmap_it r w) (m : IsMarked w x) where
+-- ---- Accessed of a word that leads to a page
+
+-- the word of a directory that leads to a mapped page is present, and lies in memory
+pub record LeadsOn (v : View) (d page : ℕ) : Type 0 where
+  pub inside : word_place d (slot_number page) + 4 ≤ length v.bytes
+  pub present : is_present (word_at v.bytes (word_place d (slot_number page))) ≡ true
+  pub small : word_at v.bytes (word_place d (slot_number page)) < 2 ^ 32
+
+-- what names a table is present, and names its frame
+names_table : (a b : Bool) (x t : ℕ) → (if a && b then Some x else None) ≡ Some t → (b ≡ true) × (x ≡ t)
+names_table true true x t h = (refl, cc)
+names_table true false x t h = cc
+names_table false b x t h = cc
+
+leads_on : (v : View) → IsCore v → (p d page : ℕ) (c : Cell) → directory_at (memory_of v) p ≡ Some d
+    → map.get v.state.spaces (at_page p page) ≡ Some c → slot_number page < 1024 → LeadsOn v d page
+leads_on v core p d page c live there low =
+    let slot : ℕ = slot_number page in
+    let word = word_mapped v core (at_page p page) c there in
+    let t = from_then (λ t. present_word (memory_of v) t (word_of (memory_of v) t (index_number page)))
+    (table_at (memory_of v) p slot) word.0 word.1 in
+    let same : word_at v.bytes (word_place d slot) ≡ word_of (memory_of v) d slot = word_in-frame v.bytes d slot low in
+    let named : named_by slot (word_of (memory_of v) d slot) ≡ Some t.0 =
+    sym (ap (option_and_then (λ d. named_by slot (word_of (memory_of v) d slot))) live) ∙ t.1 in
+    let names = names_table (is_user_slot slot) (is_present (word_of (memory_of v) d slot)) (frame_number (word_of (memory_of v) d slot)) t.0 named in
+    let frame : d < length v.roles = slice_get_within v.roles d (Directory p) ((core.image.memory.sound.directories d p).1 live) in
+    let table : t.0 < length v.roles = slice_get_within v.roles t.0 (Table p slot) ((core.image.memory.sound.tables t.0 p slot).1 t.1) in
+    let size = core.image.memory.sound.size in
+    let few = core.sized.few in
+    let number : frame_number (word_at v.bytes (word_place d slot)) ≡ t.0 = ap frame_number same ∙ names.1 in
+    record {
+      inside = omega (arith, frame, size, low);
+      present = ap is_present same ∙ names.0;
+      small = omega (arith, table, few, number);
+    }
+
+-- it is another once accessed is cleared and set
+set_again : (bytes : List ℕ) (d page : ℕ) → word_place d (slot_number page) + 4 ≤ length bytes
+    → is_present (word_at bytes (word_place d (slot_number page))) ≡ true → word_at bytes (word_place d (slot_number page)) < 2 ^ 32
+    → with_walked (with_walked bytes d page false) d page true ≢ with_walked bytes d page false
+set_again bytes d page inside present small same =
+    let k : true ≡ false = sym set_flag ∙ ap (λ (m : List ℕ). flag (word_at m place) 5) same ∙ clear_flag in cc
+  where
+    place : ℕ
+    place = word_place d (slot_number page)
+
+    word : ℕ
+    word = word_at bytes place
+
+    later : List ℕ
+    later = with_walked bytes d page false
+
+    clear_word : word_at later place ≡ with_flag word 5 false
+    clear_word =
+        ap (λ w. word_at (with_word bytes place w) place) (ap (λ b. if b then with_flag word 5 false else word) present)
+        ∙ word_at-with_word_same bytes place (with_flag word 5 false) inside (with_flag_lt word 5 false small (omega arith))
+
+    later_small : word_at later place < 2 ^ 32
+    later_small = subst (λ n. n < 2 ^ 32) (sym clear_word) (with_flag_lt word 5 false small (omega arith))
+
+    clear_flag : flag (word_at later place) 5 ≡ false
+    clear_flag = ap (λ w. flag w 5) clear_word ∙ flag-with_flag_same word 5 false (omega arith)
+
+    still_present : is_present (word_at later place) ≡ true
+    still_present = ap is_present clear_word ∙ flag-with_flag_other word 5 0 false (omega arith) (omega arith) (λ h. cc) ∙ present
+
+    long : place + 4 ≤ length later
+    long = grind (arith, length-with_word, inside)
+
+    set_flag : flag (word_at (with_walked later d page true) place) 5 ≡ true
+    set_flag =
+        ap (λ w. flag w 5) (ap (λ w. word_at (with_word later place w) place) (ap (λ b. if b then with_flag (word_at later place) 5 true else word_at later place) still_present)
+        ∙ word_at-with_word_same later place (with_flag (word_at later place) 5 true) long
+        (with_flag_lt (word_at later place) 5 true later_small (omega arith)))
+        ∙ flag-with_flag_same (word_at later place) 5 true (omega arith)
+
+module _ (v w y x : View) (r : Reply) (core : IsCore v) (state : v.state ≡ stored_state) (b : Begins v unmap_it r w)
+    (clears : IsMarked w y) (marks : IsMarked y x) (changed : x.bytes ≢ y.bytes) where
   there : map.get v.state.spaces (at_page 0 0x40000) ≡ Some cell_there.0
   there = ap (λ (s : State). map.get s.spaces (at_page 0 0x40000)) state ∙ cell_there.1
 
@@ -54,6 +140,20 @@ module _ (v w x : View) (r : Reply) (core : IsCore v) (state : v.state ≡ next 
 
   abbrev keeps : Processors
   keeps = with_kept none_kept 0 (kept ∷ [])
+
+  is_given : AreRead v (kept ∷ [])
+  is_given = (
+    given v core 0 0x40000 cell_there.0 there true (flag_there (λ c. c.write) refl) (flag_there (λ c. c.accessed) refl)
+        (dirty_real v core (at_page 0 0x40000) cell_there.0 there (flag_there (λ c. c.dirty) refl)) (λ _. flag_there (λ c. c.dirty) refl),
+    tt,
+  )
+
+  read : AllAreRead v keeps
+  read i = by (i == 0)
+    where
+      by : (is : Bool) → AreRead v (if is then kept ∷ [] else [])
+      by true = is_given
+      by false = tt
 
   through : (access : Access) → LetsThrough (kept ∷ []) 0 0x40000 frame access
   through access = record { place = 0; write = true; dirty = true; there = refl; right = λ _. (refl, refl) }
@@ -79,82 +179,141 @@ module _ (v w x : View) (r : Reply) (core : IsCore v) (state : v.state ≡ next 
   all : (i : ℕ) → (with_one nobody 0 i ≡ true) ⊎ KeepsNone x_ended (last i)
   all i = grind arith
 
-  steps : Steps (settled end.Nothing nobody v) none_kept (load_it ∷ store_it ∷ unmap_it ∷ []) (q ∷ reply.Done ∷ r ∷ [])
-      (settled end.Nothing nobody (record x { state = next (next v.state store_it) unmap_it; bytes = bytes })) last
-  steps =
-      first (refilled 0 kept (given v core 0 0x40000 cell_there.0 there true (flag_there (λ c. c.write) refl) (flag_there (λ c. c.accessed) refl)
-      (dirty_real v core (at_page 0 0x40000) cell_there.0 there (flag_there (λ c. c.dirty) refl)) (λ _. flag_there (λ c. c.dirty) refl)))
-      (first (begun b) (first (marked refl m) (first (loaded 0 refl loads) (first (stored 0 refl stores)
-      (first (invalidated 0) (first ordered (first (told all) none)))))))
+  abbrev after : View
+  after = record x { state = next (next v.state store_it) unmap_it; bytes = bytes }
+
+  opens : Steps (settled end.Nothing nobody v) none_kept [] [] (under_way x_ended nobody unmap_it r v.state w) keeps
+  opens = first (refilled 0 kept is_given.0) (first (begun b) none)
+
+  window : Steps (under_way x_ended nobody unmap_it r v.state w) keeps (load_it ∷ store_it ∷ unmap_it ∷ []) (q ∷ reply.Done ∷ r ∷ [])
+      (settled end.Nothing nobody after) last
+  window =
+      first (marked refl clears) (first (marked refl marks) (first (loaded 0 refl loads) (first (stored 0 refl stores)
+      (first (invalidated 0) (first ordered (first (told all) none))))))
+
+  whole : Steps (settled end.Nothing nobody v) none_kept (load_it ∷ store_it ∷ unmap_it ∷ []) (q ∷ reply.Done ∷ r ∷ [])
+      (settled end.Nothing nobody after) last
+  whole = first (refilled 0 kept is_given.0) (first (begun b) window)
 
   replied : r ≡ reply.Done
   replied = b.carried.reply ∙ ap (λ (s : State). answer s unmap_it) state
 
   value : q ≡ reply.Value 7
   value =
-      let came = shootdowns_make_events v (settled end.Nothing nobody (record x { state = next (next v.state store_it) unmap_it; bytes = bytes })) none_kept last
-      (load_it ∷ store_it ∷ unmap_it ∷ []) (q ∷ reply.Done ∷ r ∷ []) core (λ i. tt) steps in
+      let came = shootdowns_make_events v (settled end.Nothing nobody after) none_kept last
+      (load_it ∷ store_it ∷ unmap_it ∷ []) (q ∷ reply.Done ∷ r ∷ []) core (λ i. tt) whole in
       first_told q (reply.Done ∷ r ∷ []) v.state (store_it ∷ unmap_it ∷ []) load_it came.replies ∙ ap (λ (s : State). answer s load_it) state
+
+  abbrev Window : Reply → Reply → Type 0
+  Window value done = Steps (under_way x_ended nobody unmap_it done v.state w) keeps (load_it ∷ store_it ∷ unmap_it ∷ [])
+      (value ∷ reply.Done ∷ done ∷ []) (settled end.Nothing nobody after) last
 
   pub worked : WorkedWindow x
   worked = record {
     before = v;
     opened = state;
-    left = w;
-    begins = subst (λ (y : Reply). Begins v unmap_it y w) replied b;
-    marked = m;
     keeps = keeps;
-    loaded = subst (λ (y : Reply). IsLoaded (keeps 0) x load_it y) value loads;
+    read = read;
+    left = w;
+    begins = subst (λ (z : Reply). Begins v unmap_it z w) replied b;
+    cleared = y;
+    clears = clears;
+    marked = marks;
+    changed = changed;
+    loaded = subst (λ (z : Reply). IsLoaded (keeps 0) x load_it z) value loads;
     bytes = bytes;
     stale = stores;
     last = last;
-    steps = subst (λ (y : Reply). Steps (settled end.Nothing nobody v) none_kept (load_it ∷ store_it ∷ unmap_it ∷ []) (y ∷ reply.Done ∷ reply.Done ∷ [])
-        (settled end.Nothing nobody (record x { state = next (next v.state store_it) unmap_it; bytes = bytes })) last) value
-        (subst (λ (y : Reply). Steps (settled end.Nothing nobody v) none_kept (load_it ∷ store_it ∷ unmap_it ∷ []) (q ∷ reply.Done ∷ y ∷ [])
-        (settled end.Nothing nobody (record x { state = next (next v.state store_it) unmap_it; bytes = bytes })) last) replied steps);
+    opens = subst (λ (z : Reply). Steps (settled end.Nothing nobody v) none_kept [] [] (under_way x_ended nobody unmap_it z v.state w) keeps) replied opens;
+    window = subst (λ (z : Reply). Window z reply.Done) value (subst (λ (z : Reply). Window q z) replied window);
   }
 
--- what the calls of a core that boots ensure, with the number of its root
-pub record Called (o v w x : View) (p : ℕ) (r : Reply) (y : Ended) : Type 0 where
+-- what the calls of a core that boots ensure, with these events, and the number of its root
+pub record Made (e1 e2 e3 : Event) (p : ℕ) (o s v w y x : View) (r : Reply) (z : Ended) : Type 0 where
   pub opening : o.state ≡ open_with 16
-  pub stored : v.state ≡ next o.state (record { cpu = 0; pid = p; call = call.Store 0x40000000 One 7 })
+  pub stored : s.state ≡ next o.state e1
+  pub more : v.state ≡ next s.state e2
   pub before : IsCore v
-  pub reply : r ≡ answer v.state (record { cpu = 0; pid = p; call = call.Unmap 0x40000 })
-  pub ended : y ≡ ended_by v (record { cpu = 0; pid = p; call = call.Unmap 0x40000 })
-  pub state : w.state ≡ next v.state (record { cpu = 0; pid = p; call = call.Unmap 0x40000 })
-  pub ends : Ends y v w
-  pub stay : FramesStay (gone_by v.state (record { cpu = 0; pid = p; call = call.Unmap 0x40000 })) (memory_of v) (memory_of w)
+  pub reply : r ≡ answer v.state e3
+  pub ended : z ≡ ended_by v e3
+  pub state : w.state ≡ next v.state e3
+  pub ends : Ends z v w
+  pub stay : FramesStay (gone_by v.state e3) (memory_of v) (memory_of w)
   pub loose : LooseStay (memory_of v) (memory_of w)
   pub later : IsCore w
-  pub same : x.state ≡ w.state
-  pub directories : x.directories ≡ w.directories
-  pub roles : x.roles ≡ w.roles
-  pub bytes : (directory : ℕ) → directory_at (memory_of w) p ≡ Some directory → x.bytes ≡ with_walked w.bytes directory 0x40000 true
+  pub clear_state : y.state ≡ w.state
+  pub clear_directories : y.directories ≡ w.directories
+  pub clear_roles : y.roles ≡ w.roles
+  pub clear_bytes : (directory : ℕ) → directory_at (memory_of w) p ≡ Some directory → y.bytes ≡ with_walked w.bytes directory 0x40000 false
+  pub same : x.state ≡ y.state
+  pub directories : x.directories ≡ y.directories
+  pub roles : x.roles ≡ y.roles
+  pub bytes : (directory : ℕ) → directory_at (memory_of y) p ≡ Some directory → x.bytes ≡ with_walked y.bytes directory 0x40000 true
+
+-- which are those of the worked window
+abbrev pub Called : View → View → View → View → View → View → Reply → Ended → Type 0
+Called = Made first_store second_store unmap_it 0
+
+pub called : (e1 e2 e3 : Event) (p : ℕ) (o s v w y x : View) (r : Reply) (z : Ended) → e1 ≡ first_store → e2 ≡ second_store → e3 ≡ unmap_it
+    → p ≡ 0 → Made e1 e2 e3 p o s v w y x r z → Called o s v w y x r z
+called e1 e2 e3 p o s v w y x r z one two three root =
+    subst (λ (t : Type 0). t) (λ i. Made (one i) (two i) (three i) (root i) o s v w y x r z)
 
 -- a live process has a directory
 home_live : (v : View) → IsCore v → (p : ℕ) → is_live v.state p ≡ true → (d : ℕ) × (directory_at (memory_of v) p ≡ Some d)
 home_live v core p live = grind (arith, some_value, is_some-map)
 
-by_zero : (o v w x : View) (r : Reply) (y : Ended) → Called o v w x 0 r y → WorkedWindow x
-by_zero o v w x r y k =
-    let opened : v.state ≡ next (open_with 16) first_store = k.stored ∙ ap (λ (s : State). next s first_store) k.opening in
-    let live : is_live w.state 0 ≡ true = ap (λ (s : State). is_live s 0) (k.state ∙ ap (λ (s : State). next s unmap_it) opened) in
-    let d = home_live w k.later 0 live in
-    worked v w x r k.before opened
+pub worked_by : (o s v w y x : View) (r : Reply) (z : Ended) → Called o s v w y x r z → WorkedWindow x
+worked_by o s v w y x r z k = worked v w y x r k.before opened
     (record {
-      carried = record { reply = k.reply; state = k.state; ends = subst (λ (z : Ended). Ends z v w) k.ended k.ends; core = k.later };
+      carried = record { reply = k.reply; state = k.state; ends = subst (λ (e : Ended). Ends e v w) k.ended k.ends; core = k.later };
       stay = k.stay;
       loose = λ _. k.loose;
     })
     (record {
       pid = 0;
       page = 0x40000;
+      walked = false;
+      user = (omega arith, omega arith);
+      directory = home.0;
+      live = home.1;
+      left = (λ i. record { state = k.clear_state i; directories = k.clear_directories i; bytes = clear i; roles = k.clear_roles i });
+    })
+    (record {
+      pid = 0;
+      page = 0x40000;
       walked = true;
       user = (omega arith, omega arith);
-      directory = d.0;
-      live = d.1;
-      left = (λ i. record { state = k.same i; directories = k.directories i; bytes = k.bytes d.0 d.1 i; roles = k.roles i });
+      directory = home.0;
+      live = home_still;
+      left = (λ i. record { state = k.same i; directories = k.directories i; bytes = set i; roles = k.roles i });
     })
+    (λ same. set_again w.bytes home.0 0x40000 leads.inside leads.present leads.small
+    (sym (set ∙ ap (λ (m : List ℕ). with_walked m home.0 0x40000 true) clear) ∙ same ∙ clear))
+  where
+    opened : v.state ≡ stored_state
+    opened = k.more ∙ ap (λ (s : State). next s second_store) (k.stored ∙ ap (λ (s : State). next s first_store) k.opening)
 
-pub worked_by : (o v w x : View) (p : ℕ) (r : Reply) (y : Ended) → p ≡ 0 → Called o v w x p r y → WorkedWindow x
-worked_by o v w x p r y zero_is = subst (λ n. Called o v w x n r y → WorkedWindow x) (sym zero_is) (by_zero o v w x r y)
+    taken : w.state ≡ next stored_state unmap_it
+    taken = k.state ∙ ap (λ (s : State). next s unmap_it) opened
+
+    home : (d : ℕ) × (directory_at (memory_of w) 0 ≡ Some d)
+    home = home_live w k.later 0 (ap (λ (s : State). is_live s 0) taken)
+
+    home_still : directory_at (memory_of y) 0 ≡ Some home.0
+    home_still = (λ i. directory_at (memory_of (record w { directories = k.clear_directories i })) 0) ∙ home.1
+
+    clear : y.bytes ≡ with_walked w.bytes home.0 0x40000 false
+    clear = k.clear_bytes home.0 home.1
+
+    set : x.bytes ≡ with_walked y.bytes home.0 0x40000 true
+    set = k.bytes home.0 home_still
+
+    -- the second page's table stays that of their region
+    beside : (c : Cell) × (map.get w.state.spaces (at_page 0 0x40001) ≡ Some c)
+    beside = some_value (map.get w.state.spaces (at_page 0 0x40001)) (ap (λ (s : State). is_some (map.get s.spaces (at_page 0 0x40001))) taken)
+
+    leads : LeadsOn w home.0 0x40000
+    leads =
+        let k = leads_on w k.later 0 home.0 0x40001 beside.0 home.1 beside.1 (omega arith) in
+        record { inside = k.inside; present = k.present; small = k.small }

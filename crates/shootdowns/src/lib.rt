@@ -8,4 +8,4 @@ mod laws;
 mod worked;
 
 pub use laws::{shootdowns_make_events, zeros_leave_others_be};
-pub use worked::{worked_protect, worked_window};
+pub use worked::{worked_protect, worked_window, worked_zeros};

@@ -7,7 +7,7 @@ pub returns : goal.returns
 returns c =
     let root : c.unwrap-root.result ≡ 0 = search rules in
     let child : c.unwrap-child.result ≡ 1 = search rules in
-    let store : c.event.result ≡ first_store = c.event.ensures ∙ (λ i. record first_store { pid = root i }) in
+    let store : c.event.result ≡ first_store = c.event.ensures ∙ (λ i. record first_store { pid = root i; call = c.store_of_seven.ensures i }) in
     let fork : c.event-2.result ≡ fork_it = c.event-2.ensures ∙ (λ i. record fork_it { pid = root i }) in
     let load : c.event-3.result ≡ load_copy = c.event-3.ensures ∙ (λ i. record load_copy { pid = child i }) in
     let protect : c.event-4.result ≡ protect_it = c.event-4.ensures ∙ (λ i. record protect_it { pid = child i }) in

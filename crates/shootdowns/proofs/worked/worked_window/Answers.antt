@@ -1,30 +1,43 @@
-use Rattle.std.proofs.Common.{rules, ◌≡◌, refl}
-use Rattle.shootdowns.proofs.WorkedSteps.{worked_by}
+use Rattle.std.proofs.Common.{rules, ◌≡◌, ◌∙◌, ap}
+use Rattle.kernel_calls.specs.Gone.{gives_back}
+use Rattle.kernel_calls.specs.declared.calls.Event.{Event}
+use Rattle.shootdowns.specs.Worked.{first_store, second_store, unmap_it}
+use Rattle.shootdowns.proofs.WorkedSteps.{called, worked_by}
 use Rattle.shootdowns.proofs.worked.worked_window.Goals as goal
 
 pub returns : goal.returns
 returns c =
-    let root : c.unwrap-pid.result ≡ 0 = search rules in
-    let first = c.stands.ensures in
-    let second = c.stands-2.ensures in
-    let stored = c.step.ensures in
-    let made = c.step_ending-begun.ensures in
-    let marked = c.set_walked.ensures in
-    worked_by c.in_ok-core.core c.step.new.self c.step_ending-begun.new.self c.set_walked.new.self c.unwrap-pid.result
-    c.step_ending-begun.result.0 c.step_ending-begun.result.1 root
+    let root : c.unwrap-root.result ≡ 0 = search rules in
+    let store : c.event.result ≡ first_store =
+    c.event.ensures ∙ (λ i. record first_store { pid = root i; call = c.store_of_seven.ensures i }) in
+    let more : c.event-2.result ≡ second_store =
+    c.event-2.ensures ∙ (λ i. record second_store { pid = root i; call = c.store_of_seven-2.ensures i }) in
+    let unmap : c.event-3.result ≡ unmap_it = c.event-3.ensures ∙ (λ i. record unmap_it { pid = root i }) in
+    let begun = c.step_ending.ensures in
+    let cleared = c.set_walked.ensures in
+    let marked = c.set_walked-2.ensures in
+    worked_by c.in_ok-core.core c.step.new.self c.step-2.new.self c.step_ending.new.self c.set_walked.new.self c.set_walked-2.new.self
+    c.step_ending.result.0 c.step_ending.result.1
+    (called c.event.result c.event-2.result c.event-3.result c.unwrap-root.result c.in_ok-core.core c.step.new.self c.step-2.new.self
+    c.step_ending.new.self c.set_walked.new.self c.set_walked-2.new.self c.step_ending.result.0 c.step_ending.result.1 store more unmap root
     (record {
       opening = c.in_ok-core.ensures.opening;
-      stored = stored.state;
-      before = first.core;
-      reply = made.reply;
-      ended = made.ended;
-      state = made.state;
-      ends = made.ends;
-      stay = made.stay;
-      loose = made.loose refl;
-      later = second.core;
+      stored = c.step.ensures.state;
+      more = c.step-2.ensures.state;
+      before = c.stands.ensures.core;
+      reply = begun.reply;
+      ended = begun.ended;
+      state = begun.state;
+      ends = begun.ends;
+      stay = begun.stay;
+      loose = begun.loose (ap (λ (e : Event). gives_back e.call) unmap);
+      later = c.stands-2.ensures.core;
+      clear_state = cleared.state;
+      clear_directories = cleared.directories;
+      clear_roles = cleared.roles;
+      clear_bytes = cleared.bytes;
       same = marked.state;
       directories = marked.directories;
       roles = marked.roles;
       bytes = marked.bytes;
-    })
+    }))
