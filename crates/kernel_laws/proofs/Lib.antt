@@ -13,6 +13,9 @@ pub mod EitherOrder
 pub mod FlagChanges
 pub mod GivenUp
 pub mod Newborns
+pub mod OthersKeep
+pub mod OthersStand
+pub mod OwnActs
 pub mod OwnRuns
 pub mod OwnViews
 pub mod Prelude

@@ -1,6 +1,7 @@
 pub mod Beside
 pub mod Causes
 pub mod Cpus
+pub mod OwnActs
 pub mod OwnRuns
 pub mod WorkedAccesses
 pub mod WorkedAuthority

@@ -4,6 +4,7 @@ ghost use Rattle.kernel_calls.specs.Cleaned.{CleaningKeepsStates, CleaningIsUnse
 ghost use Rattle.kernel_calls.specs.Authority.{StatesStayWellFormed, RefusalsChangeNothing, ChangesAreRightful, Integrity, NobodyTakesBack, SharingByConsent, SharingStays, OffersByOfferer, ExitsEnd, UnmapsEnd, OffersEnd, OffersStay, ChildrenAreTheirMakers, PlacesStay, MembersToldTheSame, OwnIsEnough, MembersSeeTheSame, OutsidersUnseen, MembersHearTheSame, RunsKeepBorders, OutsidersHearNothing};
 ghost use Rattle.kernel_laws.specs.Beside.{AccessesBeside, OrdersEndTheSame};
 ghost use Rattle.kernel_laws.specs.Cpus.{CpusMakeNoDifference, RunsOnCpus};
+ghost use Rattle.kernel_laws.specs.OwnActs.{CleaningWritesItsOwn, CopiesWriteTheirOwn, InstallsWriteTheirOwn, LoadsWriteTheirOwn, ReadsWriteTheirOwn};
 ghost use Rattle.kernel_laws.specs.OwnRuns.{ActsWriteTheirOwn, LeavingComposes, RunsWriteTheirOwn};
 ghost use Rattle.kernel_laws.specs.Causes.{CompletesUnless, RefusedByTheFirst, FaultsAtTheFirstByte};
 ghost use Rattle.kernel_calls.specs.Effects.{CompletesByKind, DoneMeansDone, SlotsCome, SlotsGo, FlagsChange, OthersNeverRefuse, RunsNeverRefuse};
@@ -36,6 +37,17 @@ pub fn runs_write_their_own()
     ensures runs { RunsWriteTheirOwn }
     ensures acts { ActsWriteTheirOwn }
     ensures composes { LeavingComposes }
+{}
+
+/// States the same of acts that aren't carried out event by event: reads and writes of a process's memory, installs of bytes
+/// in its pages, and clearing the marks of one. Each writes only frames that were free, and the process's own. It computes
+/// nothing.
+pub fn acts_write_their_own()
+    ensures reads { ReadsWriteTheirOwn }
+    ensures copies { CopiesWriteTheirOwn }
+    ensures installs { InstallsWriteTheirOwn }
+    ensures loads { LoadsWriteTheirOwn }
+    ensures cleaning { CleaningWritesItsOwn }
 {}
 
 /// States that on which CPU a call comes in makes no difference: neither to its reply nor to the next state, and so in
