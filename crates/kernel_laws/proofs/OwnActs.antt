@@ -1,7 +1,6 @@
 -- Acts of many bytes write only what was free and what is of their process.
 use Rattle.std.proofs.Common.{◌≡◌, ◌∙◌, ◌+◌, ◌++◌, ◌==◌, ℕ, zero, suc, Bool, true, false, List, [], ◌∷◌, length, refl, sym, ap, subst, arith}
 use Rattle.std.specs.Prelude.{if◌then◌else◌}
-use borrow.Author.Tests.{eq-eqb}
 use Rattle.page_words.proofs.MapLemmas.{same-true}
 use Rattle.page_words.specs.Addresses.{page_number}
 use Rattle.address_space.specs.Spaces.{Slot, at_page}
@@ -24,21 +23,24 @@ use Rattle.kernel_laws.specs.OwnRuns.{AreOwn, WriteTheirOwn}
 
 -- ---- Whose events they are
 
+itself : (p : ℕ) → (p == p) ≡ true
+itself p = grind arith
+
 own_loads : (p address n : ℕ) → AreOwn (only p) (loads p address n)
 own_loads p address zero = tt
-own_loads p address (suc n) = (record { mine = eq-eqb refl; takes_none = λ g k page. cc }, own_loads p (address + 1) n)
+own_loads p address (suc n) = (record { mine = itself p; takes_none = λ g k at is. cc }, own_loads p (address + 1) n)
 
 own_stores : (p address : ℕ) (bytes : List ℕ) → AreOwn (only p) (stores p address bytes)
 own_stores p address [] = tt
-own_stores p address (byte ∷ bytes) = (record { mine = eq-eqb refl; takes_none = λ g k page. cc }, own_stores p (address + 1) bytes)
+own_stores p address (byte ∷ bytes) = (record { mine = itself p; takes_none = λ g k at is. cc }, own_stores p (address + 1) bytes)
 
 own_first : (own : ℕ → Bool) (s : State) (events : List Event) → AreOwn own events → AreOwn own (carried s events)
 own_first own s [] mine = tt
-own_first own s (e ∷ events) mine = by (completes (answer s e))
+own_first own s (e ∷ events) mine = by (completes (answer s e)) (own_first own (next s e) events mine.1)
   where
-    by : (b : Bool) → AreOwn own (if b then e ∷ carried (next s e) events else [])
-    by true = (mine.0, own_first own (next s e) events mine.1)
-    by false = tt
+    by : (b : Bool) → AreOwn own (carried (next s e) events) → AreOwn own (if b then e ∷ carried (next s e) events else [])
+    by true rest = (mine.0, rest)
+    by false rest = tt
 
 own_both : (own : ℕ → Bool) (first second : List Event) → AreOwn own first → AreOwn own second → AreOwn own (first ++ second)
 own_both own [] second mine more = more
@@ -49,12 +51,12 @@ own_opening s p page = by (is_writable_at s (at_page p page)) (is_mapped s (at_p
   where
     by : (a b : Bool) → AreOwn (only p) (if a then [] else if b then protect_of p page true ∷ [] else map_of p page true ∷ [])
     by true b = tt
-    by false true = (record { mine = eq-eqb refl; takes_none = λ g k page. cc }, tt)
-    by false false = (record { mine = eq-eqb refl; takes_none = λ g k page. cc }, tt)
+    by false true = (record { mine = itself p; takes_none = λ g k at is. cc }, tt)
+    by false false = (record { mine = itself p; takes_none = λ g k at is. cc }, tt)
 
 own_closing : (p page : ℕ) (write : Bool) → AreOwn (only p) (closing p page write)
 own_closing p page true = tt
-own_closing p page false = (record { mine = eq-eqb refl; takes_none = λ g k page. cc }, tt)
+own_closing p page false = (record { mine = itself p; takes_none = λ g k at is. cc }, tt)
 
 own_install : (s : State) (p address : ℕ) (part : List ℕ) (write : Bool) → AreOwn (only p) (install_run s p address part write)
 own_install s p address part write =
@@ -100,20 +102,22 @@ installs_write_their_own v w p address part write core later run ends =
     (keeps v w p (install_run v.state p address part write) core (own_install v.state p address part write) (sym run.after))
     (ways_by_marks (only p) (end.Page p (page_number address)) v w core later (page_of_others p (page_number address)) ends)
 
--- each state of a load is a core's
-loaded_core : (v w : View) (p address : ℕ) (bytes : List ℕ) (write : Bool) → IsCore v → Loads p address write v bytes w → IsCore w
-loaded_core v w p address bytes write core no_page = core
-loaded_core v w p address bytes write core (page_more part before some within run state ends later) = later
+-- each state of a load is a core's, and page after page leaves others so
+loaded : (p address : ℕ) (write : Bool) (v : View) → IsCore v → (bytes : List ℕ) (w : View) → Loads p address write v bytes w
+    → IsCore w × WriteTheirOwn v w (only p)
+loaded p address write v core bytes w no_page = (core, leaving_composes.none v (only p))
+loaded p address write v core bytes w (page_more {before} part {u} first some within run state ends later) =
+    let before_it = loaded p address write v core before u first in (
+      later,
+      leaving_composes.both v u w (only p) before_it.1
+          (installs_write_their_own u w p (address + length before) part write before_it.0 later run ends),
+    )
 
 pub loads_write_their_own : LoadsWriteTheirOwn
-loads_write_their_own v w p address bytes write core no_page = leaving_composes.none v (only p)
-loads_write_their_own v w p address bytes write core (page_more {before} part {u} {w} first some within run state ends later) =
-    leaving_composes.both v u w (only p)
-    (loads_write_their_own v u p address before write core first)
-    (installs_write_their_own u w p (address + length before) part write (loaded_core v u p address before write core first) later run ends)
+loads_write_their_own v w p address bytes write core loads = (loaded p address write v core bytes w loads).1
 
 pub cleaning_writes_its_own : CleaningWritesItsOwn
 cleaning_writes_its_own v w p page core later state ends =
     leaves v w (only p) core later
-    (subst (OthersKeep (only p) v.state) (sym state) (cleaning_keeps (only p) v.state (at_page p page) (eq-eqb refl)))
+    (subst (OthersKeep (only p) v.state) (sym state) (cleaning_keeps (only p) v.state (at_page p page) (itself p)))
     (ways_by_marks (only p) (end.Page p page) v w core later (page_of_others p page) ends)
