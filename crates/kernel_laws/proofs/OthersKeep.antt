@@ -1,7 +1,7 @@
 -- What runs of some processes' events leave of the state to all others.
 use Rattle.kernel_laws.proofs.Prelude
-use Prelude.{◌≡◌, ◌≢◌, ◌∙◌, ℕ, Bool, true, false, List, [], ◌∷◌, length, Option, Some, None, refl, sym, ap, subst, inl, inr, arith}
-use Prelude.{is_some, unwrap_or, option_map, slice_index, IsTrue, Slot, Cell, at_page, slot_at, cell_or_fresh, get-inserted_other}
+use Prelude.{◌≡◌, ◌≢◌, ◌∙◌, ℕ, Bool, true, false, List, [], ◌∷◌, Option, Some, None, refl, sym, ap, inl, inr, arith}
+use Prelude.{is_some, unwrap_or, option_map, slice_index, Slot, Cell, slot_at, cell_or_fresh, get-inserted_other}
 use Prelude.{Flags, flags_of, flags_at, shares, cleaned, next, Event}
 use Rattle.std.proofs.lemmas.List.{get_or_default, same_lists}
 use Rattle.page_words.specs.FiniteMap as map

@@ -2,7 +2,6 @@
 use Rattle.std.proofs.Common.{◌≡◌, ◌≢◌, ◌∙◌, ◌<◌, ◌+◌, ◌*◌, ◌^◌, ◌==◌, ℕ, Bool, true, false, List, length, Option, Some, None, refl, sym, ap, subst, inl, inr, arith, is_some, unwrap_or}
 use Rattle.std.specs.Prelude.{◌⊎◌, Ok, slice_get, IsTrue, MatchBool, if◌then◌else◌}
 use Rattle.std.specs.Option.{option_and_then, option_map}
-use Rattle.std.proofs.lemmas.Bool.Decides.{nat_tests}
 use Rattle.std.proofs.lemmas.Option.{slice_get_cases, slice_get_past, slice_get_within}
 use Rattle.alloc_table.specs.declared.Role.{Role}
 use Rattle.alloc_table.specs.declared.Role.TheVariants.{Reserved, Free, Directory, Table, Page}
@@ -26,7 +25,7 @@ use Rattle.kernel_calls.proofs.CoreMemory.{root_quota, walks_of, ways_of}
 use Rattle.kernel_calls.proofs.Linked.{mapped_way, tables_map}
 use Rattle.kernel_calls.proofs.WalkedReplies.{lives}
 use Rattle.kernel_calls.proofs.Writings.{Mapped, mapped_slot, slot_word, some_member, two_dir_words, two_words, unmapped_slot, word_at_slot}
-use Rattle.kernel_calls.specs.Authority.{Flags, flags_at, flags_of, shares}
+use Rattle.kernel_calls.specs.Authority.{Flags, flags_of, shares}
 use Rattle.kernel_calls.specs.Cleaned.{EndsMarks}
 use Rattle.kernel_calls.specs.Processors.{IsCore}
 use Rattle.kernel_calls.specs.Translations.{MapsInRegion, is_all_of, is_ended}
@@ -35,7 +34,7 @@ use Rattle.kernel_calls.specs.declared.translations.Ended.{Ended}
 use Rattle.process_table.specs.Image.{memory_of}
 use Rattle.process_table.specs.State.{is_live}
 use Rattle.process_table.specs.View.{View}
-use Rattle.kernel_laws.proofs.OthersKeep.{IsAlone, OthersKeep, flagged}
+use Rattle.kernel_laws.proofs.OthersKeep.{IsAlone, OthersKeep}
 use Rattle.kernel_laws.specs.OwnRuns.{Leaves, MayWriteAlong, ServesAlike, WriteTheirOwn}
 
 -- the ways of others' pages, with their directories and tables

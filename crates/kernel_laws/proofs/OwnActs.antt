@@ -1,14 +1,13 @@
 -- Acts of many bytes write only what was free and what is of their process.
-use Rattle.std.proofs.Common.{◌≡◌, ◌∙◌, ◌+◌, ◌++◌, ◌==◌, ℕ, zero, suc, Bool, true, false, List, [], ◌∷◌, length, refl, sym, ap, subst, arith}
+use Rattle.std.proofs.Common.{◌≡◌, ◌+◌, ◌++◌, ◌==◌, ℕ, zero, suc, Bool, true, false, List, [], ◌∷◌, length, refl, sym, subst, arith}
 use Rattle.std.specs.Prelude.{if◌then◌else◌}
 use Rattle.page_words.proofs.MapLemmas.{same-true}
 use Rattle.page_words.specs.Addresses.{page_number}
-use Rattle.address_space.specs.Spaces.{Slot, at_page}
+use Rattle.address_space.specs.Spaces.{at_page}
 use Rattle.address_space.specs.Stays.{none_goes}
 use Rattle.kernel_acts.specs.Installed.{closing, install_run, is_writable_at, map_of, opening, protect_of}
 use Rattle.kernel_acts.specs.Loaded.{Loads, no_page, page_more}
 use Rattle.kernel_acts.specs.Transfers.{carried, loads, of_lazy_pages, stores}
-use Rattle.kernel_calls.specs.Cleaned.{EndsMarks}
 use Rattle.kernel_calls.specs.Machine.{answer, completes, end_of, next}
 use Rattle.kernel_calls.specs.Processors.{IsCore}
 use Rattle.kernel_calls.specs.declared.calls.Event.{Event}

@@ -1,10 +1,9 @@
 -- Runs of some processes' events write only what was free and what is theirs.
-use Rattle.std.proofs.Common.{◌≡◌, ◌≢◌, ◌∙◌, ℕ, Bool, true, false, List, [], ◌∷◌, Option, Some, None, refl, sym, ap, subst, inl, inr, arith}
+use Rattle.std.proofs.Common.{◌≡◌, ◌≢◌, ◌∙◌, ℕ, Bool, true, false, List, [], ◌∷◌, Option, Some, None, refl, sym, ap, subst, inl}
 use Rattle.std.specs.Prelude.{slice_get}
 use Rattle.alloc_table.specs.declared.Role.{Role}
 use Rattle.alloc_table.specs.declared.Role.TheVariants.{Reserved, Free, Directory, Table, Page}
 use Rattle.page_words.specs.Addresses.{slot_number}
-use Rattle.address_space.specs.Spaces.{Slot}
 use Rattle.kernel_calls.proofs.Leaving.{region_spared}
 use Rattle.kernel_calls.proofs.Writings.{ended_takes}
 use Rattle.kernel_calls.specs.Along.{CarriesOut, EndAlong, EndsInOrder}
@@ -17,7 +16,7 @@ use Rattle.process_table.specs.View.{View}
 use Rattle.kernel_calls.proofs.Cleanings.{events_end_marks}
 use Rattle.kernel_laws.proofs.OthersKeep.{OthersKeep, event_keeps}
 use Rattle.kernel_laws.proofs.OthersStand.{EndOfThese, leaves, ways_by_marks}
-use Rattle.kernel_laws.specs.OwnRuns.{ActsWriteTheirOwn, AreOwn, IsOwn, LeavingComposes, RunsWriteTheirOwn, ServesAlike, WriteTheirOwn}
+use Rattle.kernel_laws.specs.OwnRuns.{ActsWriteTheirOwn, IsOwn, LeavingComposes, RunsWriteTheirOwn, ServesAlike, WriteTheirOwn}
 
 -- ---- Two changes after each other
 
