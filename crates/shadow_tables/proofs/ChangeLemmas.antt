@@ -12,9 +12,9 @@ use Rattle.shadow_tables.specs.declared.tables.Tables.{Tables}
 use Rattle.shadow_tables.specs.declared.tables.Translation.{Translation}
 use Rattle.shadow_tables.specs.declared.holdings.Holdings.{Holdings}
 use Rattle.shadow_tables.specs.LongWords.{long_at, long_place, entry_word}
-use Rattle.shadow_tables.specs.Shadow.{at_page, frame_address}
+use Rattle.shadow_tables.specs.Shadow.{at_page, frame_address, word_for}
 use Rattle.shadow_tables.specs.Holdings.{Places, IsNth, AreHeld, IsReleased, released_place, count_of}
-use Rattle.shadow_tables.specs.Tables.{frames_of, word_of, index_at, way, translation_in, translation_at, translations_in, word_for, AreBlocks, AreTables, IsWord, IsTable, SameBlocks, SameButBytes, IsShadow, IsChanged}
+use Rattle.shadow_tables.specs.Tables.{frames_of, word_of, index_at, way, translation_in, translation_at, translations_in, AreBlocks, AreTables, IsWord, IsTable, SameBlocks, SameButBytes, IsShadow, IsChanged}
 use Rattle.shadow_tables.proofs.HoldingLemmas.{released-other}
 use Rattle.shadow_tables.proofs.LongWordLemmas.{SaysEntry, says_entry}
 use Rattle.shadow_tables.proofs.WayLemmas.{IsAt, place_of_way, none_some, same_way, same_translation, nothing_after, process_of_way, no_way, prefix_at-last, user_lower, index_at-below}

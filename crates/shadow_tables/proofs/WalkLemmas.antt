@@ -8,6 +8,7 @@ use Rattle.std.proofs.lemmas.Bool.Decides.{nat_tests}
 use Rattle.std.proofs.lemmas.List.{get_or_past, get_or-drop, get_or-take, length-take-le, ext_get_or, take_all}
 use Rattle.std.proofs.lemmas.List.Sums.{sum_by_more}
 use Rattle.page_words.specs.Addresses.{IsUserPage}
+use Rattle.page_words.specs.FiniteMap as map
 use Rattle.table_walk.specs.declared.Access.{Access}
 use Rattle.table_walk.specs.declared.Access.TheVariants.{Read, Write}
 use Rattle.table_walk.specs.Walk.{is_write, first_that_applies}
@@ -17,13 +18,14 @@ use Rattle.shadow_tables.specs.declared.walk.LongEnd.{LongEnd}
 use Rattle.shadow_tables.specs.declared.walk.LongEnd.TheVariants.{Missing, Denied, Unmarked, Foreign}
 use Rattle.shadow_tables.specs.LongWords.{long_at, long_place, target_of, is_foreign, entry_word}
 use Rattle.shadow_tables.specs.LongWalk.{holds_table, way_word, allows, is_marked, step_of, and_on, from_table, from_directory, from_pointers, long_walk}
-use Rattle.shadow_tables.specs.Shadow.{at_page, frame_address, shadow_end}
+use Rattle.shadow_tables.specs.Shadow.{at_page, frame_address, shadow_end, link_for, word_for}
 use Rattle.shadow_tables.specs.Holdings.{Places, count_of}
-use Rattle.shadow_tables.specs.Tables.{word_of, named_by, index_at, way, translation_in, translation_at, seen_as, AreTables, IsTable}
-use Rattle.shadow_tables.specs.Laws.{WalksAgree, KernelHalves, UpperHalvesAreClosed}
+use Rattle.shadow_tables.specs.Needs.{table_at}
+use Rattle.shadow_tables.specs.Tables.{word_of, named_by, index_at, way, translation_in, translation_at, translations_in, seen_as, AreTables, IsTable}
+use Rattle.shadow_tables.specs.Laws.{WalksAgree, LinksAreExact, PagesAreExact, KernelHalves, UpperHalvesAreClosed}
 use Rattle.shadow_tables.specs.Kernel.{IsKernelWord}
 use Rattle.shadow_tables.proofs.LongWordLemmas.{SaysEntry, says_entry, long_by_bytes}
-use Rattle.shadow_tables.proofs.WayLemmas.{place_of_way, next_at, named_by-link, nothing_at, nothing_after, prefix_at-last, index_at-below}
+use Rattle.shadow_tables.proofs.WayLemmas.{place_of_way, process_of_way, table_at-way, next_at, named_by-link, nothing_at, nothing_after, prefix_at-last, index_at-below}
 use Rattle.shadow_tables.proofs.ChangeLemmas.{translation_in-entry}
 use Rattle.shadow_tables.proofs.SlotLemmas.{get-user, get-out}
 
@@ -173,14 +175,43 @@ rooted_process places t p root are is = elim (cases_lt p 64) [
     none_is : (g : ℕ) → ◌≡◌ {A = Option ℕ} None (Some g) → ⊥
     none_is g e = cc
 
+-- the translation of a page of the lower half, as a contract sees it
+seen_translation : (places : Places) (t : Tables) (p page : ℕ) → AreTables places t → p < 64 → page < 2 ^ 35 → map.get (translations_in t) (at_page p page) ≡ translation_at t p page
+seen_translation places t p page are process lower = elim (user_or_not page) [
+  | inl user ↦ get-user t (at_page p page) process user
+  | inr out ↦ get-out t (at_page p page) (inr out) ∙ sym (no_translation places t p page are process lower out)
+]
+
 pub walks_agree : (places : Places) (t : Tables) → AreTables places t → WalksAgree (seen_as t)
 walks_agree places t are p root address access is lower =
     let process = rooted_process places t p root are is in
     walk_is places t are p process address lower access root is
-    ∙ ap (λ entry. shadow_end t.block entry address access) (sym (elim (user_or_not (address / 4096)) [
-      | inl user ↦ get-user t (at_page p (address / 4096)) process user
-      | inr out ↦ get-out t (at_page p (address / 4096)) (inr out) ∙ sym (no_translation places t p (address / 4096) are process (omega arith) out)
-    ]))
+    ∙ ap (λ entry. shadow_end t.block entry address access) (sym (seen_translation places t p (address / 4096) are process (omega arith)))
+
+pub links_are_exact : (places : Places) (t : Tables) → AreTables places t → LinksAreExact (seen_as t)
+links_are_exact places t are p page depth frame lower deep seen =
+    let is : way t p page depth ≡ Some frame = sym (table_at-way t p page depth are.blocks) ∙ seen in
+    let process = process_of_way t p page depth frame are.blocks is in
+    let its = place_of_way places t are p page process lower depth frame (omega arith) is in
+    let next : table_at (seen_as t) p page (suc depth) ≡ named_by t (word_of t frame (index_at depth page)) =
+    table_at-way t p page (suc depth) are.blocks ∙ ap (option_and_then (λ f. named_by t (word_of t f (index_at depth page)))) is in
+    elim (next_at places t p page depth frame are process lower deep its) [
+      | inl none ↦ none ∙ ap (link_for t.pool) (sym (next ∙ ap (named_by t) none))
+      | inr link ↦ link.1.word ∙ ap (link_for t.pool) (sym (next ∙ ap (named_by t) link.1.word ∙ named_by-link t link.0 are.blocks link.1.inside))
+    ]
+
+pub pages_are_exact : (places : Places) (t : Tables) → AreTables places t → PagesAreExact (seen_as t)
+pages_are_exact places t are p page table lower seen =
+    let is : way t p page 3 ≡ Some table = sym (table_at-way t p page 3 are.blocks) ∙ seen in
+    let process = process_of_way t p page 3 table are.blocks is in
+    let its = place_of_way places t are p page process lower 3 table (omega arith) is in
+    let owned : (places table).owner < 64 = omega (arith, its.owner, process) in
+    let found = seen_translation places t p page are process lower ∙ ap (option_and_then (λ f. translation_in t.block (word_of t f (index_at 3 page)))) is in
+    elim (((are.tables table its.inside owned).words (index_at 3 page) (index_at-below 3 page)).page its.depth) [
+      | inl none ↦ none ∙ ap (word_for t.block) (sym (found ∙ ap (translation_in t.block) none))
+      | inr entry ↦ entry.1.word ∙ ap (word_for t.block) (sym (found ∙ ap (translation_in t.block) entry.1.word
+          ∙ translation_in-entry t.block entry.0.frame entry.0.write are.blocks.block are.blocks.block_end entry.1.frame))
+    ]
 
 pub kernel_halves : (places : Places) (t : Tables) → AreTables places t → KernelHalves (seen_as t)
 kernel_halves places t are p root is =

@@ -1,6 +1,6 @@
 -- What a contract sees of shadow tables: a finite map from slots, each a page of a process, to translations, and the
 -- bytes of the pool that a processor walks.
-use Rattle.std.specs.Prelude.{◌≡◌, ℕ, ◌+◌, ◌*◌, ◌%◌, Bool, not, ◌&&◌, if◌then◌else◌, List, length, replicate, slice_index_or, Option, Some, None, Result, Ok, Err, refl}
+use Rattle.std.specs.Prelude.{◌≡◌, ℕ, ◌+◌, ◌*◌, ◌%◌, Bool, true, not, ◌&&◌, if◌then◌else◌, List, length, replicate, slice_index_or, Option, Some, None, Result, Ok, Err, refl}
 use Rattle.std.specs.Option.{option_map}
 use Rattle.std.specs.declared.cmp.Ordering.{Ordering}
 use Rattle.std.specs.declared.cmp.Ordering.TheVariants.{Less, Equal, Greater}
@@ -13,6 +13,7 @@ use Rattle.page_words.specs.FiniteMap.{Order, Map}
 use Rattle.page_words.specs.Codes.{map_code}
 use Rattle.table_walk.specs.declared.Access.{Access}
 use Rattle.table_walk.specs.Walk.{is_write}
+use Rattle.shadow_tables.specs.LongWords.{entry_word}
 use Rattle.shadow_tables.specs.declared.walk.LongEnd.{LongEnd}
 use Rattle.shadow_tables.specs.declared.walk.LongEnd.TheVariants.{Missing, Denied}
 use Rattle.shadow_tables.specs.declared.tables.Translation.{Translation}
@@ -96,6 +97,16 @@ root_frame s p = slice_index_or s.roots p None
 -- the physical address of a process's root
 abbrev pub root_of : Shadow → ℕ → Option ℕ
 root_of s p = option_map (frame_address s.pool) (root_frame s p)
+
+-- the word that leads to a table of the pool, or to none
+abbrev pub link_for : ℕ → Option ℕ → ℕ
+link_for pool None = 0
+link_for pool (Some frame) = entry_word (frame_address pool frame) true
+
+-- the word of a translation, or of none
+abbrev pub word_for : ℕ → Option Translation → ℕ
+word_for block None = 0
+word_for block (Some entry) = entry_word (frame_address block entry.frame) entry.write
 
 -- how a walk ends at a page with this translation, or with none
 abbrev pub shadow_end : ℕ → Option Translation → ℕ → Access → Result ℕ LongEnd

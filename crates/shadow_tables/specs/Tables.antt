@@ -51,11 +51,6 @@ WaysStay old new = (q at depth frame : ℕ) → IsUserPage at → depth ≤ 3 �
 abbrev pub translation_in : ℕ → ℕ → Option Translation
 translation_in block word = if is_present word then Some (record { frame = (word / 4096 - block / 4096) % 2 ^ 20; write = is_writable word }) else None
 
--- the word of a translation, or of none
-abbrev pub word_for : ℕ → Option Translation → ℕ
-word_for block None = 0
-word_for block (Some entry) = entry_word (frame_address block entry.frame) entry.write
-
 -- the translation of a page of a process
 abbrev pub translation_at : Tables → ℕ → ℕ → Option Translation
 translation_at t p page = option_and_then (λ frame. translation_in t.block (word_of t frame (index_at 3 page))) (way t p page 3)

@@ -17,7 +17,7 @@ ghost use Rattle.page_words.specs.Addresses.{IsUserPage};
 ghost use Rattle.shadow_tables.specs.Kernel.{AreKernelWords};
 ghost use Rattle.shadow_tables.specs.Shadow.{at_page, root_frame, root_of, opening, IsFixed};
 ghost use Rattle.shadow_tables.specs.Needs.{frames_needed, shared_missing, TablesStay};
-ghost use Rattle.shadow_tables.specs.Laws.{WalksAgree, KernelHalves, UpperHalvesAreClosed, UserPagesOnly};
+ghost use Rattle.shadow_tables.specs.Laws.{WalksAgree, LinksAreExact, PagesAreExact, KernelHalves, UpperHalvesAreClosed, UserPagesOnly};
 
 mod halves;
 mod holdings;
@@ -196,10 +196,13 @@ impl ShadowTables {
     }
 
     /// The walk of each address of the lower half ends as the translation of its page says, which is one of the user
-    /// range. The upper half of each root is the kernel's, through which no walk reaches a page. Each frame is free or
+    /// range. Each word that it reads has the address of what it leads to and the flags of `entry_word`, and no other
+    /// bit; where it ends, the word is 0. The upper half of each root is the kernel's, through which no walk reaches a page. Each frame is free or
     /// taken.
     pub fn walks(&self)
         ensures walks { WalksAgree self.now }
+        ensures links { LinksAreExact self.now }
+        ensures pages { PagesAreExact self.now }
         ensures kernel { KernelHalves self.now }
         ensures closed { UpperHalvesAreClosed self.now }
         ensures user { UserPagesOnly self.now }

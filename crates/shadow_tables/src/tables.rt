@@ -6,9 +6,9 @@ ghost use Rattle.page_words.specs.FiniteMap as map;
 ghost use Rattle.page_words.specs.Addresses.{IsUserPage};
 ghost use Rattle.shadow_tables.specs.LongWords.{entry_word, with_long, long_place};
 ghost use Rattle.shadow_tables.specs.Kernel.{AreKernelWords};
-ghost use Rattle.shadow_tables.specs.Shadow.{at_page, frame_address, opening, IsFixed};
+ghost use Rattle.shadow_tables.specs.Shadow.{at_page, frame_address, opening, word_for, IsFixed};
 ghost use Rattle.shadow_tables.specs.Holdings.{count_of, frame_count, AreHeld, IsHeld, opening_places};
-ghost use Rattle.shadow_tables.specs.Tables.{IsShadow, AreBlocks, frames_of, word_of, named_by, index_at, way, missing_in, shared_in, WaysStay, translation_in, translations_in, word_for, seen_as, SameButBytes, SameBlocks, SameOthers, IsFresh, IsStep, IsChanged};
+ghost use Rattle.shadow_tables.specs.Tables.{IsShadow, AreBlocks, frames_of, word_of, named_by, index_at, way, missing_in, shared_in, WaysStay, translation_in, translations_in, seen_as, SameButBytes, SameBlocks, SameOthers, IsFresh, IsStep, IsChanged};
 
 use crate::holdings::{FREE, Holdings};
 use crate::walk::long_at;
