@@ -11,7 +11,7 @@ ghost use Rattle.address_space.specs.Spaces.{byte_at};
 ghost use Rattle.address_space.specs.Stays.{FramesStay, LooseStay};
 ghost use Rattle.process_table.specs.Image.{StandsFor, image_of, memory_of};
 ghost use Rattle.kernel_calls.specs.Gone.{gone_by, gives_back};
-ghost use Rattle.kernel_calls.specs.Machine.{answer, next};
+ghost use Rattle.kernel_calls.specs.Machine.{answer, next, completes};
 ghost use Rattle.kernel_calls.specs.Translations.{Ends, ended_by, is_all_of};
 ghost use Rattle.kernel_acts.specs.Touched.{touch_of};
 ghost use Rattle.page_words.specs.Addresses.{page_number};
@@ -75,7 +75,8 @@ impl ShadowedCore {
     }
 
     /// Carries out an event, forgets the translations that it ended, and returns these. Each processor that cached one
-    /// has to invalidate it before anything else is done. If the process is gone, no processor may use its root.
+    /// has to invalidate it before anything else is done. If the process is gone, no processor may use its root. A fault or
+    /// a refusal changes nothing.
     pub fn event(&mut self, event: &Event) -> (Reply, Ended)
         ensures reply { result.0 ≡ answer self.old.core.state event.now }
         ensures ended { result.1 ≡ ended_by self.old.core event.now }
@@ -92,6 +93,7 @@ impl ShadowedCore {
             → root_frame self.new.shadow p ≡ root_frame self.old.shadow p }
         ensures tables { (p : ℕ) → is_all_of result.1 p ≡ false → TablesStay self.old.shadow p self.new.shadow }
         ensures gone { (p : ℕ) → is_all_of result.1 p ≡ true → HasNothing self.new.shadow p }
+        ensures refused { completes result.0 ≡ false → self.new ≡ self.old }
         ensures fixed { IsFixed self.old.shadow self.new.shadow }
     {
         carry_out(&mut self.core, &mut self.shadow, event)

@@ -9,7 +9,7 @@ ghost use Rattle.address_space.specs.Stays.{FramesStay, LooseStay};
 ghost use Rattle.process_table.specs.Image.{StandsFor, image_of, memory_of};
 ghost use Rattle.kernel_calls.specs.Cleaned.{is_dirty_at};
 ghost use Rattle.kernel_calls.specs.Gone.{gone_by, gives_back};
-ghost use Rattle.kernel_calls.specs.Machine.{answer, next};
+ghost use Rattle.kernel_calls.specs.Machine.{answer, next, completes};
 ghost use Rattle.kernel_calls.specs.Translations.{Ends, ended_by, is_all_of, IsGiven, WalkGives};
 ghost use Rattle.kernel_calls.specs.declared.translations.Ended.TheVariants as end;
 ghost use Rattle.kernel_acts.specs.Touched.{touch_of, AreMarked};
@@ -50,6 +50,7 @@ pub fn forget(shadow: &mut ShadowTables, ended: &Ended)
         → frames_needed shadow.new p at ≡ frames_needed shadow.old p at }
     ensures tables { (p : ℕ) → is_all_of ended.now p ≡ false → TablesStay shadow.old p shadow.new }
     ensures gone { (p : ℕ) → is_all_of ended.now p ≡ true → HasNothing shadow.new p }
+    ensures nothing { ended.now ≡ end.Nothing → shadow.new ≡ shadow.old }
     ensures fixed { IsFixed shadow.old shadow.new }
 {
     shadow.walks();
@@ -68,6 +69,7 @@ fn drop_ended(shadow: &mut ShadowTables, ended: &Ended)
         → frames_needed shadow.new p at ≡ frames_needed shadow.old p at }
     ensures tables { (p : ℕ) → is_all_of ended.now p ≡ false → TablesStay shadow.old p shadow.new }
     ensures gone { (p : ℕ) → is_all_of ended.now p ≡ true → HasNothing shadow.new p }
+    ensures nothing { ended.now ≡ end.Nothing → shadow.new ≡ shadow.old }
     ensures fixed { IsFixed shadow.old shadow.new }
 {
     match ended {
@@ -82,7 +84,8 @@ fn drop_ended(shadow: &mut ShadowTables, ended: &Ended)
 }
 
 /// Carries out an event, forgets the translations that it ended, and returns these. Each processor that cached one
-/// invalidates it before anything else is done. If the event ends a process, no processor may have its root.
+/// invalidates it before anything else is done. If the event ends a process, no processor may have its root. A fault or a
+/// refusal changes nothing.
 pub fn carry_out(core: &mut Core, shadow: &mut ShadowTables, event: &Event) -> (Reply, Ended)
     requires { IsShadowed core.old shadow.old }
     ensures kept { IsShadowed core.new shadow.new }
@@ -97,6 +100,7 @@ pub fn carry_out(core: &mut Core, shadow: &mut ShadowTables, event: &Event) -> (
     ensures roots { (p : ℕ) → is_all_of result.1 p ≡ false → root_frame shadow.new p ≡ root_frame shadow.old p }
     ensures tables { (p : ℕ) → is_all_of result.1 p ≡ false → TablesStay shadow.old p shadow.new }
     ensures gone { (p : ℕ) → is_all_of result.1 p ≡ true → HasNothing shadow.new p }
+    ensures refused { completes result.0 ≡ false → (core.new ≡ core.old) × (shadow.new ≡ shadow.old) }
     ensures free { shadow.old.free ≤ shadow.new.free }
     ensures fixed { IsFixed shadow.old shadow.new }
 {
