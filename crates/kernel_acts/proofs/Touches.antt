@@ -6,7 +6,7 @@ use Prelude.{slice_index, option_map, some_value, nat_lt, page_number, offset_nu
 use Prelude.{page_and, touched, IsUserPage, same_cases, walk_of, Read, Write}
 use Prelude.{is_lazy_at, takes_stores, Slot, slot_order, Cell, Spaces, slot_at, fresh, cell_or_fresh}
 use Prelude.{byte_at, accessed, stored, write_at, with_pages, all_accessed, way_parts}
-use Prelude.{FramesStay, none_goes, WaysAgree, WalkEndsBy, stays_most, StandsFor, image_of, memory_of, State, is_live}
+use Prelude.{FramesStay, none_goes, WalkEndsBy, stays_most, memory_of, State, is_live}
 use Prelude.{is_mapped, View, after_stores, IsWellFormed, get-inserted, plan_of, step_of, Goes}
 use Prelude.{ready, all_user, same_cells, answer, answer_of, next, completes, carried}
 use Prelude.{is_some, ended_by, Ends, load_byte, store_byte, Event, Reply, Ended}
@@ -25,9 +25,6 @@ use Rattle.address_space.specs.ByWalk.{finds_at}
 use Rattle.address_space.specs.Spaces.{zeros, store_in}
 use Rattle.address_space.proofs.steps.Bytes.{write_at-nothing, stored-flags}
 use Rattle.fault_handler.proofs.Settled.{each_right}
-use Rattle.fault_handler.specs.Plans.{planned_by, plan_at, step_at}
-use Rattle.fault_handler.specs.declared.plans.PageStep.{PageStep}
-use Rattle.fault_handler.specs.declared.plans.PageStep.TheVariants as step
 use Rattle.kernel_calls.proofs.Decided.{next-goes, next-stays}
 use Rattle.kernel_calls.proofs.Leaving.{event_ends}
 use Rattle.kernel_calls.specs.Processors.{IsCore}

@@ -53,9 +53,9 @@ fn touch_to_read(core: &mut Core, pid: Pid, address: Vaddr) -> (Reply, Ended)
     ensures { Touches core.old (load_byte pid address) pid address access.Read result.0 result.1 core.new }
 {
     core.stands();
-    let told = core.step_ending(&load_of(pid, address));
+    let reply = core.step(&load_of(pid, address));
     core.stands();
-    told
+    (reply, Ended::Nothing)
 }
 
 /// Sets accessed and dirty of a page that takes stores as memory is, as the Store of the byte that is there does. No
@@ -80,9 +80,12 @@ fn store_zero(core: &mut Core, pid: Pid, address: Vaddr) -> (Reply, Ended)
         result.0 result.1 core.new }
 {
     core.stands();
-    let told = core.step_ending(&store_of_zero(pid, address));
+    let event = store_of_zero(pid, address);
+    let ended = core.may_end(&event);
+    let reply = core.step(&event);
     core.stands();
-    told
+    let ended = ended.if_completed(&reply);
+    (reply, ended)
 }
 
 /// The Store of the byte that is there, which sets accessed and dirty of its page.

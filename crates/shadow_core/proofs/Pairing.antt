@@ -47,11 +47,12 @@ use Rattle.kernel_calls.specs.declared.translations.Ended.TheVariants as end
 use Rattle.kernel_calls.proofs.Leaving.{left_read, nothing_ends}
 use Rattle.kernel_calls.specs.Processors.{IsCore, LetsThrough, LetCall}
 use Rattle.shadow_tables.specs.Laws.{WalksAgree, UpperHalvesAreClosed}
-use Rattle.shadow_tables.specs.Needs.{frames_needed}
+use Rattle.shadow_tables.specs.Needs.{frames_needed, IsWay, TablesStay}
+use Rattle.shadow_tables.specs.declared.tables.Way.{Way}
 use Rattle.shadow_tables.specs.Shadow.{Shadow, Translations, at_page, slot_order, root_frame, root_of, frame_address, shadow_end}
 use Rattle.shadow_tables.specs.declared.tables.Translation.{Translation}
 use Rattle.shadow_tables.specs.declared.walk.LongEnd.{LongEnd}
-use Rattle.shadow_core.specs.Paired.{kept_at, IsShadowed, left_by, HasEntered, HasFilled, RootsStay, lacks_frames, AreApart, PoolIsOutOfReach, WalksAreTheCores, Reaches, ReachesCall, AccessesAreKept, stop_of, AccessesAreServed, IsServed}
+use Rattle.shadow_core.specs.Paired.{kept_at, IsShadowed, left_by, HasEntered, HasFilled, RootsStay, AreApart, PoolIsOutOfReach, WalksAreTheCores, Reaches, ReachesCall, AccessesAreKept, stop_of, AccessesAreServed, IsServed}
 
 none_some : {X : Type 0} (x : X) → ◌≡◌ {A = Option X} None (Some x) → ⊥
 none_some x e = cc
@@ -346,6 +347,10 @@ write_walk v p address directory frame finds live read =
     ok_same : (a b : ℕ) → ◌≡◌ {A = Result ℕ WalkEnd} (Ok a) (Ok b) → a ≡ b
     ok_same a b e = cc
 
+-- where a walk finds a frame for a write, it finds it for a read
+pub read_walk : (v : View) (p directory address frame : ℕ) → WalkGives (memory_of v) p directory address Write frame → WalkGives (memory_of v) p directory address Read frame
+read_walk v p directory address frame gives = (gives.0, same_page v.bytes directory address address frame Write Read refl (λ e. refl) gives.1)
+
 -- ---- The page's cell
 
 -- the cell of a page whose walk finds a frame
@@ -414,9 +419,13 @@ shadowed_fill w s u p address page t same shadowed inserted size given =
 
 -- ---- A fault
 
--- what a fault at a user page doesn't lack is there
-pub has_frames : (s : Shadow) (p address : ℕ) → IsUserPage (page_number address) → lacks_frames s p address ≡ false → frames_needed s p (page_number address) ≤ s.free
-has_frames s p address user e = grind (arith, nat_tests)
+-- the tables for a page go as far as before, where they stay and no more is needed
+pub way_stays : (s u : Shadow) (p page : ℕ) (way : Way) → IsUserPage page → IsWay s p page way → frames_needed u p page ≡ frames_needed s p page → TablesStay s p u → IsWay u p page way
+way_stays s u p page way user is needed stay = record {
+  missing = is.missing ∙ sym needed;
+  most = is.most;
+  table = λ none. stay page 3 way.table user (omega arith) (is.table none);
+}
 
 -- where nothing changes
 pub still_ends : (v : View) → IsCore v → Ends end.Nothing v v

@@ -1,6 +1,6 @@
 //! A core and shadow tables of it, each with its own owner: what an event and a fault are to both.
 
-ghost use Rattle.std.specs.Prelude.{◌≡◌, ℕ, ◌+◌, ◌<◌, ◌≤◌, ◌^◌, ◌&&◌, ◌↔◌, true, false, sum};
+ghost use Rattle.std.specs.Prelude.{◌≡◌, ℕ, ◌+◌, ◌<◌, ◌≤◌, ◌^◌, ◌&&◌, ◌↔◌, true, false, nat_lt, is_some, IfSome, sum};
 ghost use Rattle.page_words.specs.Addresses.{IsUserPage, page_number};
 ghost use Rattle.table_walk.specs.declared.Access.TheVariants as access;
 ghost use Rattle.address_space.specs.ByWalk.{finds_at};
@@ -15,14 +15,14 @@ ghost use Rattle.kernel_calls.specs.declared.translations.Ended.TheVariants as e
 ghost use Rattle.kernel_acts.specs.Touched.{touch_of, AreMarked};
 ghost use Rattle.shadow_tables.specs.Shadow.{IsFixed, root_frame};
 ghost use Rattle.shadow_core.specs.Paired.{IsShadowed, kept_at, left_by, lacks_frames, stop_of, handled_of, IsStopped, HasFilled, HasNothing, RootsStay};
-ghost use Rattle.shadow_tables.specs.Needs.{frames_needed, TablesStay};
+ghost use Rattle.shadow_tables.specs.Needs.{frames_needed, IsWay, TablesStay};
 ghost use Rattle.shadow_core.specs.Paired.{TranslationsAreRead, WalksAreTheCores, PoolIsOutOfReach, AccessesAreServed, AccessesAreKept};
 
 use kernel_acts::touch;
 use kernel_calls::{Core, Ended, Event, Reply};
 use page_words::{Frame, Pid, Vaddr, in_user_range, page_of};
 use process_table::Cause;
-use shadow_tables::{ShadowTables, Translation};
+use shadow_tables::{ShadowTables, Translation, Way};
 use table_walk::{Access, walk};
 
 /// How a fault of a processor was handled.
@@ -109,47 +109,41 @@ pub fn carry_out(core: &mut Core, shadow: &mut ShadowTables, event: &Event) -> (
     told
 }
 
-/// Whether the walk finds a frame for a store.
-fn lets_write(core: &Core, pid: Pid, address: Vaddr) -> bool
-    ensures { result ≡ finds_at (memory_of core.now) pid access.Write address }
-{
-    match core.directory(pid) {
-        Some(directory) => walk(core.memory(), directory, address, Access::Write).is_ok(),
-        None => false,
-    }
-}
-
-/// The frame that the walk finds for a load.
-fn frame_of(core: &Core, pid: Pid, address: Vaddr) -> Frame
-    requires { finds_at (memory_of core.now) pid access.Read address ≡ true }
-    ensures walk { (directory : ℕ) × WalkGives (memory_of core.now) pid directory address access.Read result }
-    ensures bound { result < 2 ^ 20 }
+/// The frame that the walk finds for an access, if it finds one.
+#[inline(always)]
+fn found_by(core: &Core, pid: Pid, address: Vaddr, access: Access) -> Option<Frame>
+    ensures finds { is_some result ≡ finds_at (memory_of core.now) pid access address }
+    ensures walk { IfSome result (λ frame. (directory : ℕ)
+        × WalkGives (memory_of core.now) pid directory address access frame) }
+    ensures bound { IfSome result (λ frame. frame < 2 ^ 20) }
 {
     core.stands();
-    let directory = core.directory(pid).unwrap();
+    let directory = core.directory(pid)?;
     let memory = core.memory();
     let frames = memory.frames();
-    let Ok(frame) = walk(memory, directory, address, Access::Read) else {
-        unreachable!()
+    let Ok(frame) = walk(memory, directory, address, access) else {
+        return None;
     };
     prove!(frame.0 < frames);
-    frame
+    Some(frame)
 }
 
-/// Whether the translation of a page allows writes: the walk does, and the page is dirty. A processor sets dirty in the
-/// shadow only.
-fn may_write(core: &Core, pid: Pid, address: Vaddr) -> bool
-    requires { IsUserPage (page_number address) }
-    ensures { result ≡ (finds_at (memory_of core.now) pid access.Write address
-        && is_dirty_at core.now.state (slot_at pid address)) }
+/// The translation of a page that takes stores, to this frame: it allows writes if the page is dirty. A processor sets
+/// dirty in the shadow only.
+fn writable(core: &Core, pid: Pid, address: Vaddr, access: Access, frame: Frame) -> Translation
+    requires user { IsUserPage (page_number address) }
+    requires marked { AreMarked core.now.state.spaces (slot_at pid address) access }
+    ensures { result ≡ record { frame = frame; write = is_dirty_at core.now.state (slot_at pid address) } }
 {
-    lets_write(core, pid, address) && core.is_dirty(pid, page_of(address))
+    let write = access == Access::Write || core.is_dirty(pid, page_of(address));
+    Translation { frame, write }
 }
 
-/// The translation of a page that was accessed: what the walk gives.
-fn translation_of(core: &Core, pid: Pid, address: Vaddr) -> Translation
-    requires finds { finds_at (memory_of core.now) pid access.Read address ≡ true }
-    requires accessed { (cell_or_fresh core.now.state.spaces (slot_at pid address)).accessed ≡ true }
+/// The translation of a page that was accessed: what the walk gives. It allows writes if the walk does and the page is
+/// dirty.
+fn translation_of(core: &Core, pid: Pid, address: Vaddr, by: Access) -> Translation
+    requires finds { finds_at (memory_of core.now) pid by address ≡ true }
+    requires marked { AreMarked core.now.state.spaces (slot_at pid address) by }
     requires user { IsUserPage (page_number address) }
     ensures given { IsGiven core.now (kept_at pid (page_number address) result) }
     ensures write { result.write ≡ (finds_at (memory_of core.now) pid access.Write address
@@ -157,18 +151,24 @@ fn translation_of(core: &Core, pid: Pid, address: Vaddr) -> Translation
     ensures bound { result.frame < 2 ^ 20 }
 {
     core.stands();
-    let frame = frame_of(core, pid, address);
-    let write = may_write(core, pid, address);
+    if let Some(frame) = found_by(core, pid, address, Access::Write) {
+        return writable(core, pid, address, by, frame);
+    }
+    let Some(frame) = found_by(core, pid, address, Access::Read) else {
+        unreachable!()
+    };
+    let write = false;
     Translation { frame, write }
 }
 
-/// Fills the translation of a page that was accessed.
-fn fill(core: &Core, shadow: &mut ShadowTables, pid: Pid, address: Vaddr, access: Access)
+/// Fills the translation of a page that was accessed, to which the tables go so far.
+fn fill(core: &Core, shadow: &mut ShadowTables, pid: Pid, address: Vaddr, access: Access, way: Way)
     requires shadowed { IsShadowed core.now shadow.old }
     requires user { IsUserPage (page_number address) }
     requires finds { finds_at (memory_of core.now) pid access address ≡ true }
     requires marked { AreMarked core.now.state.spaces (slot_at pid address) access }
-    requires room { frames_needed shadow.old pid (page_number address) ≤ shadow.old.free }
+    requires way { IsWay shadow.old pid (page_number address) way }
+    requires room { way.missing ≤ shadow.old.free }
     ensures kept { IsShadowed core.now shadow.new }
     ensures filled { HasFilled core.now shadow.old.translations shadow.new pid address access }
     ensures spent { shadow.old.free ≡ shadow.new.free + frames_needed shadow.old pid (page_number address) }
@@ -176,25 +176,34 @@ fn fill(core: &Core, shadow: &mut ShadowTables, pid: Pid, address: Vaddr, access
     ensures tables { (p : ℕ) → TablesStay shadow.old p shadow.new }
     ensures fixed { IsFixed shadow.old shadow.new }
 {
-    let translation = translation_of(core, pid, address);
-    let Ok(()) = shadow.fill(pid, page_of(address), translation.frame, translation.write) else {
-        unreachable!()
-    };
+    let translation = translation_of(core, pid, address, access);
+    shadow.fill_along(
+        pid,
+        page_of(address),
+        way,
+        translation.frame,
+        translation.write,
+    );
     shadow.walks();
 }
 
-/// Whether a fault at an address of the user range needs more frames of the pool than are free.
-fn lacks_frames(shadow: &ShadowTables, pid: Pid, address: u64) -> bool
-    ensures { result ≡ lacks_frames shadow.now pid address }
+/// How far the tables for the page of a fault go. At an address outside the user range none are missing.
+fn way_for(shadow: &ShadowTables, pid: Pid, address: u64) -> Way
+    ensures lacks { lacks_frames shadow.now pid address ≡ nat_lt shadow.now.free result.missing }
+    ensures way { IsUserPage (page_number address) → IsWay shadow.now pid (page_number address) result }
 {
+    let none = Way {
+        missing: 0,
+        table: 0,
+    };
     if address >= 1 << 32 {
-        return false;
+        return none;
     }
     let page = page_of(Vaddr(address as u32));
     if !in_user_range(page) {
-        return false;
+        return none;
     }
-    shadow.free_count() < shadow.needed(pid, page)
+    shadow.way_to(pid, page)
 }
 
 /// How a fault ends at a reply that stops the access; None at any other.
@@ -253,7 +262,8 @@ pub fn handle_fault(
     ensures fixed { IsFixed shadow.old shadow.new }
 {
     core.stands();
-    if lacks_frames(shadow, pid, address) {
+    let way = way_for(shadow, pid, address);
+    if shadow.free_count() < way.missing {
         return (Handled::Full, Ended::Nothing);
     }
     let (reply, ended) = touch(core, pid, address, access);
@@ -261,7 +271,7 @@ pub fn handle_fault(
         return (handled, ended);
     }
     forget(shadow, &ended);
-    fill(core, shadow, pid, Vaddr(address as u32), access);
+    fill(core, shadow, pid, Vaddr(address as u32), access, way);
     (Handled::Filled, ended)
 }
 

@@ -5,6 +5,7 @@ use Rattle.page_words.specs.Addresses.{IsUserPage}
 use Rattle.page_words.specs.Words.{is_present}
 use Rattle.shadow_tables.specs.LongWords.{long_at, long_place}
 use Rattle.shadow_tables.specs.Shadow.{Shadow, root_frame}
+use Rattle.shadow_tables.specs.declared.tables.Way.{Way}
 
 -- the index of a page's word in the table that this many tables lead to
 abbrev pub index_at : ℕ → ℕ → ℕ
@@ -40,3 +41,9 @@ shared_missing s p = if_missing (table_at s p 0x40000 0) + if_missing (table_at 
 -- how many frames a fill of a page takes: one for each that is missing of its root and the three tables below
 abbrev pub frames_needed : Shadow → ℕ → ℕ → ℕ
 frames_needed s p page = if_missing (table_at s p page 0) + if_missing (table_at s p page 1) + if_missing (table_at s p page 2) + if_missing (table_at s p page 3)
+
+-- The tables for a page go so far. While its tables stay, so does this.
+pub record IsWay (s : Shadow) (p page : ℕ) (way : Way) : Type 0 where
+  pub missing : way.missing ≡ frames_needed s p page
+  pub most : way.missing ≤ 4
+  pub table : way.missing ≡ 0 → table_at s p page 3 ≡ Some way.table

@@ -13,6 +13,7 @@ use Rattle.shadow_tables.specs.Needs.{named_within, if_missing}
 use Rattle.shadow_tables.specs.Holdings.{Places, count_of, frame_count, AreHeld, IsTakenBy}
 use Rattle.shadow_tables.specs.declared.tables.Tables.{Tables}
 use Rattle.shadow_tables.specs.declared.tables.Translation.{Translation}
+use Rattle.shadow_tables.specs.declared.tables.Way.{Way}
 
 -- how many frames the pool has
 abbrev pub frames_of : Tables → ℕ
@@ -38,6 +39,12 @@ way t p page (suc depth) = option_and_then (λ frame. named_by t (word_of t fram
 -- how many of the four tables for a page are missing
 abbrev pub missing_in : Tables → ℕ → ℕ → ℕ
 missing_in t p page = if_missing (way t p page 0) + if_missing (way t p page 1) + if_missing (way t p page 2) + if_missing (way t p page 3)
+
+-- the tables for a page go so far
+pub record GoesSo (t : Tables) (p page : ℕ) (goes : Way) : Type 0 where
+  pub missing : goes.missing ≡ missing_in t p page
+  pub most : goes.missing ≤ 4
+  pub table : goes.missing ≡ 0 → way t p page 3 ≡ Some goes.table
 
 -- how many of the five tables that pages of a process share are missing
 abbrev pub shared_in : Tables → ℕ → ℕ

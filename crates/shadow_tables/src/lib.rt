@@ -16,7 +16,7 @@ ghost use Rattle.page_words.specs.FiniteMap as map;
 ghost use Rattle.page_words.specs.Addresses.{IsUserPage};
 ghost use Rattle.shadow_tables.specs.Kernel.{AreKernelWords};
 ghost use Rattle.shadow_tables.specs.Shadow.{at_page, root_frame, root_of, opening, IsFixed};
-ghost use Rattle.shadow_tables.specs.Needs.{frames_needed, shared_missing, TablesStay};
+ghost use Rattle.shadow_tables.specs.Needs.{frames_needed, shared_missing, IsWay, TablesStay};
 ghost use Rattle.shadow_tables.specs.Laws.{WalksAgree, LinksAreExact, PagesAreExact, KernelHalves, UpperHalvesAreClosed, UserPagesOnly};
 
 mod halves;
@@ -29,7 +29,7 @@ use page_words::{Frame, Page, Pid};
 use std::alloc::{AllocError, Global};
 use std::marker::Model;
 use tables::Tables;
-pub use tables::{Full, Translation};
+pub use tables::{Full, Translation, Way};
 pub use walk::{LongEnd, long_walk};
 
 /// The fewest frames of a pool, for each processor that walks it. An instruction accesses three places at most: its own
@@ -105,7 +105,15 @@ impl ShadowTables {
         ensures value { result ≡ frames_needed self.now pid page }
         ensures most { result ≤ 4 }
     {
-        self.tables.missing(pid, page)
+        self.way_to(pid, page).missing
+    }
+
+    /// How far the tables for a user page of a process go, for `fill_along`.
+    pub fn way_to(&self, pid: Pid, page: Page) -> Way
+        requires { IsUserPage page }
+        ensures { IsWay self.now pid page result }
+    {
+        self.tables.way_to(pid, page)
     }
 
     /// Enters the translation of a user page of a process, in place of any other. It makes the root and the tables that
@@ -129,7 +137,35 @@ impl ShadowTables {
         ensures taken { (p : ℕ) → p ≢ pid → slice_index self.new.taken p ≡ slice_index self.old.taken p }
         ensures fixed { IsFixed self.old self.new }
     {
-        self.tables.fill(pid, page, frame, write)
+        let way = self.way_to(pid, page);
+        if way.missing > self.free_count() {
+            return Err(Full);
+        }
+        self.fill_along(pid, page, way, frame, write);
+        Ok(())
+    }
+
+    /// Enters a translation as `fill` does, for a page to which the tables go so far (`way_to`). As many frames are free as
+    /// are needed.
+    pub fn fill_along(&mut self, pid: Pid, page: Page, way: Way, frame: Frame, write: bool)
+        requires user { IsUserPage page }
+        requires frame { frame < 2 ^ 20 }
+        requires way { IsWay self.old pid page way }
+        requires room { way.missing ≤ self.old.free }
+        ensures filled { self.new.translations
+            ≡ map.insert self.old.translations (at_page pid page) (record { frame = frame; write = write }) }
+        ensures root { IsSome (root_of self.new pid) }
+        ensures spent { self.old.free ≡ self.new.free + frames_needed self.old pid page }
+        ensures shared { shared_missing self.new pid + frames_needed self.old pid page
+            ≤ shared_missing self.old pid + 1 }
+        ensures less { (p at : ℕ) → IsUserPage at → frames_needed self.new p at ≤ frames_needed self.old p at }
+        ensures tables { (p : ℕ) → TablesStay self.old p self.new }
+        ensures roots { (p frame : ℕ) → root_frame self.old p ≡ Some frame → root_frame self.new p ≡ Some frame }
+        ensures others { (p : ℕ) → p ≢ pid → root_frame self.new p ≡ root_frame self.old p }
+        ensures taken { (p : ℕ) → p ≢ pid → slice_index self.new.taken p ≡ slice_index self.old.taken p }
+        ensures fixed { IsFixed self.old self.new }
+    {
+        self.tables.fill_along(pid, page, way, frame, write);
     }
 
     /// Forgets the translation of a page of a process, if there is one.

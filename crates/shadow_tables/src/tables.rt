@@ -8,9 +8,9 @@ ghost use Rattle.shadow_tables.specs.LongWords.{entry_word, with_long, long_plac
 ghost use Rattle.shadow_tables.specs.Kernel.{AreKernelWords};
 ghost use Rattle.shadow_tables.specs.Shadow.{at_page, frame_address, opening, word_for, IsFixed};
 ghost use Rattle.shadow_tables.specs.Holdings.{count_of, frame_count, AreHeld, IsHeld, opening_places};
-ghost use Rattle.shadow_tables.specs.Tables.{IsShadow, AreBlocks, frames_of, word_of, named_by, index_at, way, missing_in, shared_in, WaysStay, translation_in, translations_in, seen_as, SameButBytes, SameBlocks, SameOthers, IsFresh, IsStep, IsChanged};
+ghost use Rattle.shadow_tables.specs.Tables.{IsShadow, AreBlocks, frames_of, word_of, named_by, index_at, way, missing_in, shared_in, GoesSo, WaysStay, translation_in, translations_in, seen_as, SameButBytes, SameBlocks, SameOthers, IsFresh, IsStep, IsChanged};
 
-use crate::holdings::{FREE, Holdings};
+use crate::holdings::Holdings;
 use crate::walk::long_at;
 use byteorder::{ByteOrder, LittleEndian};
 use page_words::{Frame, Page, Pid, in_user_range};
@@ -23,6 +23,15 @@ pub struct Translation {
     pub frame: Frame,
     /// Whether a processor lets writes through.
     pub write: bool,
+}
+
+/// How far the tables for a page of a process go.
+#[derive(Clone, Copy, Debug, PartialEq, Eq)]
+pub struct Way {
+    /// How many of the four tables are missing.
+    pub missing: u32,
+    /// The page's table, a frame of the pool, if none is missing.
+    pub table: u32,
 }
 
 /// Fewer frames of the pool are free than are needed.
@@ -61,6 +70,13 @@ fn index_at(depth: u32, page: Page) -> u32
     ensures bound { result < 512 }
 {
     (page.0 >> (27 - 9 * depth)) % 512
+}
+
+/// So many of the four tables for a page are missing, at least one.
+fn ends_above(missing: u32) -> Way
+    ensures { result ≡ record { missing = missing; table = 0 } }
+{
+    Way { missing, table: 0 }
 }
 
 /// Makes the 4,096 bytes from a place on zero.
@@ -318,55 +334,76 @@ impl Tables {
         self.table_below(pid, page, 2, directory)
     }
 
-    /// How many of the four tables for a page are missing.
-    pub fn missing(&self, pid: Pid, page: Page) -> u32
+    /// How far the tables for a page go.
+    pub fn way_to(&self, pid: Pid, page: Page) -> Way
         requires stands { IsShadow self.now }
         requires user { IsUserPage page }
-        ensures { result ≡ missing_in self.now pid page }
+        ensures { GoesSo self.now pid page result }
     {
         let Some(root) = self.root(pid) else {
-            return 4;
+            return ends_above(4);
         };
         let Some(pointers) = self.named(self.word(root, index_at(0, page))) else {
-            return 3;
+            return ends_above(3);
         };
         let Some(directory) = self.named(self.word(pointers, index_at(1, page))) else {
-            return 2;
+            return ends_above(2);
         };
         match self.named(self.word(directory, index_at(2, page))) {
-            Some(_) => 0,
-            None => 1,
+            Some(table) => Way { missing: 0, table },
+            None => ends_above(1),
         }
     }
 
-    /// Enters the translation of a page, if there is a frame for each table that is missing. Otherwise nothing changes.
-    pub fn fill(&mut self, pid: Pid, page: Page, frame: Frame, write: bool) -> Result<(), Full>
+    /// The table for a page, which is made if it is missing, with all above it. There is a frame for each.
+    #[inline(never)]
+    fn table_made(&mut self, pid: Pid, page: Page) -> u32
+        requires stands { IsShadow self.old }
+        requires user { IsUserPage page }
+        requires room { missing_in self.old pid page ≤ count_of self.old.holdings 64 }
+        ensures { IsStep self.old pid page 3 (Some result) self.new }
+    {
+        let Some(table) = self.table_for(pid, page) else {
+            unreachable!()
+        };
+        table
+    }
+
+    /// The table for a page to which the tables go so far. It is made if it is missing.
+    fn table_along(&mut self, pid: Pid, page: Page, goes: Way) -> u32
+        requires stands { IsShadow self.old }
+        requires user { IsUserPage page }
+        requires goes { GoesSo self.old pid page goes }
+        requires room { goes.missing ≤ count_of self.old.holdings 64 }
+        ensures { IsStep self.old pid page 3 (Some result) self.new }
+    {
+        if goes.missing == 0 {
+            return goes.table;
+        }
+        self.table_made(pid, page)
+    }
+
+    /// Enters the translation of a page, to which the tables go so far. There is a frame for each that is missing.
+    pub fn fill_along(&mut self, pid: Pid, page: Page, goes: Way, frame: Frame, write: bool)
         requires stands { IsShadow self.old }
         requires user { IsUserPage page }
         requires frame { frame < 2 ^ 20 }
-        ensures filled { IfOk result (λ _. translations_in self.new ≡ map.insert (translations_in self.old)
-            (at_page pid page) (record { frame = frame; write = write })) }
-        ensures kept { IfErr result (λ _. self.new ≡ self.old) }
-        ensures enough { IsOk result ↔ (missing_in self.old pid page ≤ count_of self.old.holdings 64) }
-        ensures spent { IfOk result (λ _. count_of self.old.holdings 64
-            ≡ count_of self.new.holdings 64 + missing_in self.old pid page) }
-        ensures shared { IfOk result (λ _. shared_in self.new pid + missing_in self.old pid page
-            ≤ shared_in self.old pid + 1) }
+        requires goes { GoesSo self.old pid page goes }
+        requires room { goes.missing ≤ count_of self.old.holdings 64 }
+        ensures filled { translations_in self.new ≡ map.insert (translations_in self.old)
+            (at_page pid page) (record { frame = frame; write = write }) }
+        ensures spent { count_of self.old.holdings 64
+            ≡ count_of self.new.holdings 64 + missing_in self.old pid page }
+        ensures shared { shared_in self.new pid + missing_in self.old pid page ≤ shared_in self.old pid + 1 }
         ensures ways { WaysStay self.old self.new }
-        ensures root { IfOk result (λ _. IsSome (way self.new pid 0 0)) }
+        ensures root { IsSome (way self.new pid 0 0) }
         ensures roots { (p frame : ℕ) → way self.old p 0 0 ≡ Some frame → way self.new p 0 0 ≡ Some frame }
         ensures others { SameOthers self.old self.new pid }
         ensures blocks { SameBlocks self.old self.new }
         ensures stands { IsShadow self.new }
     {
-        if self.missing(pid, page) > self.holdings.counts[FREE] {
-            return Err(Full);
-        }
-        let Some(table) = self.table_for(pid, page) else {
-            unreachable!()
-        };
+        let table = self.table_along(pid, page, goes);
         self.change(pid, page, table, Some(Translation { frame, write }));
-        Ok(())
     }
 
     /// Forgets the translation of a page.

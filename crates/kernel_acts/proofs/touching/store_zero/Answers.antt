@@ -1,21 +1,30 @@
-use Rattle.std.proofs.Common.{ap, ◌∙◌, subst}
+use Rattle.std.proofs.Common.{◌≡◌, sym, ap, ◌∙◌, subst}
+use Rattle.std.specs.Prelude.{if◌then◌else◌}
 use Rattle.address_space.specs.Stays.{FramesStay}
 use Rattle.process_table.specs.Image.{memory_of}
 use Rattle.kernel_calls.specs.Gone.{gone_by}
 use Rattle.kernel_calls.specs.declared.calls.Event.{Event}
-use Rattle.kernel_calls.specs.Machine.{answer, next}
-use Rattle.kernel_calls.specs.Translations.{ended_by}
+use Rattle.kernel_calls.specs.declared.translations.Ended.{Ended}
+use Rattle.kernel_calls.specs.declared.translations.Ended.TheVariants as end
+use Rattle.kernel_calls.specs.Machine.{answer, next, completes}
+use Rattle.kernel_calls.specs.Translations.{ended_by, Ends}
 use Rattle.kernel_acts.proofs.Touches.{zero_touches}
 use Rattle.kernel_acts.proofs.touching.store_zero.Goals as goal
 
 pub returns : goal.returns
 returns c =
     let v = c.args.core.now in
+    let w = c.step-reply.new.self in
     let now = c.stands.ensures in
     let later = c.stands-2.ensures in
-    let made = c.step_ending-told.ensures in
-    let is = c.store_of_zero.ensures in
-    zero_touches v c.step_ending-told.new.self c.args.pid c.args.address c.step_ending-told.result.0 c.step_ending-told.result.1
+    let event = c.store_of_zero-event.result in
+    let made = c.step-reply.ensures in
+    let is = c.store_of_zero-event.ensures in
+    let ended : c.if_completed-ended.result ≡ ended_by v event =
+    c.if_completed-ended.ensures ∙ ap (λ r. if completes r then c.may_end-ended.result else end.Nothing) made.reply
+    ∙ ap (λ e. if completes (answer v.state event) then e else end.Nothing) c.may_end-ended.ensures in
+    zero_touches v w c.args.pid c.args.address c.step-reply.result c.if_completed-ended.result
     now.core later.core
-    now.zeros c.requires (made.reply ∙ ap (answer v.state) is) (made.ended ∙ ap (ended_by v) is) (made.state ∙ ap (next v.state) is) made.ends
-    (subst (λ (e : Event). FramesStay (gone_by v.state e) (memory_of v) (memory_of c.step_ending-told.new.self)) is made.stay) made.kept
+    now.zeros c.requires (made.reply ∙ ap (answer v.state) is) (ended ∙ ap (ended_by v) is) (made.state ∙ ap (next v.state) is)
+    (subst (λ (e : Ended). Ends e v w) (sym ended) made.ends)
+    (subst (λ (e : Event). FramesStay (gone_by v.state e) (memory_of v) (memory_of w)) is made.stay) made.kept

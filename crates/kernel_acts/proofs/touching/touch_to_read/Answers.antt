@@ -1,21 +1,37 @@
-use Rattle.std.proofs.Common.{ap, ◌∙◌, subst}
+use Rattle.std.proofs.Common.{◌≡◌, ℕ, Bool, true, false, refl, sym, ap, ◌∙◌, subst}
+use Rattle.std.specs.Prelude.{if◌then◌else◌}
 use Rattle.address_space.specs.Stays.{FramesStay}
 use Rattle.process_table.specs.Image.{memory_of}
+use Rattle.process_table.specs.View.{View}
 use Rattle.kernel_calls.specs.Gone.{gone_by}
 use Rattle.kernel_calls.specs.declared.calls.Event.{Event}
-use Rattle.kernel_calls.specs.Machine.{answer, next}
-use Rattle.kernel_calls.specs.Translations.{ended_by}
+use Rattle.kernel_calls.specs.declared.translations.Ended.{Ended}
+use Rattle.kernel_calls.specs.declared.translations.Ended.TheVariants as end
+use Rattle.kernel_calls.specs.Machine.{answer, next, completes}
+use Rattle.kernel_calls.specs.Translations.{ended_by, Ends}
+use Rattle.kernel_acts.specs.Transfers.{load_byte}
 use Rattle.kernel_acts.proofs.Touches.{read_touches}
 use Rattle.kernel_acts.proofs.touching.touch_to_read.Goals as goal
+
+-- a Load makes nothing stale
+load_ends : (v : View) (p address : ℕ) → end.Nothing ≡ ended_by v (load_byte p address)
+load_ends v p address = by (completes (answer v.state (load_byte p address)))
+  where
+    by : (b : Bool) → end.Nothing ≡ (if b then end.Nothing else end.Nothing)
+    by true = refl
+    by false = refl
 
 pub returns : goal.returns
 returns c =
     let v = c.args.core.now in
+    let w = c.step-reply.new.self in
     let now = c.stands.ensures in
     let later = c.stands-2.ensures in
-    let made = c.step_ending-told.ensures in
+    let made = c.step-reply.ensures in
     let is = c.load_of.ensures in
-    read_touches v c.step_ending-told.new.self c.args.pid c.args.address c.step_ending-told.result.0 c.step_ending-told.result.1
+    let none = load_ends v c.args.pid c.args.address in
+    read_touches v w c.args.pid c.args.address c.step-reply.result end.Nothing
     now.core later.core
-    (made.reply ∙ ap (answer v.state) is) (made.ended ∙ ap (ended_by v) is) (made.state ∙ ap (next v.state) is) made.ends
-    (subst (λ (e : Event). FramesStay (gone_by v.state e) (memory_of v) (memory_of c.step_ending-told.new.self)) is made.stay) made.kept
+    (made.reply ∙ ap (answer v.state) is) none (made.state ∙ ap (next v.state) is)
+    (subst (λ (e : Ended). Ends e v w) (ap (ended_by v) is ∙ sym none) made.ends)
+    (subst (λ (e : Event). FramesStay (gone_by v.state e) (memory_of v) (memory_of w)) is made.stay) made.kept
