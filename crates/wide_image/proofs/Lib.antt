@@ -11,3 +11,4 @@ pub mod Told
 pub mod GatherLemmas
 pub mod Pieces
 pub mod Refusing
+pub mod Naming

@@ -1,6 +1,6 @@
 //! The image of a core, and the core of an image.
 
-ghost use Rattle.std.specs.Prelude.{◌≡◌, ◌<◌, ◌≤◌, [], true, false, length, take, drop, IfOk, OnOk, OnErr};
+ghost use Rattle.std.specs.Prelude.{◌≡◌, ◌<◌, ◌≤◌, [], true, false, length, take, drop, IfOk, OnOk, OnErr, IsErrOf};
 ghost use Rattle.page_words.specs.FiniteMap as map;
 ghost use Rattle.phys_memory.specs.Bytes.{frame_bytes};
 ghost use Rattle.memory_image.specs.Machine.{IsImageOf};
@@ -50,10 +50,12 @@ pub enum StoreFault {
 /// Writes the image of a core, of version 3, frame by frame, with its pending offers: the whole machine. Memory isn't
 /// copied, and free frames aren't written.
 ///
-/// NoMemory if there is no memory for the list of offers, of which there are at most 2,048. WriteFailed if a write fails.
+/// NoMemory if there is no memory for the list of offers, of which there are at most 2,048; nothing was written then.
+/// WriteFailed if a write fails; nothing was written then, or a prefix.
 pub fn write_core<W: Write>(alloc: Global, core: &Core, writer: &mut W) -> Result<(), StoreFault>
     ensures ok { OnOk result (StoresMachine core.now (W.contents writer.old) (W.contents writer.new)) }
     ensures err { OnErr result (StoresFront core.now (W.contents writer.old) (W.contents writer.new)) }
+    ensures unwritten { IsErrOf result StoreFault.NoMemory → W.contents writer.new ≡ W.contents writer.old }
 {
     let Ok(offers) = offers_of(alloc, core) else {
         return Err(StoreFault::NoMemory);
@@ -70,7 +72,8 @@ pub fn write_core<W: Write>(alloc: Global, core: &Core, writer: &mut W) -> Resul
 /// Writes what the image of a core begins with, of version 3: all before the records of its frames. They follow it frame by
 /// frame, as `copy_frame_record` gives them.
 ///
-/// NoMemory if there is no memory for the list of offers. WriteFailed if a write fails.
+/// NoMemory if there is no memory for the list of offers; nothing was written then. WriteFailed if a write fails; nothing
+/// was written then, or a prefix.
 pub fn write_core_head<W: Write>(
     alloc: Global,
     core: &Core,
@@ -78,6 +81,7 @@ pub fn write_core_head<W: Write>(
 ) -> Result<(), StoreFault>
     ensures ok { OnOk result (StoresHead core.now (W.contents writer.old) (W.contents writer.new)) }
     ensures err { OnErr result (StoresHeadFront core.now (W.contents writer.old) (W.contents writer.new)) }
+    ensures unwritten { IsErrOf result StoreFault.NoMemory → W.contents writer.new ≡ W.contents writer.old }
 {
     let Ok(offers) = offers_of(alloc, core) else {
         return Err(StoreFault::NoMemory);

@@ -1,6 +1,6 @@
 //! A reader of images of version 3 that is given them piece by piece.
 
-ghost use Rattle.std.specs.Prelude.{◌≡◌, ◌+◌, ◌*◌, ◌<◌, ◌≤◌, ◌^◌, ◌⊎◌, ◌++◌, ◌∷◌, [], if◌then◌else◌, nat_lt, None, Some, IfOk, IfErr, IfSome, OnOk, OnErr, length, take, drop, vec_capacity};
+ghost use Rattle.std.specs.Prelude.{◌≡◌, ◌+◌, ◌*◌, ◌<◌, ◌≤◌, ◌^◌, ◌⊎◌, ◌++◌, ◌∷◌, [], if◌then◌else◌, nat_lt, None, Some, IfOk, IfErr, IfSome, IsErrOf, OnOk, OnErr, length, take, drop, vec_capacity};
 ghost use Rattle.phys_memory.specs.Bytes.{word_at};
 ghost use Rattle.memory_image.specs.Tests.{first_failing};
 ghost use Rattle.wide_image.specs.declared.faults.WideImageFault.TheVariants.{NoMemory};
@@ -207,6 +207,7 @@ impl WideReader {
         ensures text { OnOk result (so_far self.new ≡ so_far self.old ++ piece.now) }
         ensures left { OnOk result (left self.old ≡ left self.new + 1) }
         ensures fault { IfErr result (λ fault. fault ≡ NoMemory) }
+        ensures offer { OnErr result (length self.old.offers < self.old.front.offers) }
         ensures kept { OnErr result (self.new ≡ self.old) }
     {
         self.within();
@@ -225,7 +226,7 @@ impl WideReader {
     /// Takes the next piece, of as many bytes as it wants. With a fault nothing of it is taken.
     ///
     /// BadField at the first field of it that breaks its rule, by its place in the whole image. NoMemory if there is no
-    /// memory for an offer.
+    /// memory for an offer of which no field does. Frames have their memory since `begin`.
     pub fn take(&mut self, piece: &[u8]) -> Result<(), WideImageFault>
         requires some { 0 < wanted self.old }
         requires long { length piece.now ≡ wanted self.old }
@@ -233,6 +234,8 @@ impl WideReader {
         ensures left { OnOk result (left self.old ≡ left self.new + 1) }
         ensures passed { OnOk result (piece_fault self.old piece.now ≡ None) }
         ensures fault { IfErr result (λ fault. (piece_fault self.old piece.now ≡ Some fault) ⊎ (fault ≡ NoMemory)) }
+        ensures memory { IsErrOf result NoMemory → (piece_fault self.old piece.now ≡ None)
+            × (length self.old.offers < self.old.front.offers) }
         ensures kept { OnErr result (self.new ≡ self.old) }
     {
         match self.bad_in(piece) {

@@ -3,7 +3,7 @@
 ghost use Rattle.std.specs.Prelude.{◌≡◌, ◌+◌, ◌<◌, ◌≤◌, ◌⊎◌, ◌++◌, [], Some, IfOk, IfErr, IfSome, OnOk, length, take};
 ghost use Rattle.std.specs.Io.KnownBytes.{Consumes, IsAtEnd};
 ghost use Rattle.wide_image.specs.Pieces.{so_far, wanted, left};
-ghost use Rattle.wide_image.specs.Streams.{ReadsOn, EncodesAll, IsShort, IsRefusedBehind, HasMore, IsForWant};
+ghost use Rattle.wide_image.specs.Streams.{ReadsOn, EncodesAll, IsShort, IsOfLength, IsRefusedBehind, HasMore, IsForWant, NamesBehind};
 ghost use Rattle.wide_image.specs.Wide as wide;
 ghost use Rattle.wide_image.specs.Wide.{HasWideFields, text};
 
@@ -26,9 +26,11 @@ pub enum WideReadFault {
     NotRead(WideImageFault),
 }
 
-/// Fills a buffer from its front on, as far as the reader has bytes. Returns how many there were.
+/// Fills a buffer from its front on, as far as the reader has bytes. Returns how many there were. What the buffer holds
+/// after these is the reader's to say: a read may write to all of the buffer that it is given.
 ///
-/// ReadFailed if a read answers an error other than an interruption.
+/// ReadFailed if a read answers an error other than an interruption. No clause says then how many bytes were read, or
+/// what the buffer holds.
 pub fn fill<R: Read>(reader: &mut R, buffer: &mut [u8]) -> Result<usize, WideReadFault>
     ensures length { length buffer.new ≡ length buffer.old }
     ensures most { IfOk result (λ count. count ≤ length buffer.new) }
@@ -62,6 +64,7 @@ fn fill_whole<R: Read>(reader: &mut R, piece: &mut [u8]) -> Result<(), WideReadF
     ensures length { length piece.new ≡ length piece.old }
     ensures bytes { OnOk result (Consumes (R.remaining reader.old) (R.remaining reader.new) piece.new) }
     ensures short { IfErr result (IsShort (R.remaining reader.old) (length piece.old)) }
+    ensures fault { IfErr result IsOfLength }
 {
     match fill(reader, piece) {
         Ok(read) => {
@@ -82,6 +85,7 @@ fn take_piece<R: Read>(image: &mut WideReader, reader: &mut R) -> Result<(), Wid
     ensures read { OnOk result (ReadsOn image.old image.new (R.remaining reader.old) (R.remaining reader.new)) }
     ensures left { OnOk result (left image.old ≡ left image.new + 1) }
     ensures refused { IfErr result (IsRefusedBehind (so_far image.old) (R.remaining reader.old)) }
+    ensures named { IfErr result (NamesBehind (so_far image.old) (R.remaining reader.old)) }
 {
     image.within();
     let mut bytes = [0; 4116];
@@ -102,6 +106,7 @@ fn take_piece<R: Read>(image: &mut WideReader, reader: &mut R) -> Result<(), Wid
 fn begin_from<R: Read>(alloc: Global, reader: &mut R) -> Result<WideReader, WideReadFault>
     ensures begun { IfOk result (λ image. Consumes (R.remaining reader.old) (R.remaining reader.new) (so_far image)) }
     ensures refused { IfErr result (IsRefusedBehind [] (R.remaining reader.old)) }
+    ensures named { IfErr result (NamesBehind [] (R.remaining reader.old)) }
 {
     let mut front = [0; 1556];
     let read = fill(reader, &mut front)?;
@@ -117,6 +122,7 @@ fn begin_from<R: Read>(alloc: Global, reader: &mut R) -> Result<WideReader, Wide
 fn end<R: Read>(reader: &mut R) -> Result<(), WideReadFault>
     ensures ended { OnOk result (IsAtEnd (R.remaining reader.old)) }
     ensures more { IfErr result (HasMore (R.remaining reader.old)) }
+    ensures fault { IfErr result IsOfLength }
 {
     let mut byte = [0; 1];
     match fill(reader, &mut byte)? {
@@ -129,6 +135,7 @@ fn end<R: Read>(reader: &mut R) -> Result<(), WideReadFault>
 fn read_pieces<R: Read>(alloc: Global, reader: &mut R) -> Result<WideImage, WideReadFault>
     ensures encoded { IfOk result (EncodesAll (R.remaining reader.old)) }
     ensures refused { IfErr result (IsRefusedBehind [] (R.remaining reader.old)) }
+    ensures named { IfErr result (NamesBehind [] (R.remaining reader.old)) }
 {
     let mut image = match begin_from(alloc, reader) {
         Ok(image) => image,
@@ -158,6 +165,7 @@ pub fn read_wide_image_from<R: Read>(
 ) -> Result<WideImage, WideReadFault>
     ensures encoded { IfOk result (EncodesAll (R.remaining reader.old)) }
     ensures refused { IfErr result (IsRefusedBehind [] (R.remaining reader.old)) }
+    ensures named { IfErr result (NamesBehind [] (R.remaining reader.old)) }
     ensures read { (image : wide.WideImage) → HasWideFields image → R.remaining reader.old ≡ Some (text image)
         → IfErr result IsForWant }
 {
