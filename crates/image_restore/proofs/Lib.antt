@@ -1,4 +1,5 @@
 pub mod FailLemmas
 pub mod OfferLemmas
 pub mod OffersTaken
+pub mod Places
 pub mod Resuming

@@ -18,10 +18,8 @@ use Rattle.page_sharing.specs.Offers.{Offers, OfferKey, offer_order, pending}
 use Rattle.process_table.specs.State.{State, is_live, is_mapped}
 use Rattle.process_table.specs.Calls.{offer_refusal}
 use Rattle.process_table.specs.WellFormed.{IsWellFormed, IsOfferIn}
-use Rattle.process_table.specs.declared.causes.Cause.{Cause}
 use Rattle.process_table.specs.declared.causes.Cause.TheVariants as cause
 use Rattle.kernel_calls.specs.Machine.{answer, refused_or}
-use Rattle.kernel_calls.specs.declared.calls.Reply.{Reply}
 use Rattle.kernel_calls.specs.declared.calls.Reply.TheVariants as reply
 use Rattle.memory_image.proofs.RespellLemmas.{passes_other}
 use Rattle.wide_image.specs.declared.offers.PendingOffer.{PendingOffer}

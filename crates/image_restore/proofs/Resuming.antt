@@ -29,9 +29,9 @@ pub resumes : StoredMachinesResume
 resumes v w read M W E =
     let r = machines_are_read v w read M.fields M.shows M.stands E in (
       record { state = v.state; stands = r.0; well_formed = W; offers = r.1 },
-      λ core C.
-          let one = stands_for_one_state (shown_by read.image) core.state v.state C.stands r.0 in
-          let offers = same_offers core.state.offers v.state.offers read.offers C.offers r.1 in
+      λ core stands listed.
+          let one = stands_for_one_state (shown_by read.image) core.state v.state stands r.0 in
+          let offers = same_offers core.state.offers v.state.offers read.offers listed r.1 in
           λ i. record { spaces = one.0 i; book = one.1 i; offers = offers i },
     )
 

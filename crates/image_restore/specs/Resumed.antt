@@ -1,14 +1,17 @@
 -- A machine with its offers, made of an image of version 3.
-use Rattle.std.specs.Prelude.{◌≡◌, ◌≢◌, ℕ, Bool, true, false, List, map, take, Some, slice_get}
+use Rattle.std.specs.Prelude.{◌≡◌, ◌≢◌, ℕ, Bool, true, false, List, length, map, take, Some, slice_get}
+use Rattle.address_space.specs.Stays.{FramesStay, none_goes}
 use Rattle.kernel_calls.specs.Machine.{answer, end_of}
 use Rattle.kernel_calls.specs.declared.calls.Call.TheVariants as call
 use Rattle.kernel_calls.specs.declared.calls.Event.{Event}
 use Rattle.kernel_calls.specs.declared.calls.Reply.{Reply}
 use Rattle.kernel_calls.specs.declared.calls.Reply.TheVariants as reply
 use Rattle.page_words.specs.FiniteMap as finite_map
+use Rattle.process_table.specs.Image as machine
 use Rattle.process_table.specs.State.{State}
 use Rattle.process_table.specs.View.{View}
-use Rattle.memory_image.specs.Image.{Image}
+use Rattle.memory_image.specs.Image.{Image, frames, memory_of, process_at}
+use Rattle.memory_image.specs.Machine.{process_told}
 use Rattle.memory_image.specs.Sound.{StandsFor}
 use Rattle.image_restore.specs.Failing.{FailsFirst}
 use Rattle.image_restore.specs.declared.wide_faults.WideRestoreFault.{WideRestoreFault}
@@ -28,6 +31,10 @@ abbrev pub is_done : Reply → Bool
 is_done reply.Done = true
 is_done _ = false
 
+-- the states differ at most in their offers
+abbrev pub DifferInOffers : State → State → Type 0
+DifferInOffers s t = t ≡ record s { offers = t.offers }
+
 -- each image that represents the one state represents the other
 abbrev pub KeepsWhatStands : State → State → Type 0
 KeepsWhatStands s t = (image : Image) → StandsFor image s → StandsFor image t
@@ -36,10 +43,19 @@ KeepsWhatStands s t = (image : Image) → StandsFor image s → StandsFor image 
 abbrev pub after_offers : State → List PendingOffer → State
 after_offers s offers = end_of s (map offer_event offers)
 
--- the image represents the core's state, whose offers are the image's
+-- the core has as many frames as the image, and all is where the image has it
+pub record ShowsPlaces (core : View) (image : Image) : Type 0 where
+  pub frames : length core.roles ≡ frames image
+  -- each process has the account and the directory that the image says, and no other process is live
+  pub processes : (p : ℕ) → process_at image p ≡ process_told core p
+  -- from that directory, each page has the table and the frame that it has in the image
+  pub pages : FramesStay none_goes (memory_of image) (machine.memory_of core)
+
+-- the image represents the core's state, whose offers are the image's, and the core shows all where the image has it
 pub record IsResumed (core : View) (w : WideImage) : Type 0 where
   pub stands : StandsFor w.image core.state
   pub offers : AreListed core.state.offers w.offers
+  pub shows : ShowsPlaces core w.image
 
 -- the machine refuses the offer of this number, with this reply, once those before it are made
 pub record IsRefused (s : State) (offers : List PendingOffer) (number : ℕ) (r : Reply) : Type 0 where
@@ -71,4 +87,4 @@ pub record IsSoundWide (w : WideImage) : Type 0 where
 -- the image that is read of a machine's text is sound, and a core of it is in the machine's state, with its offers
 abbrev pub StoredMachinesResume : Type 0
 StoredMachinesResume = (v : View) (w read : WideImage) → IsWholeMachine v w → IsWellFormed v.state → Encodes (text w) read
-    → IsSoundWide read × ((core : View) → IsResumed core read → core.state ≡ v.state)
+    → IsSoundWide read × ((core : View) → StandsFor read.image core.state → AreListed core.state.offers read.offers → core.state ≡ v.state)

@@ -1,11 +1,13 @@
 //! A core with its offers, made of an image of version 3.
 
 ghost use Rattle.std.specs.Prelude.{◌≡◌, ◌<◌, ◌^◌, length, IfOk, IfErr, OnOk, IfSome, IfNone};
+ghost use Rattle.address_space.specs.Stays.{FramesStay, none_goes};
 ghost use Rattle.page_words.specs.FiniteMap as map;
 ghost use Rattle.kernel_calls.specs.Machine.{answer, next};
 ghost use Rattle.memory_image.specs.Sound.{IsSound};
+ghost use Rattle.process_table.specs.Image.{memory_of};
 ghost use Rattle.wide_image.specs.Offers.{AreListed, Rise};
-ghost use Rattle.image_restore.specs.Resumed.{offer_event, is_done, IsResumed, IsRefused, IsSoundWide, KeepsWhatStands, NamesFault};
+ghost use Rattle.image_restore.specs.Resumed.{offer_event, is_done, DifferInOffers, IsResumed, IsRefused, IsSoundWide, KeepsWhatStands, NamesFault};
 
 use crate::restoring::first_failed;
 use crate::wide_faults::WideRestoreFault;
@@ -18,6 +20,7 @@ use wide_image::{PendingOffer, WideImage};
 fn make_offer(core: &mut Core, offer: &PendingOffer) -> Reply
     ensures reply { result ≡ answer core.old.state (offer_event offer.now) }
     ensures state { core.new.state ≡ next core.old.state (offer_event offer.now) }
+    ensures stay { FramesStay none_goes (memory_of core.old) (memory_of core.new) }
 {
     core.step(&Event {
         cpu: 0,
@@ -44,6 +47,8 @@ fn make_offers(core: &mut Core, offers: &[PendingOffer]) -> Option<(u32, Reply)>
     requires none { core.old.state.offers ≡ map.empty }
     ensures stands { IfNone result (KeepsWhatStands core.old.state core.new.state) }
     ensures offers { IfNone result (AreListed core.new.state.offers offers.now) }
+    ensures state { IfNone result (DifferInOffers core.old.state core.new.state) }
+    ensures stay { IfNone result (FramesStay none_goes (memory_of core.old) (memory_of core.new)) }
     ensures refused { IfSome result (λ found. IsRefused core.old.state offers.now found.0 found.1) }
 {
     for place in 0..offers.len() {
@@ -82,7 +87,8 @@ fn has_offers(image: &WideImage)
 }
 
 /// Makes the core of an image of version 3, with its offers: the machine that was stored. The core's state is the one
-/// that the image represents, and its pending offers are the image's.
+/// that the image represents, and its pending offers are the image's. The core has as many frames. Each process has the
+/// account and the directory that the image says, and each page the table and the frame.
 ///
 /// NoMemory if there is no memory for the check. Otherwise NotSound with the first clause that fails. Otherwise NoMemory
 /// if there is none for what a core keeps in addition to the image's bytes and roles. Otherwise BadOffer with the first
@@ -99,9 +105,13 @@ pub fn restore_wide(alloc: Global, image: WideImage) -> Result<Core, WideRestore
     let Ok(made) = image.into_core(alloc) else {
         return Err(WideRestoreFault::NoMemory);
     };
+    made.0.stands();
     let (mut core, offers) = made;
     match make_offers(&mut core, offers.as_slice()) {
-        None => Ok(core),
+        None => {
+            core.stands();
+            Ok(core)
+        }
         Some(refused) => Err(WideRestoreFault::BadOffer {
             number: refused.0,
             reply: refused.1,
