@@ -7,6 +7,7 @@
 --     Ran, RanInto      the result of a run, with replies that wait to be written
 --     EndsReading      what a run that ended by a failed read did
 --     EndsBy      what a run that ended by a fault did
+--     MayEnd      by which faults a run may end, where no write fails
 use Rattle.std.specs.Prelude.{◌≡◌, ℕ, ◌+◌, ◌≤◌, Bool, true, false, List, [], ◌∷◌, ◌++◌, length, Option, Some, None, IfSome}
 use Rattle.std.specs.List.{list_all}
 use Rattle.std.specs.Io.KnownBytes.{Appends, Keeps, Consumes}
@@ -30,6 +31,15 @@ IsBeforeReading (Malformed line) = ⊥
 IsBeforeReading TooLong = ⊥
 IsBeforeReading ReadFailed = ⊥
 IsBeforeReading WriteFailed = ⊥
+
+-- a fault by which a run may end: by a failed write only if a write may fail
+abbrev pub MayEnd : Type 0 → ScriptFault → Type 0
+MayEnd may_fail BadSize = Unit {0}
+MayEnd may_fail NoMemory = Unit {0}
+MayEnd may_fail (Malformed line) = Unit {0}
+MayEnd may_fail TooLong = Unit {0}
+MayEnd may_fail ReadFailed = Unit {0}
+MayEnd may_fail WriteFailed = may_fail
 
 -- ---- One line
 

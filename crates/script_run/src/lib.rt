@@ -13,10 +13,11 @@ mod output;
 mod replies;
 mod script;
 mod session;
+mod takers;
 mod tokens;
 
 pub use faults::ScriptFault;
 pub use lines::{Line, line_of};
 pub use replies::{Block, push_reply_line};
-pub use script::{malformed_line_ends_a_script, resume_script, run_script};
+pub use script::{follow_script, malformed_line_ends_a_script, resume_script, run_script};
 pub use session::{SCRIPT_BYTES, split_line};

@@ -6,12 +6,12 @@ ghost use Rattle.text_output.specs.Output.{LeavesUnwritten, AppendsFront};
 ghost use Rattle.script_run.specs.Replies.{reply_line};
 
 use super::replies::{BLOCK, Block, ROOM, push_reply_line};
+use super::takers::Takes;
 use arrayvec::ArrayVec;
 use kernel_calls::Reply;
 use std::alloc::{AllocError, Global};
-use std::io::Write;
 use std::marker::Model;
-use text_output::{WriteFailed, write_whole};
+use text_output::WriteFailed;
 
 /// Text that waits to be written, at most 65,536 bytes of it.
 #[derive(Drop)]
@@ -38,11 +38,12 @@ impl Output {
 
     /// Puts a reply's line behind what waits. Where there may be no room for it, what waits is written
     /// first. After an error what was written is a front of what waited, and the rest of it is dropped.
-    pub fn push_reply<W: Write>(&mut self, reply: &Reply, writer: &mut W) -> Result<(), WriteFailed>
+    pub fn push_reply<W: Takes>(&mut self, reply: &Reply, writer: &mut W) -> Result<(), WriteFailed>
         ensures ok { OnOk result (LeavesUnwritten (W.contents writer.old) (W.contents writer.new)
             (self.old ++ reply_line reply.now) self.new) }
         ensures err { OnErr result (AppendsFront (W.contents writer.old) (W.contents writer.new) self.old) }
         ensures dropped { OnErr result (self.new ≡ []) }
+        ensures fails { OnErr result W.may_fail }
     {
         if BLOCK - self.block.len() < ROOM {
             self.flush(writer)?;
@@ -53,13 +54,14 @@ impl Output {
 
     /// Writes all that waits. An error comes only where something waits; what was written is then a
     /// front of it, and the rest is dropped.
-    pub fn flush<W: Write>(&mut self, writer: &mut W) -> Result<(), WriteFailed>
+    pub fn flush<W: Takes>(&mut self, writer: &mut W) -> Result<(), WriteFailed>
         ensures empty { self.new ≡ [] }
         ensures ok { OnOk result (Appends (W.contents writer.old) (W.contents writer.new) self.old) }
         ensures err { OnErr result (AppendsFront (W.contents writer.old) (W.contents writer.new) self.old) }
         ensures waited { OnErr result (0 < length self.old) }
+        ensures fails { OnErr result W.may_fail }
     {
-        let written = write_whole(writer, self.block.as_slice());
+        let written = writer.take_text(self.block.as_slice());
         self.block.clear();
         written
     }

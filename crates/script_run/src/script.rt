@@ -5,11 +5,12 @@ ghost use Rattle.std.specs.Io.KnownBytes.{Appends};
 ghost use Rattle.process_table.specs.State.{open_with};
 ghost use Rattle.kernel_calls.specs.Machine.{end_of};
 ghost use Rattle.script_run.specs.Script.{events_of, fault_of, replies_text};
-ghost use Rattle.script_run.specs.Progress.{EndsBy};
+ghost use Rattle.script_run.specs.Progress.{EndsBy, MayEnd};
 ghost use Rattle.script_run.specs.WorkedScripts.{second_line_malformed, reply_to_the_first};
 
 use super::faults::ScriptFault;
 use super::session::Session;
+use super::takers::Nowhere;
 use kernel_calls::Core;
 use std::alloc::Global;
 use std::io::{Read, Write};
@@ -72,6 +73,29 @@ pub fn resume_script<R: Read, W: Write>(
     let mut session = Session::of_core(alloc, core)?;
     let mut block = vec![in alloc; 0u8; BLOCK]?;
     session.run(reader, block.as_mut_slice(), writer)?;
+    Ok(session.core)
+}
+
+/// Runs a script on a machine as it stands, for the machine that it leaves: it carries out the script's events, and
+/// hands back the machine. The replies are dropped.
+///
+/// The faults are those of `resume_script`, except `WriteFailed`.
+pub fn follow_script<R: Read>(
+    alloc: Global,
+    core: Core,
+    reader: &mut R,
+) -> Result<Core, ScriptFault>
+    ensures whole { OnOk result (IfSome (R.remaining reader.old) (λ input. fault_of input ≡ None)) }
+    ensures state { IfOk result (λ after. IfSome (R.remaining reader.old)
+        (λ input. after.state ≡ end_of core.state (events_of input))) }
+    ensures fault { IfErr result (λ fault. EndsBy core.state fault (R.remaining reader.old) (R.remaining reader.new)
+        None None) }
+    ensures size { IfErr result (λ fault. fault ≢ ScriptFault.BadSize) }
+    ensures fails { IfErr result (MayEnd ⊥) }
+{
+    let mut session = Session::of_core(alloc, core)?;
+    let mut block = vec![in alloc; 0u8; BLOCK]?;
+    session.run(reader, block.as_mut_slice(), &mut Nowhere)?;
     Ok(session.core)
 }
 

@@ -6,16 +6,17 @@ ghost use Rattle.process_table.specs.State.{State, open_with};
 ghost use Rattle.script_run.specs.Lines.{line_of};
 ghost use Rattle.text_output.specs.Output.{LeavesUnwritten};
 ghost use Rattle.script_run.specs.Script.{is_malformed};
-ghost use Rattle.script_run.specs.Progress.{state_after, text_after, LineFails, IsOneLine, FromReached, Reached, Stops, Finished, StopsAtLast, Ran, RanInto, EndsWhole, EndsBy, IsBeforeReading};
+ghost use Rattle.script_run.specs.Progress.{state_after, text_after, LineFails, IsOneLine, FromReached, Reached, Stops, Finished, StopsAtLast, Ran, RanInto, EndsWhole, EndsBy, IsBeforeReading, MayEnd};
 
 use super::faults::ScriptFault;
 use super::lines::{LINE, Line, line_of};
 use super::output::Output;
+use super::takers::Takes;
 use arrayvec::ArrayVec;
 use kernel_calls::Core;
 use memchr::memchr;
 use std::alloc::Global;
-use std::io::{Read, Write};
+use std::io::Read;
 
 /// The most bytes of a script.
 pub const SCRIPT_BYTES: usize = 16_777_216;
@@ -71,6 +72,7 @@ impl Session {
         ensures err { (now : Option (List ℕ)) → IsOneLine piece.now
             → FromReached self.old now (λ begun read start. IfErr result
             (λ fault. Stops begun (read ++ piece.now) fault self.new.output start now)) }
+        ensures fault { IfErr result (λ fault. fault ≡ ScriptFault.Malformed (self.old.lines + 1)) }
     {
         match self.line.try_extend_from_slice(piece) {
             Ok(()) => Ok(()),
@@ -81,7 +83,7 @@ impl Session {
     }
 
     /// Ends the line with these last bytes, among them no line feed, and carries it out.
-    fn end_line<W: Write>(&mut self, piece: &[u8], writer: &mut W) -> Result<(), ScriptFault>
+    fn end_line<W: Takes>(&mut self, piece: &[u8], writer: &mut W) -> Result<(), ScriptFault>
         requires { self.old.lines + 1 < 2 ^ 32 }
         ensures lines { OnOk result (self.new.lines ≡ self.old.lines + 1) }
         ensures ok { IsOneLine piece.now → FromReached self.old (W.contents writer.old)
@@ -91,6 +93,7 @@ impl Session {
             (λ begun read start. IfErr result
             (λ fault. Stops begun (read ++ (piece.now ++ 10 ∷ [])) fault self.new.output start
             (W.contents writer.new))) }
+        ensures fails { IfErr result (MayEnd W.may_fail) }
     {
         let number = self.lines + 1;
         if self.line.is_empty() {
@@ -107,7 +110,7 @@ impl Session {
     }
 
     /// Takes the next bytes of the script, and carries out each line that they end.
-    fn take_lines<W: Write>(&mut self, bytes: &[u8], writer: &mut W) -> Result<(), ScriptFault>
+    fn take_lines<W: Takes>(&mut self, bytes: &[u8], writer: &mut W) -> Result<(), ScriptFault>
         requires { self.old.lines + length bytes.now + 1 < 2 ^ 32 }
         ensures lines { OnOk result (self.new.lines ≤ self.old.lines + length bytes.now) }
         ensures ok { FromReached self.old (W.contents writer.old)
@@ -116,6 +119,7 @@ impl Session {
         ensures err { FromReached self.old (W.contents writer.old)
             (λ begun read start. IfErr result
             (λ fault. Stops begun (read ++ bytes.now) fault self.new.output start (W.contents writer.new))) }
+        ensures fails { IfErr result (MayEnd W.may_fail) }
     {
         let mut rest = bytes;
         while let Some((line, after)) = split_line(rest) {
@@ -126,13 +130,14 @@ impl Session {
     }
 
     /// Writes the replies that wait.
-    fn write_out<W: Write>(&mut self, writer: &mut W) -> Result<(), ScriptFault>
+    fn write_out<W: Takes>(&mut self, writer: &mut W) -> Result<(), ScriptFault>
         ensures lines { self.new.lines ≡ self.old.lines }
         ensures ok { FromReached self.old (W.contents writer.old)
             (λ begun read start. OnOk result (Reached begun read self.new start (W.contents writer.new))) }
         ensures err { FromReached self.old (W.contents writer.old)
             (λ begun read start. IfErr result
             (λ fault. Stops begun read fault self.new.output start (W.contents writer.new))) }
+        ensures fails { IfErr result (MayEnd W.may_fail) }
     {
         self.output.flush(writer)?;
         Ok(())
@@ -140,7 +145,7 @@ impl Session {
 
     /// Takes the next bytes of the script, carries out each line that they end, and writes the replies: a
     /// caller that waits for them before it sends more has them.
-    fn feed<W: Write>(&mut self, bytes: &[u8], writer: &mut W) -> Result<(), ScriptFault>
+    fn feed<W: Takes>(&mut self, bytes: &[u8], writer: &mut W) -> Result<(), ScriptFault>
         requires { self.old.lines + length bytes.now + 1 < 2 ^ 32 }
         ensures lines { OnOk result (self.new.lines ≤ self.old.lines + length bytes.now) }
         ensures ok { FromReached self.old (W.contents writer.old)
@@ -149,6 +154,7 @@ impl Session {
         ensures err { FromReached self.old (W.contents writer.old)
             (λ begun read start. IfErr result
             (λ fault. Stops begun (read ++ bytes.now) fault self.new.output start (W.contents writer.new))) }
+        ensures fails { IfErr result (MayEnd W.may_fail) }
     {
         self.take_lines(bytes, writer)?;
         self.write_out(writer)?;
@@ -156,13 +162,14 @@ impl Session {
     }
 
     /// Carries out the last line, without a line feed, where the script has ended.
-    fn finish<W: Write>(&mut self, writer: &mut W) -> Result<(), ScriptFault>
+    fn finish<W: Takes>(&mut self, writer: &mut W) -> Result<(), ScriptFault>
         requires { self.old.lines + 1 < 2 ^ 32 }
         ensures ok { FromReached self.old (W.contents writer.old)
             (λ begun read start. OnOk result (Finished begun read self.new start (W.contents writer.new))) }
         ensures err { FromReached self.old (W.contents writer.old)
             (λ begun read start. IfErr result
             (λ fault. StopsAtLast begun read fault self.new.output start (W.contents writer.new))) }
+        ensures fails { IfErr result (MayEnd W.may_fail) }
     {
         let line = self.line.as_slice();
         carry_out(
@@ -176,7 +183,7 @@ impl Session {
     }
 
     /// Runs a script, and writes all replies, also those before a fault.
-    pub fn run<R: Read, W: Write>(
+    pub fn run<R: Read, W: Takes>(
         &mut self,
         reader: &mut R,
         block: &mut [u8],
@@ -191,6 +198,7 @@ impl Session {
             → IfErr result (λ fault. (IsBeforeReading fault → ⊥)
             × EndsBy begun fault (R.remaining reader.old) (R.remaining reader.new) (W.contents writer.old)
             (W.contents writer.new)) }
+        ensures fails { IfErr result (MayEnd W.may_fail) }
     {
         let ended = self.take_script(reader, block, writer);
         self.output.flush(writer)?;
@@ -198,7 +206,7 @@ impl Session {
     }
 
     /// Reads a script block by block, to its end or its limit, and carries out its lines.
-    fn take_script<R: Read, W: Write>(
+    fn take_script<R: Read, W: Takes>(
         &mut self,
         reader: &mut R,
         block: &mut [u8],
@@ -212,6 +220,7 @@ impl Session {
         ensures err { (begun : State) → Reached begun [] self.old (W.contents writer.old) (W.contents writer.old)
             → IfErr result (λ fault. RanInto begun fault (R.remaining reader.old)
             (R.remaining reader.new) self.new.output (W.contents writer.old) (W.contents writer.new)) }
+        ensures fails { IfErr result (MayEnd W.may_fail) }
     {
         let mut total = 0;
         while total < SCRIPT_BYTES {
@@ -261,7 +270,7 @@ pub fn split_line(bytes: &[u8]) -> Option<(&[u8], &[u8])>
 
 /// Carries out a line, whose number counts from 1. A malformed one changes nothing.
 #[tactic(auto, unfolding(crate::specs::Script::is_malformed))]
-fn carry_out<W: Write>(
+fn carry_out<W: Takes>(
     core: &mut Core,
     output: &mut Output,
     bytes: &[u8],
@@ -274,6 +283,7 @@ fn carry_out<W: Write>(
         (output.old ++ text_after core.old.state (line_of bytes.now)) output.new) }
     ensures fault { IfErr result (λ fault. LineFails fault number bytes.now output.old output.new
         (W.contents writer.old) (W.contents writer.new)) }
+    ensures fails { IfErr result (MayEnd W.may_fail) }
 {
     match line_of(bytes) {
         Line::Skipped => Ok(()),

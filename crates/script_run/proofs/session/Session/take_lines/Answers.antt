@@ -25,11 +25,11 @@ loop-line-preserved g c = record {
 pub returns-clause-ok : goal.returns-clause-ok
 returns-clause-ok g c = λ frames read start reached.
     let far = c.loop-line.invariant.reached frames read start reached in
-    subst (λ (bs : List ℕ). OnOk c.keep.result (Reached frames bs c.keep.new.self start (g.W.Write.contents c.loop-line.writer))) (at_rest read c.args.bytes.now far.0 c.loop-line.rest.now far.1)
+    subst (λ (bs : List ℕ). OnOk c.keep.result (Reached frames bs c.keep.new.self start (g.W.Takes.contents c.loop-line.writer))) (at_rest read c.args.bytes.now far.0 c.loop-line.rest.now far.1)
     (c.keep.ensures.ok _ c.in_default.ensures frames (read ++ far.0) start far.2)
 
 pub returns-clause-err : goal.returns-clause-err
 returns-clause-err g c = λ frames read start reached.
     let far = c.loop-line.invariant.reached frames read start reached in
-    subst (λ (bs : List ℕ). IfErr c.keep.result (λ fault. Stops frames bs fault c.keep.new.self.output start (g.W.Write.contents c.loop-line.writer))) (at_rest read c.args.bytes.now far.0 c.loop-line.rest.now far.1)
+    subst (λ (bs : List ℕ). IfErr c.keep.result (λ fault. Stops frames bs fault c.keep.new.self.output start (g.W.Takes.contents c.loop-line.writer))) (at_rest read c.args.bytes.now far.0 c.loop-line.rest.now far.1)
     (c.keep.ensures.err _ c.in_default.ensures frames (read ++ far.0) start far.2)

@@ -9,8 +9,8 @@ abbrev pub invariant-loop-total : goal.invariant-loop-total
 invariant-loop-total g l = record {
   within : l.total ≤ 16777216;
   lines : l.self.lines ≤ l.total;
-  reached : (begun : State) → Reached begun [] l.fn.self (g.W.Write.contents l.fn.writer) (g.W.Write.contents l.fn.writer)
-      → (read : List ℕ) × (length read ≡ l.total) × Consumes (g.R.Read.remaining l.fn.reader) (g.R.Read.remaining l.reader) read × Reached begun read l.self (g.W.Write.contents l.fn.writer) (g.W.Write.contents l.writer);
+  reached : (begun : State) → Reached begun [] l.fn.self (g.W.Takes.contents l.fn.writer) (g.W.Takes.contents l.fn.writer)
+      → (read : List ℕ) × (length read ≡ l.total) × Consumes (g.R.Read.remaining l.fn.reader) (g.R.Read.remaining l.reader) read × Reached begun read l.self (g.W.Takes.contents l.fn.writer) (g.W.Takes.contents l.writer);
 }
 
 abbrev pub decreases-loop-total : goal.decreases-loop-total
