@@ -11,6 +11,14 @@ file_argument = record (new_rule (codes "file")) { value_names = 1; required = t
 abbrev pub file_in : List Row → Text
 file_in rows = unwrap_or (option_and_then (λ (values : List Text). slice_get values 0) (all_of (codes "file") rows)) []
 
+-- what says that a file has this content, where that is known
+abbrev pub Content : Type 1
+Content = Option (List ℕ) → Type 0
+
+-- the content of an opened file of that name, of which nothing is read yet
+abbrev pub IsOf : {F : Type 0} → (F → Option (List ℕ)) → (Text → F → Type 0) → Text → Content
+IsOf {F} remaining named name content = (file : F) × named name file × (content ≡ remaining file)
+
 -- of a file as much is read as the longest image of version 1 or 2 has, and one byte more
 abbrev pub IsRead : Option (List ℕ) → List ℕ → Type 0
 IsRead remained bytes = IfSome (option_map (take 16844301) remained) (λ input. bytes ≡ input)
