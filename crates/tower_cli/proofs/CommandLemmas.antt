@@ -16,7 +16,7 @@ use Rattle.clap.specs.declared.parser.matches.ArgMatches.TheViews.{out-ArgMatche
 use Rattle.clap.specs.declared.parser.matches.SubCommand.{SubCommand}
 use Rattle.clap.proofs.OnLiterals.{clap_on_literals}
 use Rattle.command_answers.specs.Options.{frames_option, number_named}
-use Rattle.tower_cli.specs.Jobs.{tower_app, run_app, race_app, image_app, check_app, resume_app, rounds_option, whole_flag, asks, job_named}
+use Rattle.tower_cli.specs.Jobs.{tower_app, run_app, race_app, image_app, check_app, resume_app, rounds_option, whole_flag, job_named}
 use Rattle.tower_cli.proofs.JobLemmas.{first_none, second_none}
 use Rattle.tower_cli.proofs.ValueLemmas.{IsFlag, IsHelp, IsNumbered, IsOption, RaceNumbered, image_is_named, run_is_named, race_is_named}
 

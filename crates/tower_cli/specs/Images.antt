@@ -1,5 +1,5 @@
 -- What the commands on images write.
-use Rattle.std.specs.Prelude.{◌≡◌, ◌⊎◌, ◌<◌, ℕ, Bool, List, length, Option, Some, None, IfSome}
+use Rattle.std.specs.Prelude.{◌≡◌, ◌⊎◌, ℕ, Bool, List, Option, Some, None, IfSome}
 use Rattle.std.specs.Io.KnownBytes.{Appends, Keeps}
 use Rattle.image_check.specs.Text.{verdict_text}
 use Rattle.image_check.specs.Told.{fails_nothing, verdict_on}
@@ -14,7 +14,7 @@ use Rattle.image_restore.specs.Restored.{HasOldWords, IsRestored}
 use Rattle.process_table.specs.State.{State}
 use Rattle.process_table.specs.View.{View}
 use Rattle.script_run.specs.Progress.{EndsReading}
-use Rattle.script_run.specs.Script.{events_of, fault_of, replies_text}
+use Rattle.script_run.specs.Script.{events_of, fault_of}
 use Rattle.script_run.specs.declared.faults.ScriptFault.{ScriptFault}
 use Rattle.script_run.specs.declared.faults.ScriptFault.TheVariants as script
 use Rattle.command_answers.specs.declared.faults.ToolFault.{ToolFault}
@@ -42,10 +42,6 @@ IsWhole remained = IfSome remained (λ input. fault_of input ≡ None)
 abbrev pub HasFault : Option (List ℕ) → ScriptFault → Type 0
 HasFault remained fault = IfSome remained (λ input. fault_of input ≡ Some fault)
 
--- the script has a reply, which there would be to write
-abbrev pub HasReplies : State → Option (List ℕ) → Type 0
-HasReplies begun remained = IfSome remained (λ input. 0 < length (replies_text begun (events_of input)))
-
 -- why a script gave no image: a fault before anything was read, the script's own first fault, or a failed read; if
 -- memory ran out, also after a whole script. Its replies are not written.
 abbrev pub EndsScript : State → ScriptFault → Option (List ℕ) → Option (List ℕ) → Type 0
@@ -54,9 +50,10 @@ EndsScript begun script.NoMemory remained remains = Keeps remained remains ⊎ I
 EndsScript begun (script.Malformed line) remained remains = HasFault remained (script.Malformed line)
 EndsScript begun script.TooLong remained remains = HasFault remained script.TooLong
 EndsScript begun script.ReadFailed remained remains = EndsReading begun remained remains None None
-EndsScript begun script.WriteFailed remained remains = HasReplies begun remained
+EndsScript begun script.WriteFailed remained remains = ⊥
 
--- what was written of it before this fault: nothing, or, where a write failed, a front of it
+-- What was written of it before this fault: nothing, or, where a write failed, a front of it. A write fails only of the
+-- image of a whole script.
 abbrev pub EndsImage : State → ScriptFault → Option (List ℕ) → Option (List ℕ) → Option (List ℕ) → Option (List ℕ) → Type 0
 EndsImage begun fault remained remains held holds = (EndsScript begun fault remained remains × Keeps held holds) ⊎ ((fault ≡ script.WriteFailed) × WritesFront begun remained held holds)
 

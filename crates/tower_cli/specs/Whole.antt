@@ -34,25 +34,25 @@ RestoresWhole file None = (image : WideImage) × EncodesAll file image × (IsSou
 unfoldable pub offer_line : ℕ → Reply → List ℕ
 offer_line number reply = codes "offer " ++ (decimal number ++ (codes " " ++ reply_line reply))
 
--- The image is sound, offers included, and the line of a sound one was written. Or clauses fail, and their lines were
--- written; or none does, the machine refuses an offer, and the line of the first was written.
-abbrev pub TellsWhole : WideImage → Bool → Option (List ℕ) → Option (List ℕ) → Type 0
-TellsWhole image true held holds = IsSoundWide image × Appends held holds (verdict_text (verdict_on image.image))
-TellsWhole image false held holds =
-    ((fails_nothing (verdict_on image.image) ≡ false) × Appends held holds (verdict_text (verdict_on image.image)))
-    ⊎ ((number : ℕ) × (reply : Reply) × RefusesOffer image number reply × Appends held holds (offer_line number reply))
+-- What a check writes. Of an image that is sound, offers included, the text of its verdict. If clauses fail, the text of
+-- that verdict; if none does and the machine refuses an offer, the line of the first such offer.
+abbrev pub IsTold : WideImage → Bool → List ℕ → Type 0
+IsTold image true text = IsSoundWide image × (text ≡ verdict_text (verdict_on image.image))
+IsTold image false text =
+    ((fails_nothing (verdict_on image.image) ≡ false) × (text ≡ verdict_text (verdict_on image.image)))
+    ⊎ ((number : ℕ) × (reply : Reply) × RefusesOffer image number reply × (text ≡ offer_line number reply))
 
 -- the file's bytes encode an image, of which this was written
 abbrev pub ChecksWhole : Option (List ℕ) → Bool → Option (List ℕ) → Option (List ℕ) → Type 0
-ChecksWhole file sound held holds = (image : WideImage) × EncodesAll file image × TellsWhole image sound held holds
+ChecksWhole file sound held holds = (image : WideImage) × EncodesAll file image × (text : List ℕ) × IsTold image sound text × Appends held holds text
 
--- a write failed, and a front of a text was written
-abbrev pub FailsToWrite : ToolFault → Option (List ℕ) → Option (List ℕ) → Type 0
-FailsToWrite fault held holds = (fault ≡ tool.WriteFailed) × (text : List ℕ) × AppendsFront held holds text
+-- a front of it was written, and at least one byte of it was not
+abbrev pub ChecksFront : Option (List ℕ) → Option (List ℕ) → Option (List ℕ) → Type 0
+ChecksFront file held holds = (image : WideImage) × EncodesAll file image × (sound : Bool) × (text : List ℕ) × IsTold image sound text × AppendsFront held holds text
 
 -- why an image isn't checked: the file gives none, and nothing was written; or a write failed
 abbrev pub EndsCheckWhole : Option (List ℕ) → ToolFault → Option (List ℕ) → Option (List ℕ) → Type 0
-EndsCheckWhole file fault held holds = (IsFileFault file fault × Keeps held holds) ⊎ FailsToWrite fault held holds
+EndsCheckWhole file fault held holds = (IsFileFault file fault × Keeps held holds) ⊎ ((fault ≡ tool.WriteFailed) × ChecksFront file held holds)
 
 -- ---- The image of a script
 

@@ -10,9 +10,8 @@ use image_check::check;
 use image_restore::{RestoreFault, restore};
 use kernel_calls::Core;
 use memory_image::{Image, read_image, write_image};
-use script_run::{ScriptFault, resume_script, run_script};
+use script_run::{ScriptFault, follow_script};
 use std::alloc::Global;
-use std::io;
 use std::io::{Read, Write};
 
 /// The image of the core that a script left.
@@ -37,8 +36,8 @@ fn script_image<R: Read>(alloc: Global, reader: &mut R, frames: u32) -> Result<I
     ensures fault { IfErr result (λ fault. EndsScript (open_with frames) fault (R.remaining reader.old)
         (R.remaining reader.new)) }
 {
-    let core = run_script(alloc, reader, &mut io::sink(), frames)?;
-    last_image(alloc, &core)
+    let core = Core::boot(alloc, frames)?;
+    resumed_image(alloc, core, reader)
 }
 
 /// Runs a script on a core for its last state, as `script_image` does on one that is booted.
@@ -48,7 +47,7 @@ fn resumed_image<R: Read>(alloc: Global, core: Core, reader: &mut R) -> Result<I
         (R.remaining reader.new)) }
     ensures size { IfErr result (λ fault. fault ≢ ScriptFault.BadSize) }
 {
-    let core = resume_script(alloc, core, reader, &mut io::sink())?;
+    let core = follow_script(alloc, core, reader)?;
     last_image(alloc, &core)
 }
 

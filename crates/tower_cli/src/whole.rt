@@ -10,7 +10,7 @@ ghost use Rattle.command_answers.specs.Faults.{IsFileFault};
 ghost use Rattle.image_check.specs.Text.{verdict_text};
 ghost use Rattle.image_check.specs.Told.{fails_nothing};
 ghost use Rattle.tower_cli.specs.Images.{EndsScript};
-ghost use Rattle.tower_cli.specs.Whole.{ChecksWhole, EndsCheckWhole, EndsIn, EndsScriptWhole, EndsWhole, FailsToWrite, IsBootFault, RestoresWhole, WritesWhole, offer_line};
+ghost use Rattle.tower_cli.specs.Whole.{ChecksWhole, EndsCheckWhole, EndsIn, EndsScriptWhole, EndsWhole, IsBootFault, RestoresWhole, WritesWhole, offer_line};
 
 use arrayvec::ArrayVec;
 use command_answers::ToolFault;
@@ -18,9 +18,8 @@ use image_check::{Verdict, check_by_ref};
 use image_restore::{WideRestoreFault, restore_wide};
 use kernel_calls::{Core, Reply, WideFault};
 use memory_image::NoMemory;
-use script_run::{Block, ScriptFault, push_reply_line, resume_script};
+use script_run::{Block, ScriptFault, follow_script, push_reply_line};
 use std::alloc::Global;
-use std::io;
 use std::io::{Read, Write};
 use text_output::{WriteFailed, push_number, push_word, write_whole};
 use wide_image::{StoreFault, WideImage, read_wide_image_from, write_core};
@@ -92,7 +91,8 @@ fn write_offer<W: Write>(number: u32, reply: &Reply, writer: &mut W) -> Result<(
 fn tell_verdict<W: Write>(verdict: &Verdict, writer: &mut W) -> Result<bool, ToolFault>
     ensures told { IfOk result (λ sound. (sound ≡ fails_nothing verdict.now)
         × Appends (W.contents writer.old) (W.contents writer.new) (verdict_text verdict.now)) }
-    ensures fault { IfErr result (λ fault. FailsToWrite fault (W.contents writer.old) (W.contents writer.new)) }
+    ensures fault { IfErr result (λ fault. (fault ≡ ToolFault.WriteFailed)
+        × AppendsFront (W.contents writer.old) (W.contents writer.new) (verdict_text verdict.now)) }
 {
     match verdict.write_text(writer) {
         Ok(()) => Ok(verdict.sound()),
@@ -104,7 +104,7 @@ fn tell_verdict<W: Write>(verdict: &Verdict, writer: &mut W) -> Result<bool, Too
 /// If only an offer is refused, it writes `offer`, the number of the first, and the reply.
 ///
 /// The faults of `restore_whole`, with which nothing is written. WriteFailed comes last, and what was written is then a
-/// front of the text.
+/// front of that text, and not all of it.
 #[tactic(auto, using(command_answers::proofs::FileFaults::file_fault))]
 pub fn check_whole<F: Read, W: Write>(
     alloc: Global,
@@ -142,14 +142,14 @@ pub fn check_whole<F: Read, W: Write>(
 
 /// Runs a script on a core for the machine that it leaves. Replies are dropped.
 ///
-/// The faults are those of `run_script`, except BadSize.
+/// The faults are those of `follow_script`.
 fn after_script<R: Read>(alloc: Global, core: Core, reader: &mut R) -> Result<Core, ScriptFault>
     ensures ends { IfOk result (EndsIn core.state (R.remaining reader.old)) }
     ensures fault { IfErr result (λ fault. EndsScript core.state fault (R.remaining reader.old)
         (R.remaining reader.new)) }
     ensures size { IfErr result (λ fault. fault ≢ ScriptFault.BadSize) }
 {
-    let after = resume_script(alloc, core, reader, &mut io::sink())?;
+    let after = follow_script(alloc, core, reader)?;
     Ok(after)
 }
 
