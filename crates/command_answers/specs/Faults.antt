@@ -1,5 +1,5 @@
 -- The texts of faults, and their exit statuses.
-use Rattle.std.specs.Prelude.{ℕ, List, [], ◌++◌, Option, codes, decimal}
+use Rattle.std.specs.Prelude.{ℕ, List, [], ◌++◌, Option, IfSome, codes, decimal}
 use Rattle.memory_image.specs.declared.faults.ImageFault.{ImageFault}
 use Rattle.memory_image.specs.declared.faults.ImageFault.TheVariants as image
 use Rattle.script_run.specs.declared.faults.ScriptFault.{ScriptFault}
@@ -8,7 +8,8 @@ use Rattle.command_answers.specs.declared.faults.ToolFault.TheVariants as tool
 use Rattle.command_answers.specs.declared.given_words.WordsFault.{WordsFault}
 use Rattle.command_answers.specs.declared.given_words.WordsFault.TheVariants as words
 use Rattle.script_run.specs.declared.faults.ScriptFault.TheVariants as script
-use Rattle.wide_image.specs.Streams.{NoneEncode}
+use Rattle.wide_image.specs.Streams.{NamesReason, NoneEncode}
+use Rattle.wide_image.specs.declared.faults.WideImageFault.{WideImageFault}
 use Rattle.wide_image.specs.declared.faults.WideImageFault.TheVariants as wide
 use Rattle.wide_image.specs.declared.streams.WideReadFault.{WideReadFault}
 use Rattle.wide_image.specs.declared.streams.WideReadFault.TheVariants.{ReadFailed, NotRead}
@@ -50,12 +51,17 @@ tool_of_whole (NotRead wide.BadVersion) = tool.BadVersion
 tool_of_whole (NotRead (wide.BadField offset)) = tool.BadField offset
 tool_of_whole (NotRead wide.NoMemory) = tool.NoMemory
 
--- why a file gives no image of version 3: a read failed, memory ran out, or its bytes encode none
+-- a file's bytes encode no image of version 3, and the fault names the first reason against them, in the order in which
+-- they are read
+abbrev pub IsReason : Option (List ℕ) → WideImageFault → Type 0
+IsReason file fault = NoneEncode [] file × IfSome file (λ bytes. NamesReason bytes fault)
+
+-- why a file gives no image of version 3: a read failed, memory ran out, or that is the first reason against its bytes
 abbrev pub IsFileFault : Option (List ℕ) → ToolFault → Type 0
-IsFileFault file tool.NotImage = NoneEncode [] file
-IsFileFault file tool.BadVersion = NoneEncode [] file
-IsFileFault file tool.BadLength = NoneEncode [] file
-IsFileFault file (tool.BadField offset) = NoneEncode [] file
+IsFileFault file tool.NotImage = IsReason file wide.NotImage
+IsFileFault file tool.BadVersion = IsReason file wide.BadVersion
+IsFileFault file tool.BadLength = IsReason file wide.BadLength
+IsFileFault file (tool.BadField offset) = IsReason file (wide.BadField offset)
 IsFileFault file tool.NoMemory = Unit {0}
 IsFileFault file tool.ReadFailed = Unit {0}
 IsFileFault file tool.WriteFailed = ⊥

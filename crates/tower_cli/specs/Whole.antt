@@ -64,12 +64,12 @@ EndsIn begun remained after = IfSome remained (λ input. (fault_of input ≡ Non
 abbrev pub WritesWhole : State → Option (List ℕ) → Option (List ℕ) → Option (List ℕ) → Type 0
 WritesWhole begun remained held holds = (after : View) × EndsIn begun remained after × StoresMachine after held holds
 
--- why none was: a fault of the script, and nothing was written; or, after the script, there was no memory or a write failed,
+-- why none was: a fault of the script, or after it no memory, and nothing was written; or, after the script, a write failed,
 -- and nothing or a front of the image was
 abbrev pub EndsWhole : State → ScriptFault → Option (List ℕ) → Option (List ℕ) → Option (List ℕ) → Option (List ℕ) → Type 0
 EndsWhole begun fault remained remains held holds =
     (EndsScript begun fault remained remains × Keeps held holds)
-    ⊎ (((fault ≡ script.WriteFailed) ⊎ (fault ≡ script.NoMemory)) × ((after : View) × EndsIn begun remained after × StoresFront after held holds))
+    ⊎ ((fault ≡ script.WriteFailed) × (after : View) × EndsIn begun remained after × StoresFront after held holds)
 
 -- why no machine of a number of frames was booted
 abbrev pub IsBootFault : ToolFault → Type 0
