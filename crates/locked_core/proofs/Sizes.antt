@@ -1,5 +1,5 @@
 -- How many frames a kernel's core has.
-use Rattle.std.proofs.Common.{◌≡◌, ℕ, ◌+◌, ◌<◌, ◌≤◌, List, length, ap, ◌∙◌, arith}
+use Rattle.std.proofs.Common.{◌≡◌, ℕ, ◌+◌, ◌≤◌, List, length, ap, ◌∙◌, arith}
 use Rattle.std.specs.Option.{option_map, unwrap_or}
 use Rattle.kernel_calls.proofs.CoreMemory.{root_quota}
 use Rattle.kernel_calls.proofs.Runs.{kept-run}

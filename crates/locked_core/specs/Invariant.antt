@@ -1,5 +1,6 @@
 -- The invariant of a kernel under its lock, and of one that has no name yet, one fact a line.
 use Rattle.std.specs.Prelude.{◌≡◌, ℕ, ◌+◌, ◌<◌, ◌≤◌, Bool, true, List, [], length}
+use Rattle.locked_core.specs.Makers.{AreOfCpus}
 use Rattle.logbook.specs.Pages.{Book}
 use Rattle.memory_report.specs.Histories.{Legal, state_after}
 use Rattle.memory_report.specs.declared.entries.LogEntry.{LogEntry}
@@ -12,10 +13,10 @@ use Rattle.locked_core.specs.Pages.{Page, LagsBehind, page}
 use Rattle.locked_core.specs.Published.{view_of}
 use Rattle.locked_core.specs.declared.rule.WhichKernel.{WhichKernel}
 
--- What a kernel with so many frames and this book has under its lock: the core, its log and what it adds to the
+-- What a kernel with so many frames and CPUs and this book has under its lock: the core, its log and what it adds to the
 -- history. Also the total of the calls that its CPUs count as theirs, the number of each CPU's, and the two sides of what is published, of which
 -- readers see one.
-pub record IsUnderLock (frames keeps : ℕ) (book : Book) (opening core : View) (log : List LogEntry) (held : ℕ) (added : List Moment) (total : ℕ) (tally : List ℕ) (is_watched : Bool) (side other : Page) (seat : WhichKernel) : Type 0 where
+pub record IsUnderLock (frames parts keeps : ℕ) (book : Book) (opening core : View) (log : List LogEntry) (held : ℕ) (added : List Moment) (total : ℕ) (tally : List ℕ) (is_watched : Bool) (side other : Page) (seat : WhichKernel) : Type 0 where
   pub legal : Legal frames log
   pub stands : core.state ≡ state_after frames log
   pub told : entries_in added ≡ log
@@ -27,6 +28,8 @@ pub record IsUnderLock (frames keeps : ℕ) (book : Book) (opening core : View) 
   pub counted : total ≡ length log
   -- and of each CPU there are as many as it counts
   pub tallied : tally ≡ counts_of log
+  -- and each entry is of one of them
+  pub cpus : AreOfCpus parts log
   pub mine : seat ≡ view_of frames book
   -- where there is a monitor, what is published reports on the whole log
   pub shown : is_watched ≡ true → side ≡ page frames book log

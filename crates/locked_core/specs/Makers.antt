@@ -1,5 +1,5 @@
 -- What a contract sees of a CPU, what a call that is made leaves, and when one is refused.
-use Rattle.std.specs.Prelude.{◌≡◌, ◌↔◌, ◌<◌, ◌≤◌, ◌^◌, ℕ, zero, suc, List, [], ◌∷◌, ◌++◌, length, take, sum_by, All, Any, Result, IsOk, IfErr}
+use Rattle.std.specs.Prelude.{◌≡◌, ◌↔◌, ◌⊎◌, ◌<◌, ◌≤◌, ◌^◌, ℕ, zero, suc, List, [], ◌∷◌, ◌++◌, length, take, slice_index_or, sum_by, All, Any, Result, IsOk, IfErr}
 use Rattle.kernel_calls.specs.declared.calls.Call.{Call}
 use Rattle.kernel_calls.specs.declared.calls.Reply.{Reply}
 use Rattle.locked_core.specs.declared.faults.Fault.{Fault}
@@ -57,6 +57,10 @@ pub record IsMade (frames : ℕ) (before : Maker) (pid : ℕ) (call : Call) (rep
   pub with_reply : e.reply ≡ reply
   pub own : entries_of before.number after.seen ≡ entries_of before.number before.seen ++ e ∷ []
 
+-- each entry is of one of so many CPUs, numbered from 0
+abbrev pub AreOfCpus : ℕ → List LogEntry → Type 0
+AreOfCpus count log = All (λ (e : LogEntry). e.cpu < count) log
+
 -- a call of a CPU was made, with this reply
 abbrev pub Makes : ℕ → Maker → ℕ → Call → Maker → Reply → Type 0
 Makes frames before pid call after reply = (between : List LogEntry) × (e : LogEntry) × IsMade frames before pid call reply after between e
@@ -70,8 +74,8 @@ IsRefused frames log cpu Disagree = ⊥
 IsRefused frames log cpu TooManyFrames = 4096 < frames
 
 -- What a CPU has seen after a call that was refused for memory: all of the kernel's history, as it lay under the lock.
--- That begins with what the CPU had seen and received, and has no more of its own entries. A kernel that keeps only so
--- many of its last entries then has 2 ^ 62 of them in that history.
+-- That begins with what the CPU had seen and received, and has no more of its own entries. Each is of one of the kernel's
+-- CPUs. A kernel that keeps only so many of its last entries then has 2 ^ 62 of them in that history.
 pub record HasFound (frames : ℕ) (book : Names) (before after : Maker) : Type 0 where
   pub stays : after ≡ maker_of before.number after.moments
   pub legal : Legal frames after.seen
@@ -79,6 +83,7 @@ pub record HasFound (frames : ℕ) (book : Names) (before after : Maker) : Type 
   pub begins : Begins after.moments before.moments
   pub learned : Begins after.moments before.told
   pub own : calls_of before.number after.seen ≡ calls_of before.number before.seen
+  pub cpus : AreOfCpus book.parts after.seen
   pub spent : book.keeps < 2 ^ 62 → 2 ^ 62 ≤ length after.seen
 
 -- What a refused call leaves of its CPU. At NoMemory it has seen what the call found, at Unread what it had seen. No call
@@ -137,6 +142,24 @@ pub record IsLeft (opening : View) (cpus : List Maker) (log : List LogEntry) (co
 -- how many calls these CPUs made, together
 abbrev pub calls_of_all : List Maker → ℕ
 calls_of_all cpus = sum_by (λ (c : Maker). calls_of c.number c.seen) cpus
+
+-- of a history and what a CPU has seen, one begins the other
+abbrev pub IsOfOne : List Moment → Maker → Type 0
+IsOfOne moments c = Begins moments c.moments ⊎ Begins c.moments moments
+
+-- the number that is counted for a CPU is that of the calls that it made
+abbrev pub IsTallied : List ℕ → Maker → Type 0
+IsTallied tally c = (c.number < 8) × (slice_index_or tally c.number 0 ≡ calls_of c.number c.seen)
+
+-- All of the history of a kernel of so many CPUs, of which these came back. It follows from the core that the kernel
+-- opened with. What each of these CPUs has seen is of this one history, which has the calls that the CPU made. If they are
+-- as many as the kernel has, they made all of it.
+pub record IsHistory (frames : ℕ) (opening : View) (count : ℕ) (cpus : List Maker) (moments : List Moment) : Type 0 where
+  pub legal : Legal frames (entries_in moments)
+  pub follows : Follows opening moments
+  pub one : All (λ c. IsOfOne moments c) cpus
+  pub own : All (λ (c : Maker). calls_of c.number (entries_in moments) ≡ calls_of c.number c.seen) cpus
+  pub all : length cpus ≡ count → calls_of_all cpus ≡ length moments
 
 -- the result of closing with these CPUs on that log: it succeeds exactly if they are all of that many and agree with
 -- the log, and is otherwise refused as Disagree

@@ -1,13 +1,14 @@
 //! What a closed kernel returns, and whether the CPUs that came back are all of its log's.
 
 ghost use Rattle.std.specs.Prelude.{◌≡◌, ◌+◌, ◌<◌, ◌↔◌, All, Any, IsTrue, vec_len};
-ghost use Rattle.locked_core.specs.Makers.{AreAll, IsFit, IsOneOf, calls_of_all};
+ghost use Rattle.locked_core.specs.Makers.{AreAll, IsFit, IsOfOne, IsOneOf, IsTallied, calls_of_all};
 ghost use Rattle.locked_core.specs.Moments.{Begins, entries_in};
 ghost use Rattle.memory_report.specs.Histories.{calls_of};
 
 use crate::book::{Beginning, Calls, Front, Name};
 use crate::call_log::CallLog;
 use crate::cpu::Cpu;
+use crate::tally::Tally;
 use kernel_calls::Core;
 use memory_report::LogEntry;
 use std::marker::Model;
@@ -109,14 +110,35 @@ pub fn are_all<N: Name>(cpus: &[Cpu<N>], count: u8, log: &CallLog, front: &Front
     all_known(cpus, log)
 }
 
-/// The shares of these CPUs as one, which counts all their calls.
-pub fn merged<N: Name>(first: Cpu<N>, mut others: Vec<Cpu<N>>) -> Share<Calls<N>>
+/// The share of a CPU, which counts its calls. What it has seen is compared with the front, and its number of calls with
+/// the one that is counted for it.
+fn share_of<N: Name>(mut cpu: Cpu<N>, front: &Front<N>, tally: &mut Tally<N>) -> Share<Calls<N>>
+    ensures share { (result.parts ≡ 1) × (result.amount ≡ calls_of cpu.number cpu.seen) }
+    ensures one { IsOfOne front.now cpu }
+    ensures tallied { IsTallied tally.old cpu }
+    ensures tally { tally.new ≡ tally.old }
+{
+    cpu.is_of_one(front);
+    cpu.audit(tally);
+    cpu.into_share()
+}
+
+/// The shares of these CPUs as one, which counts all their calls. What each has seen is compared with the front, and its
+/// number of calls with the one that is counted for it.
+pub fn merged<N: Name>(
+    first: Cpu<N>,
+    mut others: Vec<Cpu<N>>,
+    front: &Front<N>,
+    tally: &mut Tally<N>,
+) -> Share<Calls<N>>
     ensures parts { result.parts ≡ vec_len others + 1 }
     ensures amount { result.amount ≡ calls_of_all others.items + calls_of first.number first.seen }
+    ensures one { IsOfOne front.now first × All (λ c. IsOfOne front.now c) others.items }
+    ensures tallied { IsTallied tally.old first × All (λ c. IsTallied tally.old c) others.items }
 {
-    let mut all = first.into_share();
+    let mut all = share_of(first, front, tally);
     while let Some(cpu) = others.pop() {
-        all.merge(cpu.into_share());
+        all.merge(share_of(cpu, front, tally));
     }
     all
 }

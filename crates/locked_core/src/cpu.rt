@@ -2,7 +2,7 @@
 
 ghost use Rattle.std.specs.Prelude.{◌≡◌, ◌≢◌, ◌+◌, ◌<◌, ◌^◌, ◌⊎◌, ◌↔◌, [], false, IfOk, IfErr, OnErr, IsTrue, MatchBool, length, slice_index_or, slice_set, List};
 ghost use Rattle.locked_core.specs.Endings.{EndsAtLast};
-ghost use Rattle.locked_core.specs.Makers.{Maker, maker, maker_of, Makes, IsFit, IsFollowed, IsRefused, Refuses};
+ghost use Rattle.locked_core.specs.Makers.{AreOfCpus, Maker, maker, maker_of, Makes, IsFit, IsFollowed, IsOfOne, IsRefused, Refuses};
 ghost use Rattle.locked_core.specs.Moments.{Begins, entries_in};
 ghost use Rattle.memory_report.specs.Histories.{AreIsolated, StartsWith, calls_of};
 ghost use Rattle.memory_report.specs.Histories.{AreGuarded};
@@ -84,14 +84,16 @@ impl<N: Name> Model for Cpu<N> {
 
     ghost invariant = { λ c. Begins c.told c.seen × (c.calls ≡ calls_of c.number (entries_in c.seen)) × (c.number < 8)
         × (c.share.parts ≡ 1) × (c.share.amount ≡ calls_of c.number (entries_in c.seen))
-        × (c.own ≡ record { number = c.number; calls = calls_of c.number (entries_in c.seen) }) };
+        × (c.own ≡ record { number = c.number; calls = calls_of c.number (entries_in c.seen) })
+        × (c.number < N.book.parts) };
 }
 
 impl<N: Name> Cpu<N> {
-    /// The CPU's number, from 0 on.
+    /// The CPU's number, from 0 on: below the number of the kernel's CPUs.
     pub fn number(&self) -> u8
         ensures number { result ≡ self.now.number }
         ensures small { result < 8 }
+        ensures part { result < N.book.parts }
     {
         self.number
     }
@@ -143,6 +145,7 @@ impl<N: Name> Cpu<N> {
     #[tactic(auto, using(crate::proofs::Moments::entries_none))]
     pub(crate) fn new(number: u8, seen: Front<N>, share: Share<Calls<N>>, own: Own<N>) -> Cpu<N>
         requires number { number < 8 }
+        requires part { number < N.book.parts }
         requires seen { entries_in seen ≡ [] }
         requires share { (share.parts ≡ 1) × (share.amount ≡ 0) }
         requires own { own ≡ record { number = number; calls = 0 } }
@@ -176,9 +179,17 @@ impl<N: Name> Cpu<N> {
     /// Compares its count with the one of its calls under the lock, which are equal. Nothing changes.
     pub(crate) fn audit(&mut self, tally: &mut Tally<N>)
         ensures calls { slice_index_or tally.old self.old.number 0 ≡ calls_of self.old.number self.old.seen }
+        ensures small { self.old.number < 8 }
         ensures same { (self.new ≡ self.old) × (tally.new ≡ tally.old) }
     {
         tally.audit(&mut self.own);
+    }
+
+    /// Compares what it has seen with a front: one of the two begins the other. It computes nothing.
+    pub(crate) fn is_of_one(&self, front: &Front<N>)
+        ensures { IsOfOne front.now self.now }
+    {
+        let _begins = self.seen.begins(front);
     }
 
     /// Whether it made the calls that the log has of it, and has seen no more than the log. What it has
@@ -234,9 +245,9 @@ impl<N: Name> Cpu<N> {
     ///
     /// The faults come in this order. Unread: the turn to add the next entry can't be taken, since the kernel's history
     /// is longer than the log or another has this turn. NoMemory: the log can't grow, since there is no memory for it
-    /// or it has 2 ^ 62 entries. After each of them the call has added no entry to the history. After NoMemory the CPU
-    /// has seen all of the history that the call found under the lock. If the kernel keeps only so many of its last
-    /// entries, that is of 2 ^ 62 entries. After Unread the CPU is as it was.
+    /// or it has 2 ^ 62 entries. After each of them the CPU has made no call more: each entry of the history is one that
+    /// its CPU counts. After NoMemory the CPU has seen all of the history that the call found under the lock. If the kernel
+    /// keeps only so many of its last entries, that is of 2 ^ 62 entries. After Unread the CPU is as it was.
     pub fn call<G: Gate + Drop, R: Wait>(
         &mut self,
         rt: &R,
@@ -250,6 +261,7 @@ impl<N: Name> Cpu<N> {
         ensures stood { N.book.opening.state ≡ open_with N.frames }
         ensures isolated { IfOk result (λ _. AreIsolated N.frames self.new.seen) }
         ensures guarded { IfOk result (λ _. AreGuarded N.frames self.new.seen) }
+        ensures cpus { IfOk result (λ _. AreOfCpus N.book.parts self.new.seen) }
         ensures number { self.new.number ≡ self.old.number }
         ensures calls { IfOk result (λ _. calls_of self.new.number self.new.seen
             ≡ calls_of self.old.number self.old.seen + 1) }
@@ -289,6 +301,7 @@ impl<N: Name> Cpu<N> {
         ensures stood { N.book.opening.state ≡ open_with N.frames }
         ensures isolated { IfOk result (λ _. AreIsolated N.frames self.new.seen) }
         ensures guarded { IfOk result (λ _. AreGuarded N.frames self.new.seen) }
+        ensures cpus { IfOk result (λ _. AreOfCpus N.book.parts self.new.seen) }
         ensures number { self.new.number ≡ self.old.number }
         ensures calls { IfOk result (λ _. calls_of self.new.number self.new.seen
             ≡ calls_of self.old.number self.old.seen + 1) }

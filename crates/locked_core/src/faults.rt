@@ -40,13 +40,13 @@ pub enum Fault {
 /// Why a kernel's image was not written whole.
 #[derive(Clone, Copy, Debug, PartialEq, Eq, Error)]
 pub enum StoreFault {
-    /// There was no memory for the list of offers.
+    /// There was no memory for the list of offers. Nothing was written.
     #[error("out of memory")]
     NoMemory,
     /// The turn to add the next entry could not be taken, as for a call. Nothing was written.
     #[error("the history is longer than the log")]
     Unread,
-    /// A write failed.
+    /// A write failed. Nothing was written, or a prefix of the image.
     #[error("write failed")]
     WriteFailed,
 }

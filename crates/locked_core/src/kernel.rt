@@ -3,7 +3,8 @@
 ghost use Rattle.std.specs.Prelude.{◌≡◌, ◌-◌, ◌<◌, ◌≤◌, ◌^◌, ◌⊎◌, ◌↔◌, [], IfErr, IfOk, IsErrOf, OnErr, All, Any, length, take, replicate, List};
 ghost use Rattle.left_right.specs.Sides.{view};
 ghost use Rattle.locked_core.specs.Counts.{last_of};
-ghost use Rattle.locked_core.specs.Makers.{Closes, IsLeft, IsRefused, IsShown, IsSnapshot, calls_of_all, new_makers};
+ghost use Rattle.locked_core.specs.Makers.{Closes, IsHistory, IsLeft, IsRefused, IsShown, IsSnapshot, calls_of_all, new_makers};
+ghost use Rattle.locked_core.specs.Moments.{entries_in};
 ghost use Rattle.locked_core.specs.declared.moment.Moment.{Moment};
 ghost use Rattle.locked_core.specs.Pages.{page};
 ghost use Rattle.locked_core.specs.Published.{view_of};
@@ -117,6 +118,7 @@ impl<N: Name, G: Gate + Drop> Kernel<N, G> {
         gate: G,
     ) -> Result<Blank<G>, BootFault>
         ensures made { IfOk result (λ b. (b.frames ≡ frames) × (b.cpus ≡ cpus) × (b.monitors ≡ monitors)) }
+        ensures parts { IfOk result (λ b. b.book.parts ≡ cpus) }
         ensures keeps { IfOk result (λ b. b.book.keeps ≡ 2 ^ 64 - 1) }
         ensures size { IsErrOf result BootFault.BadSize ↔ (16 ≤ frames → frames ≤ 4096 → ⊥) }
         ensures count { IsErrOf result BootFault.BadCount ↔ (16 ≤ frames) × (frames ≤ 4096)
@@ -141,6 +143,7 @@ impl<N: Name, G: Gate + Drop> Kernel<N, G> {
     ) -> Result<Blank<G>, BootFault>
         requires { 2 ≤ keeps }
         ensures made { IfOk result (λ b. (b.frames ≡ frames) × (b.cpus ≡ cpus) × (b.monitors ≡ monitors)) }
+        ensures parts { IfOk result (λ b. b.book.parts ≡ cpus) }
         ensures keeps { IfOk result (λ b. b.book.keeps ≡ keeps) }
         ensures size { IsErrOf result BootFault.BadSize ↔ (16 ≤ frames → frames ≤ 4096 → ⊥) }
         ensures count { IsErrOf result BootFault.BadCount ↔ (16 ≤ frames) × (frames ≤ 4096)
@@ -168,6 +171,7 @@ impl<N: Name, G: Gate + Drop> Kernel<N, G> {
         gate: G,
     ) -> Result<Blank<G>, BootFault>
         ensures made { IfOk result (λ b. (b.frames ≡ frames) × (b.cpus ≡ cpus) × (b.monitors ≡ monitors)) }
+        ensures parts { IfOk result (λ b. b.book.parts ≡ cpus) }
         ensures keeps { IfOk result (λ b. b.book.keeps ≡ 2 ^ 64 - 1) }
         ensures size { IsErrOf result BootFault.BadSize ↔ (16 ≤ frames → frames ≤ 1048576 → ⊥) }
         ensures count { IsErrOf result BootFault.BadCount ↔ (16 ≤ frames) × (frames ≤ 1048576)
@@ -193,6 +197,7 @@ impl<N: Name, G: Gate + Drop> Kernel<N, G> {
     ) -> Result<Blank<G>, BootFault>
         requires { 2 ≤ keeps }
         ensures made { IfOk result (λ b. (b.frames ≡ frames) × (b.cpus ≡ cpus) × (b.monitors ≡ monitors)) }
+        ensures parts { IfOk result (λ b. b.book.parts ≡ cpus) }
         ensures keeps { IfOk result (λ b. b.book.keeps ≡ keeps) }
         ensures size { IsErrOf result BootFault.BadSize ↔ (16 ≤ frames → frames ≤ 1048576 → ⊥) }
         ensures count { IsErrOf result BootFault.BadCount ↔ (16 ≤ frames) × (frames ≤ 1048576)
@@ -269,7 +274,7 @@ impl<N: Name, G: Gate + Drop> Kernel<N, G> {
     /// Writes the image of the kernel's whole machine with its pending offers, of version 3, of one moment between calls:
     /// waits for the lock, and has it until all is written. The CPU has the calls and has seen what it had.
     ///
-    /// Unread as for a call; nothing was written then. NoMemory if there is no memory for the list of offers, WriteFailed
+    /// Unread as for a call, NoMemory if there is no memory for the list of offers; nothing was written then. WriteFailed
     /// if a write fails; nothing was written then, or a prefix.
     pub fn store<R: Wait, W: Write>(
         &self,
@@ -282,6 +287,7 @@ impl<N: Name, G: Gate + Drop> Kernel<N, G> {
         ensures part { OnErr result (LeavesPart N.frames N.book.opening cpu.old
             (W.contents writer.old) (W.contents writer.new)) }
         ensures unread { IsErrOf result StoreFault.Unread → W.contents writer.new ≡ W.contents writer.old }
+        ensures unwritten { IsErrOf result StoreFault.NoMemory → W.contents writer.new ≡ W.contents writer.old }
         ensures kept { cpu.new ≡ cpu.old }
     {
         let mut guard = self.taken(rt);
@@ -305,7 +311,9 @@ impl<N: Name, G: Gate + Drop> Kernel<N, G> {
         ensures all { IfOk result (λ h. All (λ e. Any (λ c. c.number ≡ e.cpu) cpus.items) h.entries) }
         ensures isolated { IfOk result (λ h. AreIsolated N.frames h.entries) }
         ensures guarded { IfOk result (λ h. AreGuarded N.frames h.entries) }
-        ensures closes { (log : List LogEntry) × Legal N.frames log × Closes self.cpus log cpus.items result }
+        ensures closes { (moments : List Moment) × IsHistory N.frames N.book.opening self.cpus cpus.items moments
+            × Closes self.cpus (entries_in moments) cpus.items result
+            × IfOk result (λ h. h.entries ≡ entries_in moments) }
         ensures kept { IfOk result (λ h. h.kept ≡ last_of N.book.keeps h.entries) }
         ensures whole { IfOk result (λ h. 2 ^ 62 ≤ N.book.keeps → h.kept ≡ h.entries) }
     {
@@ -378,6 +386,7 @@ fn seats<N: Name>(
     uncut: &mut Uncut<N>,
 ) -> Result<(Vec<Cpu<N>>, Vec<Monitor<N>>), AllocError>
     requires few { count ≤ 8 }
+    requires parts { count ≡ N.book.parts }
     requires shares { (uncut.old.shares.parts ≡ count) × (uncut.old.shares.amount ≡ 0) }
     requires rest { (uncut.old.rest.parts ≡ replicate 8 1) × (uncut.old.rest.amounts ≡ replicate 8 0) }
     requires writer { (writer.old.desk.shown.value ≡ page N.frames N.book.history [])

@@ -5,7 +5,7 @@ ghost use Rattle.kernel_calls.specs.Translations.{ended_by, of_call, Ends};
 ghost use Rattle.left_right.specs.Sides.{view};
 ghost use Rattle.locked_core.specs.Counts.{last_of};
 ghost use Rattle.locked_core.specs.Endings.{EndsAtLast};
-ghost use Rattle.locked_core.specs.Makers.{AreAll, Closes, IsFollowed, IsLeft, IsRefused, Makes, Prevents, Refuses, calls_of_all, maker_of};
+ghost use Rattle.locked_core.specs.Makers.{AreAll, AreOfCpus, Closes, IsFollowed, IsHistory, IsLeft, IsRefused, Makes, Prevents, Refuses, calls_of_all, maker_of};
 ghost use Rattle.locked_core.specs.Moments.{Begins, Follows, core_after, entries_in, moment};
 ghost use Rattle.locked_core.specs.Pages.{page};
 ghost use Rattle.locked_core.specs.Published.{view_of};
@@ -85,7 +85,7 @@ impl<N: Name> Model for Locked<N> {
       is_watched = l.is_watched;
     } };
 
-    ghost invariant = { λ l. IsUnderLock N.frames N.book.keeps N.book.history N.book.opening l.core l.log.entries
+    ghost invariant = { λ l. IsUnderLock N.frames N.book.parts N.book.keeps N.book.history N.book.opening l.core l.log.entries
         l.log.keeps l.head
         l.counted.total l.tally l.is_watched l.writer.desk.shown.value l.writer.desk.spare.value
         l.writer.desk.place.me.0.client };
@@ -140,6 +140,7 @@ impl<N: Name> Locked<N> {
         ensures begins { IfSome result (λ _. Begins self.old.moments cpu.old.moments) }
         ensures told { IfSome result (λ _. Begins self.old.moments cpu.old.told) }
         ensures history { entries_in self.old.moments ≡ self.old.log }
+        ensures cpus { AreOfCpus N.book.parts self.old.log }
         ensures stands { self.old.core.state ≡ state_after N.frames self.old.log }
         ensures left { core_after N.book.opening self.old.moments ≡ self.old.core }
         ensures same { (self.new ≡ self.old) × (cpu.new ≡ cpu.old) }
@@ -179,7 +180,7 @@ impl<N: Name> Locked<N> {
 
     /// Writes the image of the core with its offers, of version 3, for this CPU.
     ///
-    /// Unread as for a call, with nothing written. NoMemory where there is none for the offers, WriteFailed where a write
+    /// Unread as for a call, NoMemory where there is none for the offers; nothing is written then. WriteFailed where a write
     /// fails.
     pub(crate) fn store<W: Write>(
         &mut self,
@@ -193,6 +194,7 @@ impl<N: Name> Locked<N> {
         ensures part { OnErr result (StoresFront (core_after N.book.opening self.old.moments)
             (W.contents writer.old) (W.contents writer.new)) }
         ensures unread { IsErrOf result StoreFault.Unread → W.contents writer.new ≡ W.contents writer.old }
+        ensures unwritten { IsErrOf result StoreFault.NoMemory → W.contents writer.new ≡ W.contents writer.old }
         ensures same { (self.new ≡ self.old) × (cpu.new ≡ cpu.old) }
     {
         let Some(turn) = self.fit(cpu) else {
@@ -217,6 +219,8 @@ impl<N: Name> Locked<N> {
     ) -> Result<Ready<N>, Fault>
         ensures legal { IfOk result (λ _. Legal N.frames self.old.log) }
         ensures nth { IfOk result (λ r. (cpu.old.number < 8) × (r.nth ≡ calls_of cpu.old.number self.old.log)) }
+        ensures part { IfOk result (λ _. cpu.old.number < N.book.parts) }
+        ensures cpus { AreOfCpus N.book.parts self.old.log }
         ensures event { IfOk result (λ r. r.event ≡ record { cpu = cpu.old.number; pid = pid; call = call }) }
         ensures turn { IfOk result (λ r. r.turn ≡ turn_after self.old.moments) }
         ensures fits { IfOk result (λ _. StartsWith self.old.log cpu.old.seen
@@ -256,6 +260,7 @@ impl<N: Name> Locked<N> {
         cpu: &mut Cpu<N>,
     ) -> Result<Reply, Fault>
         requires nth { (ready.event.cpu < 8) × (ready.nth ≡ calls_of ready.event.cpu self.old.log) }
+        requires part { ready.event.cpu < N.book.parts }
         requires turn { ready.turn ≡ turn_after self.old.moments }
         requires own { (ready.event.cpu ≡ cpu.old.number)
             × (calls_of cpu.old.number self.old.log ≡ calls_of cpu.old.number cpu.old.seen) }
@@ -339,6 +344,7 @@ impl<N: Name> Locked<N> {
         ensures learned { IfOk result (λ _. Begins cpu.new.moments cpu.old.told) }
         ensures isolated { IfOk result (λ _. AreIsolated N.frames cpu.new.seen) }
         ensures guarded { IfOk result (λ _. AreGuarded N.frames cpu.new.seen) }
+        ensures cpus { IfOk result (λ _. AreOfCpus N.book.parts cpu.new.seen) }
         ensures opened { N.book.opening.state ≡ open_with N.frames }
         ensures number { cpu.new.number ≡ cpu.old.number }
         ensures calls { IfOk result (λ _. calls_of cpu.new.number cpu.new.seen
@@ -368,6 +374,8 @@ impl<N: Name> Locked<N> {
     ) -> Result<History, Fault>
         requires count { (0 < count) × (count ≡ N.book.parts) }
         ensures log { Legal N.frames self.log }
+        ensures history { IsHistory N.frames N.book.opening count cpus.items self.moments }
+        ensures told { entries_in self.moments ≡ self.log }
         ensures closes { Closes count self.log cpus.items result }
         ensures entries { IfOk result (λ h. h.entries ≡ self.log) }
         ensures kept { IfOk result (λ h. h.kept ≡ last_of N.book.keeps h.entries) }
@@ -384,16 +392,19 @@ impl<N: Name> Locked<N> {
             writer,
             is_watched: _,
             mut counted,
-            tally: _,
+            mut tally,
         } = self;
         let front = front_of(&log, &head);
         writer.take(rt);
-        if !are_all(cpus.as_slice(), count, &log, &front) {
+        let agree = are_all(cpus.as_slice(), count, &log, &front);
+        let mut others = cpus;
+        let Some(first) = others.pop() else {
+            return Err(Fault::Disagree);
+        };
+        counted.audit(&mut merged(first, others, &front, &mut tally));
+        if !agree {
             return Err(Fault::Disagree);
         }
-        let mut others = cpus;
-        let first = others.pop().unwrap();
-        counted.audit(&mut merged(first, others));
         let (kept, all) = log.into_entries();
         Ok(History::new(kept, core, all))
     }

@@ -1,8 +1,12 @@
-use Rattle.std.proofs.Common.{◌≡◌, List, Result, Ok, Err, length, take, arith}
+use Rattle.std.proofs.Common.{◌≡◌, ℕ, List, Result, Ok, Err, length, take, ap, sym, subst, arith}
 use Rattle.std.specs.Prelude.{IfOk}
 use Rattle.std.proofs.lemmas.List.Elements.{All-weaker}
 use Rattle.locked_core.proofs.Keeping.{keeps_all}
-use Rattle.locked_core.specs.Makers.{Maker, AreAll, IsFit, IsOneOf}
+use Rattle.locked_core.specs.Held.{Closed, Shared}
+use Rattle.locked_core.specs.Makers.{Maker, AreAll, Closes, IsFit, IsHistory, IsOneOf}
+use Rattle.locked_core.specs.Moments.{entries_in}
+use Rattle.locked_core.specs.declared.moment.Moment.{Moment}
+use Rattle.memory_report.specs.declared.entries.LogEntry.{LogEntry}
 use Rattle.locked_core.specs.declared.faults.Fault.{Fault}
 use Rattle.locked_core.proofs.kernel.Kernel.close.Goals as goal
 use Rattle.memory_report.specs.Histories.{calls_of}
@@ -51,3 +55,16 @@ returns-clause-all g c =
 pub returns-clause-left : goal.returns-clause-left
 returns-clause-left g c =
     ok_weaker c.close.result c.close.ensures.left (λ h left. (c.into_inner.result.moments, left))
+
+-- the history is the one that was under the lock
+pub returns-clause-closes : goal.returns-clause-closes
+returns-clause-closes g c =
+    let cpus : List Maker = c.args.cpus.items in
+    let moments : List Moment = c.into_inner.result.moments in
+    let count : c.self.inside.cpus ≡ c.args.self.cpus = ap (λ (k : Shared). k.cpus) c.self.view_is in
+    let same = sym c.close.ensures.told in (
+      moments,
+      subst (λ (n : ℕ). IsHistory g.N.Name.frames g.N.Name.book.opening n cpus moments) count c.close.ensures.history,
+      subst (λ (n : ℕ). Closes n (entries_in moments) cpus c.close.result) count (subst (λ (log : List LogEntry). Closes c.self.inside.cpus log cpus c.close.result) same c.close.ensures.closes),
+      subst (λ (log : List LogEntry). IfOk c.close.result (λ (h : Closed). h.entries ≡ log)) same c.close.ensures.entries,
+    )

@@ -1,6 +1,7 @@
 -- What a call that was judged leaves under the lock.
 use Rattle.std.proofs.Common.{◌≡◌, ◌+◌, ◌<◌, ℕ, List, [], ◌∷◌, ◌++◌, length, length-append, arith, sym, ap, ◌∙◌, subst}
 use Rattle.std.proofs.Math.ListN.{get_or, set}
+use Rattle.std.proofs.lemmas.List.Elements.{All-push}
 use Rattle.kernel_calls.specs.Decisions.{charge_after}
 use Rattle.kernel_calls.specs.Machine.{answer, next}
 use Rattle.kernel_calls.specs.declared.calls.Event.{Event}
@@ -9,6 +10,7 @@ use Rattle.locked_core.proofs.Counting.{counted_push}
 use Rattle.locked_core.proofs.Entries.{Stands, judged, logged}
 use Rattle.locked_core.proofs.Moments.{core_push, entries_append, follows_more}
 use Rattle.locked_core.specs.Held.{UnderLock}
+use Rattle.locked_core.specs.Makers.{AreOfCpus}
 use Rattle.locked_core.specs.Moments.{Follows, core_after, entries_in, moment}
 use Rattle.locked_core.specs.declared.moment.Moment.{Moment}
 use Rattle.shootdowns.specs.Windows.{Begins}
@@ -86,6 +88,10 @@ invariant_of-self-2 g c =
           let counts : List ℕ = c.self.inside.tally in
           let small : e.cpu < 8 = subst (λ n. n < 8) (sym by) c.requires.nth.0 in
           c.made.ensures.tallied ∙ (ap (λ n. set counts n (get_or counts n 0 + 1)) (sym (by ∙ mine)) ∙ counted_push c.self.inside.log.entries new e counts c.self.invariant.tallied small longer));
+      cpus =
+          (let by : e.cpu ≡ event.cpu = ap (λ (x : LogEntry). x.cpu) c.entry_of-entry.ensures in
+          let part : e.cpu < g.N.Name.book.parts = subst (λ n. n < g.N.Name.book.parts) (sym by) c.requires.part in
+          subst (AreOfCpus g.N.Name.book.parts) (sym longer) (All-push (λ (x : LogEntry). x.cpu < g.N.Name.book.parts) c.self.inside.log.entries e c.self.invariant.cpus part));
       counted =
           (let one_more = c.made.ensures.counted in let had = c.self.invariant.counted in let more : length new ≡ length (c.self.inside.log.entries ++ e ∷ []) = ap length longer in
           omega (arith, length-append c.self.inside.log.entries (e ∷ [])));

@@ -1,5 +1,6 @@
-use Rattle.std.proofs.Common.{◌≡◌, ◌∙◌, refl, ap, sym, subst, List}
+use Rattle.std.proofs.Common.{◌≡◌, ◌∙◌, ◌<◌, refl, ap, sym, subst, ℕ, List}
 use Rattle.std.specs.Prelude.{if◌then◌else◌}
+use Rattle.std.proofs.lemmas.List.Elements.{All-push}
 use Rattle.kernel_calls.specs.Machine.{answer, completes}
 use Rattle.kernel_calls.specs.Translations.{ended_by, Ends}
 use Rattle.kernel_calls.specs.declared.calls.Event.{Event}
@@ -8,7 +9,7 @@ use Rattle.kernel_calls.specs.declared.translations.Ended.TheVariants as end
 use Rattle.locked_core.proofs.Entries.{makes}
 use Rattle.locked_core.proofs.Moments.{begins_push}
 use Rattle.locked_core.specs.Held.{UnderLock}
-use Rattle.locked_core.specs.Makers.{Maker}
+use Rattle.locked_core.specs.Makers.{AreOfCpus, Maker}
 use Rattle.locked_core.specs.Moments.{Begins, Follows, entries_in, moment}
 use Rattle.locked_core.specs.declared.moment.Moment.{Moment}
 use Rattle.process_table.specs.State.{State}
@@ -16,6 +17,7 @@ use Rattle.process_table.specs.View.{View}
 use Rattle.memory_report.proofs.GuardedHistories.{histories_guarded}
 use Rattle.memory_report.proofs.IsolatedHistories.{histories_isolated}
 use Rattle.memory_report.specs.Histories.{AreGuarded, AreIsolated, StartsWith, calls_of, entry_after, state_after}
+use Rattle.memory_report.specs.declared.entries.LogEntry.{LogEntry}
 use Rattle.locked_core.proofs.locked.Locked.make.Goals as goal
 
 -- the core and the log are those that the call was judged on
@@ -86,3 +88,15 @@ returns-clause-guarded g c =
     let done = c.in_ok-reply.ensures in
     let seen : c.carry_out.new.cpu.seen ≡ c.carry_out.new.self.log = ap (λ (m : Maker). m.seen) done.made ∙ done.told.1 in
     subst (AreGuarded g.N.Name.frames) (sym seen) (histories_guarded g.N.Name.frames c.carry_out.new.self.log done.legal)
+
+-- each entry of the log is of one of the kernel's CPUs, and so is the new one
+pub returns-clause-cpus : goal.returns-clause-cpus
+returns-clause-cpus g c =
+    let judged = c.in_ok-ready.ensures in
+    let done = c.in_ok-reply.ensures in
+    let event : Event = c.in_ok-ready.ready.event in
+    let parts : ℕ = g.N.Name.book.parts in
+    let seen : c.carry_out.new.cpu.seen ≡ c.carry_out.new.self.log = ap (λ (m : Maker). m.seen) done.made ∙ done.told.1 in
+    let had : AreOfCpus parts c.judge.new.self.log = subst (λ (h : UnderLock). AreOfCpus parts h.log) (sym judged.same.0) judged.cpus in
+    let part : event.cpu < parts = subst (λ n. n < parts) (sym (ap (λ (e : Event). e.cpu) judged.event)) judged.part in
+    subst (AreOfCpus parts) (sym (seen ∙ done.log)) (All-push (λ (x : LogEntry). x.cpu < parts) c.judge.new.self.log (entry_after g.N.Name.frames c.judge.new.self.log event.cpu event.pid event.call) had part)

@@ -1,11 +1,14 @@
-use Rattle.std.proofs.Common.{[], length, refl, sym, ap, ◌∙◌, subst, arith}
+use Rattle.std.proofs.Common.{◌<◌, [], length, refl, sym, ap, ◌∙◌, subst, arith}
 use Rattle.kernel_calls.specs.Processors.{IsCore}
 use Rattle.locked_core.proofs.Entries.{legal_opening}
 use Rattle.locked_core.proofs.Counting.{counted_none}
 use Rattle.locked_core.proofs.Moments.{follows_none}
 use Rattle.locked_core.specs.Counts.{counts_of}
+use Rattle.locked_core.specs.Makers.{AreOfCpus}
 use Rattle.locked_core.specs.Moments.{Follows, core_after, entries_in}
 use Rattle.locked_core.specs.Pages.{Page, LagsBehind, page}
+use Rattle.memory_report.specs.declared.entries.LogEntry.{LogEntry}
+use Rattle.std.proofs.lemmas.List.Elements.{All-nil}
 use Rattle.locked_core.proofs.locked.Locked.new.Goals as goal
 
 pub invariant_of-result : goal.invariant_of-result
@@ -26,6 +29,7 @@ invariant_of-result g c =
       opened = sym (ap (λ v. v.state) c.requires.opening) ∙ c.requires.core;
       counted = c.requires.counted.0 ∙ ap length (sym none);
       tallied = c.requires.counted.1 ∙ sym (ap counts_of none ∙ counted_none);
+      cpus = subst (AreOfCpus g.N.Name.book.parts) (sym none) (All-nil (λ (x : LogEntry). x.cpu < g.N.Name.book.parts));
       mine = w.1;
       shown = λ watched. w.0 ∙ ap (page g.N.Name.frames g.N.Name.book.history) (sym none);
       lags = subst (λ (p : Page). LagsBehind p whole) (sym w.0) empty;

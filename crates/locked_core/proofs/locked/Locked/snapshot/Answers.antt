@@ -1,13 +1,10 @@
-use Rattle.std.proofs.Common.{◌≡◌, ◌∙◌, ◌<◌, ℕ, length, sym, ap, subst, inl, IfErr, refl}
+use Rattle.std.proofs.Common.{◌≡◌, ◌∙◌, ◌<◌, ℕ, sym, ap, subst, inl, IfErr}
 use Rattle.std.specs.Prelude.{IsErrOf, Result, Ok, Err, ◌↔◌}
 use Rattle.locked_core.proofs.Sizes.{core_frames}
-use Rattle.locked_core.specs.Held.{UnderLock}
-use Rattle.locked_core.specs.Makers.{IsRefused, Maker}
+use Rattle.locked_core.specs.Makers.{IsRefused}
 use Rattle.locked_core.specs.declared.faults.Fault.{Fault}
-use Rattle.locked_core.specs.declared.faults.Fault.TheVariants as fault
 use Rattle.memory_image.specs.declared.faults.CoreImageFault.{CoreImageFault}
 use Rattle.memory_image.specs.declared.faults.CoreImageFault.TheVariants.{TooManyFrames, NoMemory}
-use Rattle.memory_report.specs.Histories.{Legal, StartsWith, calls_of}
 use Rattle.locked_core.proofs.locked.Locked.snapshot.Goals as goal
 use Rattle.locked_core.proofs.locked.Locked.snapshot.Goals.{in-Ok, in-Err-TooManyFrames, in-Err-NoMemory}
 
