@@ -1,9 +1,11 @@
 -- Images of version 3 in bytes, and the verdict of a check in numbers.
-use Rattle.std.specs.Prelude.{◌≡◌, ◌≢◌, ◌≤◌, ℕ, min, List, Some}
+use Rattle.std.specs.Prelude.{◌≡◌, ◌≢◌, ◌≤◌, ℕ, min, List, length, Some}
 use Rattle.std.specs.Option.{option_map}
 use Rattle.kernel_calls.specs.declared.calls.Reply.{Reply}
 use Rattle.image_restore.specs.Resumed.{RefusesOffer}
+use Rattle.process_table.specs.View.{View}
 use Rattle.wide_image.specs.Faults.{fault_of}
+use Rattle.wide_image.specs.Stored.{IsHeadOf}
 use Rattle.wide_image.specs.Wide.{WideImage, Encodes}
 use Rattle.wide_image.specs.declared.faults.WideImageFault.{WideImageFault}
 use Rattle.wide_image.specs.declared.faults.WideImageFault.TheVariants as fault
@@ -13,6 +15,10 @@ use Rattle.tower_images.specs.declared.verdicts.TowerVerdict.{TowerVerdict}
 -- bytes encode an image of version 3 for which this holds
 abbrev pub EncodesOne : List ℕ → (WideImage → Type 0) → Type 0
 EncodesOne bytes Holds = (image : WideImage) × (Encodes bytes image × Holds image)
+
+-- how many bytes the machine's image begins with, up to the frames' records
+abbrev pub IsHeadLength : View → ℕ → Type 0
+IsHeadLength core count = (head : List ℕ) × IsHeadOf core head × (count ≡ length head)
 
 -- any image
 abbrev pub IsAny : WideImage → Type 0

@@ -14,7 +14,7 @@ ghost use Rattle.process_table.specs.Image.{StandsFor, image_of};
 ghost use Rattle.image_restore.specs.Restored.{HasOldWords, IsRestored};
 ghost use Rattle.image_restore.specs.Resumed.{IsResumed, IsSoundWide};
 ghost use Rattle.wide_image.specs.Stored.{IsHeadOf, frame_record};
-ghost use Rattle.tower_images.specs.Whole.{EncodesOne, FailsWholeFrame, FailsWholeProcess, IsNoWhole, IsRefusal, RefusesWhole};
+ghost use Rattle.tower_images.specs.Whole.{EncodesOne, FailsWholeFrame, FailsWholeProcess, IsHeadLength, IsNoWhole, IsRefusal, RefusesWhole};
 ghost use Rattle.tower_images.specs.Audits.{SpellsOne, FailsProcess, FailsFrame, IsNoImage};
 
 mod checking;
@@ -151,7 +151,7 @@ pub extern "C" fn tower_restore(
 
 /// Writes what the image of the core of version 3 begins with (docs/IMAGES.md) at the start of `bytes`, and its length to
 /// `size`: all before the records of frames, with the offers. Returns 0. Otherwise `bytes` is unchanged. 1: the handle has
-/// no core. 2: memory ran out. 3: `bytes` is too short. At 1 and 2 `size` is unchanged too.
+/// no core. 2: memory ran out. 3: `bytes` is too short for as many as `size` then says. At 1 and 2 `size` is unchanged too.
 #[unsafe(no_mangle)]
 pub extern "C" fn tower_store_front(
     alloc: Global,
@@ -165,6 +165,8 @@ pub extern "C" fn tower_store_front(
     ensures statuses { result ≤ 3 }
     ensures front { result ≡ 0 → IfSome tower.old.hold.core (λ core. IsHeadOf core (take size.new bytes.new)) }
     ensures behind { result ≡ 0 → drop size.new bytes.new ≡ drop size.new bytes.old }
+    ensures size { (result ≡ 0) ⊎ (result ≡ 3) → IfSome tower.old.hold.core (λ core. IsHeadLength core size.new) }
+    ensures fits { result ≡ 0 → size.new ≤ length bytes.old }
     ensures short { result ≡ 3 → length bytes.old < size.new }
     ensures empty { result ≡ 1 ↔ tower.old.live ≡ false }
     ensures unwritten { result ≢ 0 → bytes.new ≡ bytes.old }

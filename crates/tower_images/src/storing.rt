@@ -1,6 +1,7 @@
 //! The image of a core of any size as bytes, with its offers: its beginning, and then frame by frame.
 
 ghost use Rattle.std.specs.Prelude.{◌≡◌, ◌≢◌, ◌↔◌, ◌⊎◌, ◌<◌, ◌≤◌, [], IfSome, length, take, drop};
+ghost use Rattle.tower_images.specs.Whole.{IsHeadLength};
 ghost use Rattle.wide_image.specs.Stored.{IsHeadOf, frame_record};
 
 use crate::image_bytes::copy_to_front;
@@ -27,6 +28,8 @@ pub fn store_head(alloc: Global, core: &Core, bytes: &mut [u8], size: &mut usize
     ensures statuses { (result ≤ 3) × (result ≢ 1) }
     ensures head { result ≡ 0 → IsHeadOf core.now (take size.new bytes.new) }
     ensures behind { result ≡ 0 → drop size.new bytes.new ≡ drop size.new bytes.old }
+    ensures size { (result ≡ 0) ⊎ (result ≡ 3) → IsHeadLength core.now size.new }
+    ensures fits { result ≡ 0 → size.new ≤ length bytes.old }
     ensures short { result ≡ 3 → length bytes.old < size.new }
     ensures unwritten { result ≢ 0 → bytes.new ≡ bytes.old }
     ensures none { result ≡ 2 → size.new ≡ size.old }
