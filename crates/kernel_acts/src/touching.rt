@@ -60,6 +60,7 @@ fn touch_to_read(core: &mut Core, pid: Pid, address: Vaddr) -> (Reply, Ended)
 
 /// Sets accessed and dirty of a page that takes stores as memory is, as the Store of the byte that is there does. No
 /// byte is written. Returns whether the page is such a one; otherwise nothing changes.
+#[inline(always)]
 fn mark_written(core: &mut Core, pid: Pid, address: Vaddr) -> bool
     ensures marked { result ≡ true → Touches core.old (access_of_byte core.old.state pid address access.Write)
         pid address access.Write reply.Done end.Nothing core.new }
@@ -89,6 +90,7 @@ fn store_zero(core: &mut Core, pid: Pid, address: Vaddr) -> (Reply, Ended)
 }
 
 /// The Store of the byte that is there, which sets accessed and dirty of its page.
+#[inline(always)]
 fn touch_to_write(core: &mut Core, pid: Pid, address: Vaddr) -> (Reply, Ended)
     ensures { Touches core.old (access_of_byte core.old.state pid address access.Write) pid address access.Write
         result.0 result.1 core.new }
@@ -100,6 +102,7 @@ fn touch_to_write(core: &mut Core, pid: Pid, address: Vaddr) -> (Reply, Ended)
 }
 
 /// The Load of a byte, or the Store of the byte that is there.
+#[inline(always)]
 fn touch_byte(core: &mut Core, pid: Pid, address: Vaddr, access: Access) -> (Reply, Ended)
     ensures { Touches core.old (access_of_byte core.old.state pid address access) pid address access
         result.0 result.1 core.new }
@@ -117,6 +120,7 @@ fn touch_byte(core: &mut Core, pid: Pid, address: Vaddr, access: Access) -> (Rep
 ///
 /// An address of more than 32 bits is taken as the highest one, which is outside the user range. A refusal or a fault
 /// changes nothing.
+#[inline(always)]
 pub fn touch(core: &mut Core, pid: Pid, address: u64, access: Access) -> (Reply, Ended)
     ensures reply { result.0 ≡ answer core.old.state (touch_of core.old.state pid address access) }
     ensures ended { result.1 ≡ ended_by core.old (touch_of core.old.state pid address access) }
