@@ -4,19 +4,20 @@ ghost use Rattle.std.specs.Prelude.{◌≡◌, ℕ, true, false};
 ghost use Rattle.page_words.specs.Addresses.{IsUserPage, page_number};
 ghost use Rattle.table_walk.specs.declared.Access.TheVariants as access;
 ghost use Rattle.address_space.specs.ByWalk.{finds_at};
-ghost use Rattle.address_space.specs.Spaces.{byte_at, slot_at};
+ghost use Rattle.address_space.specs.Image.{is_lazy_at};
+ghost use Rattle.address_space.specs.Spaces.{at_page, byte_at, slot_at};
 ghost use Rattle.address_space.specs.Stays.{FramesStay};
 ghost use Rattle.process_table.specs.Image.{StandsFor, image_of, memory_of};
 ghost use Rattle.kernel_calls.specs.Gone.{gone_by};
 ghost use Rattle.kernel_calls.specs.Machine.{answer, next, completes};
-ghost use Rattle.kernel_calls.specs.Translations.{ended_by, Ends};
+ghost use Rattle.kernel_calls.specs.Translations.{ended_by, of_call, Ends};
 ghost use Rattle.kernel_calls.specs.declared.calls.Reply.TheVariants as reply;
 ghost use Rattle.kernel_calls.specs.declared.translations.Ended.TheVariants as end;
 ghost use Rattle.kernel_acts.specs.Touched.{near, touch_of, access_of_byte, AreMarked, TakesNoStore, Touches};
 ghost use Rattle.kernel_acts.specs.Transfers.{load_byte, store_byte};
 
 use kernel_calls::{Call, Core, Ended, Event, Reply};
-use page_words::{Pid, Size, Vaddr};
+use page_words::{Page, Pid, Size, Vaddr, in_user_range, page_of};
 use table_walk::Access;
 
 /// The address as one of 32 bits. Any above is the highest one, which is outside the user range.
@@ -73,6 +74,32 @@ fn mark_written(core: &mut Core, pid: Pid, address: Vaddr) -> bool
     marked
 }
 
+/// Whether a page of a process is lazy.
+fn is_lazy(core: &Core, pid: Pid, page: Page) -> bool
+    ensures { result ≡ is_lazy_at (memory_of core.now) (at_page pid page) }
+{
+    core.stands();
+    if !in_user_range(page) {
+        return false;
+    }
+    match core.page(pid, page) {
+        Some(found) => found.lazy,
+        None => false,
+    }
+}
+
+/// What the Store of a byte makes stale if it completes: the translation of its page, if that is lazy.
+fn stale_by_store(core: &Core, pid: Pid, address: Vaddr) -> Ended
+    ensures { result ≡ of_call core.now pid (store_byte pid address 0).call }
+{
+    let page = page_of(address);
+    if is_lazy(core, pid, page) {
+        Ended::Page { pid, page }
+    } else {
+        Ended::Nothing
+    }
+}
+
 /// The Store of the byte that is there, in a page that takes no store as memory is: it has zeros, or the Store doesn't
 /// complete.
 fn store_zero(core: &mut Core, pid: Pid, address: Vaddr) -> (Reply, Ended)
@@ -82,7 +109,7 @@ fn store_zero(core: &mut Core, pid: Pid, address: Vaddr) -> (Reply, Ended)
 {
     core.stands();
     let event = store_of_zero(pid, address);
-    let ended = core.may_end(&event);
+    let ended = stale_by_store(core, pid, address);
     let reply = core.step(&event);
     core.stands();
     let ended = ended.if_completed(&reply);

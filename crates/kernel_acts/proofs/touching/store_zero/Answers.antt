@@ -8,6 +8,7 @@ use Rattle.kernel_calls.specs.declared.translations.Ended.{Ended}
 use Rattle.kernel_calls.specs.declared.translations.Ended.TheVariants as end
 use Rattle.kernel_calls.specs.Machine.{answer, next, completes}
 use Rattle.kernel_calls.specs.Translations.{ended_by, Ends}
+use Rattle.kernel_acts.specs.Transfers.{store_byte}
 use Rattle.kernel_acts.proofs.Touches.{zero_touches}
 use Rattle.kernel_acts.proofs.touching.store_zero.Goals as goal
 
@@ -17,14 +18,14 @@ returns c =
     let w = c.step-reply.new.self in
     let now = c.stands.ensures in
     let later = c.stands-2.ensures in
-    let event = c.store_of_zero-event.result in
     let made = c.step-reply.ensures in
     let is = c.store_of_zero-event.ensures in
-    let ended : c.if_completed-ended.result ≡ ended_by v event =
-    c.if_completed-ended.ensures ∙ ap (λ r. if completes r then c.may_end-ended.result else end.Nothing) made.reply
-    ∙ ap (λ e. if completes (answer v.state event) then e else end.Nothing) c.may_end-ended.ensures in
+    let store = store_byte c.args.pid c.args.address 0 in
+    let ended : c.if_completed-ended.result ≡ ended_by v store =
+    c.if_completed-ended.ensures ∙ ap (λ r. if completes r then c.stale_by_store-ended.result else end.Nothing) (made.reply ∙ ap (answer v.state) is)
+    ∙ ap (λ e. if completes (answer v.state store) then e else end.Nothing) c.stale_by_store-ended.ensures in
     zero_touches v w c.args.pid c.args.address c.step-reply.result c.if_completed-ended.result
     now.core later.core
-    now.zeros c.requires (made.reply ∙ ap (answer v.state) is) (ended ∙ ap (ended_by v) is) (made.state ∙ ap (next v.state) is)
-    (subst (λ (e : Ended). Ends e v w) (sym ended) made.ends)
+    now.zeros c.requires (made.reply ∙ ap (answer v.state) is) ended (made.state ∙ ap (next v.state) is)
+    (subst (λ (e : Ended). Ends e v w) (ap (ended_by v) is ∙ sym ended) made.ends)
     (subst (λ (e : Event). FramesStay (gone_by v.state e) (memory_of v) (memory_of w)) is made.stay) made.kept
