@@ -40,13 +40,19 @@ fn load_of(pid: Pid, addr: Vaddr) -> Event
     Event { cpu: 0, pid, call }
 }
 
-/// The Store of a zero.
-fn store_of_zero(pid: Pid, addr: Vaddr) -> Event
-    ensures { result ≡ store_byte pid addr 0 }
+/// The Store of a zero, which is carried out.
+#[inline(never)]
+fn store_of_zero(core: &mut Core, pid: Pid, addr: Vaddr) -> Reply
+    ensures reply { result ≡ answer core.old.state (store_byte pid addr 0) }
+    ensures state { core.new.state ≡ next core.old.state (store_byte pid addr 0) }
+    ensures ends { Ends (ended_by core.old (store_byte pid addr 0)) core.old core.new }
+    ensures stay { FramesStay (gone_by core.old.state (store_byte pid addr 0))
+        (memory_of core.old) (memory_of core.new) }
+    ensures kept { completes result ≡ false → core.new ≡ core.old }
 {
     let (size, value) = (Size::One, 0);
     let call = Call::Store { addr, size, value };
-    Event { cpu: 0, pid, call }
+    core.step(&Event { cpu: 0, pid, call })
 }
 
 /// The Load of a byte, which sets accessed of its page.
@@ -75,6 +81,7 @@ fn mark_written(core: &mut Core, pid: Pid, address: Vaddr) -> bool
 }
 
 /// Whether a page of a process is lazy.
+#[inline(always)]
 fn is_lazy(core: &Core, pid: Pid, page: Page) -> bool
     ensures { result ≡ is_lazy_at (memory_of core.now) (at_page pid page) }
 {
@@ -89,6 +96,7 @@ fn is_lazy(core: &Core, pid: Pid, page: Page) -> bool
 }
 
 /// What the Store of a byte makes stale if it completes: the translation of its page, if that is lazy.
+#[inline(always)]
 fn stale_by_store(core: &Core, pid: Pid, address: Vaddr) -> Ended
     ensures { result ≡ of_call core.now pid (store_byte pid address 0).call }
 {
@@ -102,15 +110,15 @@ fn stale_by_store(core: &Core, pid: Pid, address: Vaddr) -> Ended
 
 /// The Store of the byte that is there, in a page that takes no store as memory is: it has zeros, or the Store doesn't
 /// complete.
+#[inline(always)]
 fn store_zero(core: &mut Core, pid: Pid, address: Vaddr) -> (Reply, Ended)
     requires { TakesNoStore core.old pid address }
     ensures { Touches core.old (access_of_byte core.old.state pid address access.Write) pid address access.Write
         result.0 result.1 core.new }
 {
     core.stands();
-    let event = store_of_zero(pid, address);
     let ended = stale_by_store(core, pid, address);
-    let reply = core.step(&event);
+    let reply = store_of_zero(core, pid, address);
     core.stands();
     let ended = ended.if_completed(&reply);
     (reply, ended)

@@ -1,12 +1,8 @@
 use Rattle.std.proofs.Common.{◌≡◌, sym, ap, ◌∙◌, subst}
 use Rattle.std.specs.Prelude.{if◌then◌else◌}
-use Rattle.address_space.specs.Stays.{FramesStay}
-use Rattle.process_table.specs.Image.{memory_of}
-use Rattle.kernel_calls.specs.Gone.{gone_by}
-use Rattle.kernel_calls.specs.declared.calls.Event.{Event}
 use Rattle.kernel_calls.specs.declared.translations.Ended.{Ended}
 use Rattle.kernel_calls.specs.declared.translations.Ended.TheVariants as end
-use Rattle.kernel_calls.specs.Machine.{answer, next, completes}
+use Rattle.kernel_calls.specs.Machine.{answer, completes}
 use Rattle.kernel_calls.specs.Translations.{ended_by, Ends}
 use Rattle.kernel_acts.specs.Transfers.{store_byte}
 use Rattle.kernel_acts.proofs.Touches.{zero_touches}
@@ -15,17 +11,14 @@ use Rattle.kernel_acts.proofs.touching.store_zero.Goals as goal
 pub returns : goal.returns
 returns c =
     let v = c.args.core.now in
-    let w = c.step-reply.new.self in
+    let w = c.store_of_zero-reply.new.core in
     let now = c.stands.ensures in
     let later = c.stands-2.ensures in
-    let made = c.step-reply.ensures in
-    let is = c.store_of_zero-event.ensures in
+    let made = c.store_of_zero-reply.ensures in
     let store = store_byte c.args.pid c.args.address 0 in
     let ended : c.if_completed-ended.result ≡ ended_by v store =
-    c.if_completed-ended.ensures ∙ ap (λ r. if completes r then c.stale_by_store-ended.result else end.Nothing) (made.reply ∙ ap (answer v.state) is)
+    c.if_completed-ended.ensures ∙ ap (λ r. if completes r then c.stale_by_store-ended.result else end.Nothing) made.reply
     ∙ ap (λ e. if completes (answer v.state store) then e else end.Nothing) c.stale_by_store-ended.ensures in
-    zero_touches v w c.args.pid c.args.address c.step-reply.result c.if_completed-ended.result
+    zero_touches v w c.args.pid c.args.address c.store_of_zero-reply.result c.if_completed-ended.result
     now.core later.core
-    now.zeros c.requires (made.reply ∙ ap (answer v.state) is) ended (made.state ∙ ap (next v.state) is)
-    (subst (λ (e : Ended). Ends e v w) (ap (ended_by v) is ∙ sym ended) made.ends)
-    (subst (λ (e : Event). FramesStay (gone_by v.state e) (memory_of v) (memory_of w)) is made.stay) made.kept
+    now.zeros c.requires made.reply ended made.state (subst (λ (e : Ended). Ends e v w) (sym ended) made.ends) made.stay made.kept
