@@ -1,7 +1,7 @@
 -- The history of a kernel that is closed, and the CPUs that came back.
-use Rattle.std.proofs.Common.{◌≡◌, ℕ, ◌+◌, ◌<◌, All, List, [], ◌∷◌, ◌++◌, length, length-append, sym, ap, ◌∙◌, subst, arith}
+use Rattle.std.proofs.Common.{◌≡◌, ℕ, ◌+◌, All, List, [], ◌∷◌, ◌++◌, length, length-append, sym, ap, ◌∙◌, subst, arith}
 use Rattle.std.proofs.Math.ListN.{get_or}
-use Rattle.std.proofs.lemmas.List.Elements.{All-nil, All-push, All-weaker}
+use Rattle.std.proofs.lemmas.List.Elements.{All-push, All-weaker}
 use Rattle.std.proofs.lemmas.List.Sums.{sum_by_push}
 use Rattle.locked_core.proofs.Counting.{at_counts}
 use Rattle.locked_core.proofs.Moments.{entries_long}
@@ -26,17 +26,7 @@ module _ (frames : ℕ) (opening : View) (count : ℕ) (log : List LogEntry) (mo
   own : (c : Maker) → IsTallied tally c → calls_of c.number (entries_in moments) ≡ calls_of c.number c.seen
   own c t = ap (calls_of c.number) told ∙ (sym (at_counts log c.number t.0) ∙ (ap (λ counts. get_or counts c.number 0) (sym at) ∙ t.1))
 
-  -- none came back
-  pub history_of_none : (cpus : List Maker) → cpus ≡ [] → 0 < count → IsHistory frames opening count cpus moments
-  history_of_none cpus none some = record {
-    legal = subst (Legal frames) (sym told) legal;
-    follows = follows;
-    one = subst (All (IsOfOne moments)) (sym none) (All-nil (IsOfOne moments));
-    own = subst (All (λ (c : Maker). calls_of c.number (entries_in moments) ≡ calls_of c.number c.seen)) (sym none) (All-nil (λ (c : Maker). calls_of c.number (entries_in moments) ≡ calls_of c.number c.seen));
-    all = λ same. absurd (let l = ap length none in omega arith);
-  }
-
-  -- or some, whose shares were merged
+  -- some came back, whose shares were merged
   pub history_of : (cpus others : List Maker) (first : Maker) (parts amount : ℕ) → cpus ≡ others ++ first ∷ []
       → IsOfOne moments first × All (λ c. IsOfOne moments c) others → IsTallied tally first × All (λ c. IsTallied tally c) others
       → parts ≡ length others + 1 → amount ≡ calls_of_all others + calls_of first.number first.seen → (parts ≡ count → amount ≡ length log)
