@@ -8,7 +8,7 @@
 use command_answers::{answer_of_words, status_of, tell, words};
 use std::io;
 use std::process::ExitCode;
-use tower_jobs::answer;
+use tower_jobs::{Asks, answer};
 
 fn main(rt: HostRuntime) -> ExitCode {
     let answer = match words(&rt) {
@@ -17,6 +17,7 @@ fn main(rt: HostRuntime) -> ExitCode {
             words.as_slice(),
             &mut rt.reader(),
             &mut io::writer(&rt),
+            &mut Asks,
         ),
         Err(fault) => answer_of_words(fault),
     };

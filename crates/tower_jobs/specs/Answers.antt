@@ -1,10 +1,11 @@
 -- The answer to a command line, and what was read and written for each answer.
---     DoesJob asked answer ..      what a job with that answer read and wrote
---     AnswersWords words answer ..      what a command line with that answer read and wrote
-use Rattle.std.specs.Prelude.{◌≡◌, ◌≢◌, ◌⊎◌, ℕ, Bool, List, true, false, Option, Some, None, IfSome}
+--     DoesJob named raced asked answer ..      what a job with that answer read and wrote, by what says which files and rounds they were
+--     AnswersWords named raced words answer ..      what a command line with that answer read and wrote
+use Rattle.std.specs.Prelude.{◌≡◌, ◌≢◌, ◌≤◌, ◌↔◌, ◌⊎◌, ℕ, Bool, List, [], true, false, Option, Some, None, IfSome}
 use Rattle.std.specs.Io.KnownBytes.{Appends, Keeps}
-use Rattle.clap.specs.Words.{HasKind, fault_of as clap_faults, subcommand_of}
+use Rattle.clap.specs.Words.{HasKind, Text, fault_of as clap_faults, subcommand_of}
 use Rattle.clap.specs.declared.error.Error.{Error}
+use Rattle.memory_report.specs.declared.rows.Row.{Row}
 use Rattle.process_table.specs.State.{State, open_with}
 use Rattle.process_table.specs.View.{View}
 use Rattle.script_run.specs.Progress.{EndsBy}
@@ -13,7 +14,7 @@ use Rattle.script_run.specs.declared.faults.ScriptFault.{ScriptFault}
 use Rattle.script_run.specs.declared.faults.ScriptFault.TheVariants as script
 use Rattle.command_answers.specs.Answers.{Refuses}
 use Rattle.command_answers.specs.Faults.{IsFileFault, tool_of_script}
-use Rattle.command_answers.specs.Files.{IsContent, IsRead, SaysWhole}
+use Rattle.command_answers.specs.Files.{Content, IsContent, IsRead, SaysWhole}
 use Rattle.command_answers.specs.declared.answers.Answer.{Answer}
 use Rattle.command_answers.specs.declared.answers.Answer.TheVariants.{Done, NotSound, Failed, NotText, Refused}
 use Rattle.command_answers.specs.declared.faults.ToolFault.{ToolFault}
@@ -79,6 +80,12 @@ ChecksFile answer file held holds =
     ((answer ≡ Failed tool.ReadFailed) × Keeps held holds)
     ⊎ ((content : Option (List ℕ)) × (whole : Bool) × IsContent file content × SaysWhole whole content × ChecksAs whole answer content held holds)
 
+-- a named file was checked so; or it was not opened
+abbrev pub ChecksNamed : Content → Answer → Option (List ℕ) → Option (List ℕ) → Type 0
+ChecksNamed named answer held holds =
+    ((answer ≡ Failed tool.ReadFailed) × Keeps held holds)
+    ⊎ ((file : Option (List ℕ)) × named file × ChecksFile answer file held holds)
+
 -- a file's bytes encode an image of version 3 of which this core was made, with its offers; or what was read of it
 -- encodes one of version 2 of which it was made
 abbrev pub HasCoreAs : Bool → Option (List ℕ) → View → Type 0
@@ -107,6 +114,14 @@ abbrev pub HasNoCore : Option (List ℕ) → Answer → Type 0
 HasNoCore file answer =
     (answer ≡ Failed tool.ReadFailed)
     ⊎ ((content : Option (List ℕ)) × (whole : Bool) × IsContent file content × SaysWhole whole content × LacksAs whole content answer)
+
+-- the core of the image that a named file has
+abbrev pub HasNamedCore : Content → Bool → View → Type 0
+HasNamedCore named whole core = (file : Option (List ℕ)) × named file × HasCore whole file core
+
+-- why there is none: the file was not opened, or it has none
+abbrev pub LacksNamedCore : Content → Answer → Type 0
+LacksNamedCore named answer = (answer ≡ Failed tool.ReadFailed) ⊎ ((file : Option (List ℕ)) × named file × HasNoCore file answer)
 
 -- ---- Scripts that resume
 
@@ -142,36 +157,46 @@ ImagesAs false begun answer remained remains held holds = ImagesResumed begun an
 
 -- No core came of the file, and nothing was read of the script or written. Or a core came of it, from whose state the
 -- script ran.
-abbrev pub ResumesFile : Answer → Option (List ℕ) → Option (List ℕ) → Option (List ℕ) → Option (List ℕ) → Option (List ℕ) → Type 0
-ResumesFile answer file remained remains held holds = (HasNoCore file answer × Keeps remained remains × Keeps held holds) ⊎ ((core : View) × (whole : Bool) × HasCore whole file core × ResumesScript core.state answer remained remains held holds)
+abbrev pub ResumesFile : Content → Answer → Option (List ℕ) → Option (List ℕ) → Option (List ℕ) → Option (List ℕ) → Type 0
+ResumesFile named answer remained remains held holds = (LacksNamedCore named answer × Keeps remained remains × Keeps held holds) ⊎ ((core : View) × (whole : Bool) × HasNamedCore named whole core × ResumesScript core.state answer remained remains held holds)
 
 -- No core came of the file, as above. Or a core came of it, and the script ran for an image of the file's version.
-abbrev pub ImagesFile : Answer → Option (List ℕ) → Option (List ℕ) → Option (List ℕ) → Option (List ℕ) → Option (List ℕ) → Type 0
-ImagesFile answer file remained remains held holds = (HasNoCore file answer × Keeps remained remains × Keeps held holds) ⊎ ((core : View) × (whole : Bool) × HasCore whole file core × ImagesAs whole core.state answer remained remains held holds)
+abbrev pub ImagesFile : Content → Answer → Option (List ℕ) → Option (List ℕ) → Option (List ℕ) → Option (List ℕ) → Type 0
+ImagesFile named answer remained remains held holds = (LacksNamedCore named answer × Keeps remained remains × Keeps held holds) ⊎ ((core : View) × (whole : Bool) × HasNamedCore named whole core × ImagesAs whole core.state answer remained remains held holds)
+
+-- ---- Races and whole jobs
+
+-- what says of so many frames that so many rounds were played, with these rows of the last
+abbrev pub Rounds : Type 1
+Rounds = ℕ → ℕ → List (Option Row) → Type 0
 
 -- all rounds were played and their text written, or the race ended by the fault
-abbrev pub PlaysRace : ℕ → ℕ → Answer → Option (List ℕ) → Option (List ℕ) → Type 0
-PlaysRace frames rounds Done held holds = Writes frames rounds held holds
-PlaysRace frames rounds (Failed fault) held holds = EndsRace frames rounds fault held holds
-PlaysRace frames rounds NotSound held holds = ⊥
-PlaysRace frames rounds NotText held holds = ⊥
-PlaysRace frames rounds (Refused error) held holds = ⊥
+abbrev pub PlaysRace : Rounds → ℕ → ℕ → Answer → Option (List ℕ) → Option (List ℕ) → Type 0
+PlaysRace raced frames rounds Done held holds = Writes (raced frames rounds) rounds held holds
+PlaysRace raced frames rounds (Failed fault) held holds = EndsRace (raced frames rounds) rounds fault held holds
+PlaysRace raced frames rounds NotSound held holds = ⊥
+PlaysRace raced frames rounds NotText held holds = ⊥
+PlaysRace raced frames rounds (Refused error) held holds = ⊥
 
--- what standard input had left and has left, and what standard output held and holds; what a named file has is not said
-abbrev pub DoesJob : Asked → Answer → Option (List ℕ) → Option (List ℕ) → Option (List ℕ) → Option (List ℕ) → Type 0
-DoesJob (a_run frames) answer remained remains held holds = RunsScript frames answer remained remains held holds
-DoesJob (an_image frames) answer remained remains held holds = ImagesScript frames answer remained remains held holds
-DoesJob (a_whole frames) answer remained remains held holds = StoresScript frames answer remained remains held holds
-DoesJob (a_check file) answer remained remains held holds = ChecksFile answer None held holds
-DoesJob (a_resume file) answer remained remains held holds = ResumesFile answer None remained remains held holds
-DoesJob (a_resumed_image file) answer remained remains held holds = ImagesFile answer None remained remains held holds
-DoesJob (a_race frames rounds) answer remained remains held holds = PlaysRace frames rounds answer held holds
+-- the answer is this fault exactly if there are not 16 to so many frames
+abbrev pub RefusesSize : ToolFault → ℕ → ℕ → Answer → Type 0
+RefusesSize fault most frames answer = (answer ≡ Failed fault) ↔ (16 ≤ frames → frames ≤ most → ⊥)
+
+-- what standard input had left and has left, and what standard output held and holds; and of a named file its content
+abbrev pub DoesJob : (Text → Content) → Rounds → Asked → Answer → Option (List ℕ) → Option (List ℕ) → Option (List ℕ) → Option (List ℕ) → Type 0
+DoesJob named raced (a_run frames) answer remained remains held holds = RefusesSize tool.BadSize 4096 frames answer × RunsScript frames answer remained remains held holds
+DoesJob named raced (an_image frames) answer remained remains held holds = RefusesSize tool.BadSize 4096 frames answer × ImagesScript frames answer remained remains held holds
+DoesJob named raced (a_whole frames) answer remained remains held holds = RefusesSize tool.BadWideSize 1048576 frames answer × StoresScript frames answer remained remains held holds
+DoesJob named raced (a_check file) answer remained remains held holds = Keeps remained remains × ChecksNamed (named file) answer held holds
+DoesJob named raced (a_resume file) answer remained remains held holds = ResumesFile (named file) answer remained remains held holds
+DoesJob named raced (a_resumed_image file) answer remained remains held holds = ImagesFile (named file) answer remained remains held holds
+DoesJob named raced (a_race frames rounds) answer remained remains held holds = RefusesSize tool.BadSize 4096 frames answer × Keeps remained remains × PlaysRace raced frames rounds answer held holds
 
 -- ---- Command lines
 
--- the job that the arguments request was done; or `clap` refuses them, or there was no memory for them, and nothing was
--- written
-abbrev pub AnswersWords : List (List ℕ) → Answer → Option (List ℕ) → Option (List ℕ) → Option (List ℕ) → Option (List ℕ) → Type 0
-AnswersWords words answer remained remains held holds =
-    ((asked : Asked) × (job_asked (subcommand_of tower_app words) ≡ Some asked) × DoesJob asked answer remained remains held holds)
-    ⊎ ((error : Error) × HasKind (clap_faults tower_app words) error × Refuses error answer × Keeps held holds)
+-- `clap` takes the arguments, and the job that they request was done; or it refuses them, or there was no memory for them,
+-- and nothing was read or written
+abbrev pub AnswersWords : (Text → Content) → Rounds → List (List ℕ) → Answer → Option (List ℕ) → Option (List ℕ) → Option (List ℕ) → Option (List ℕ) → Type 0
+AnswersWords named raced words answer remained remains held holds =
+    ((clap_faults tower_app words ≡ []) × (asked : Asked) × (job_asked (subcommand_of tower_app words) ≡ Some asked) × DoesJob named raced asked answer remained remains held holds)
+    ⊎ ((error : Error) × HasKind (clap_faults tower_app words) error × Refuses error answer × Keeps remained remains × Keeps held holds)

@@ -1,9 +1,8 @@
 -- Races: what is written of all rounds.
---     Raced      that so many rounds were played
+--     Raced      that so many rounds were played with a referee
 --     race_text rounds rows      the text of so many rounds, with the report of the last one
---     WritesAnswers      the text of the answer to a referee's last question to a monitor
 --     EndsRace      what a race that ended by a fault wrote
-use Rattle.std.specs.Prelude.{◌≡◌, ℕ, ◌+◌, List, [], ◌∷◌, ◌++◌, length, All, Option, codes, decimal}
+use Rattle.std.specs.Prelude.{ℕ, List, [], ◌∷◌, ◌++◌, Option, codes, decimal}
 use Rattle.std.specs.Io.KnownBytes.{Appends, Keeps}
 use Rattle.guest_race.specs.Asked.{Times}
 use Rattle.guest_race.specs.Rounds.{IsReported}
@@ -15,12 +14,13 @@ use Rattle.text_output.specs.Output.{AppendsFront}
 use Rattle.command_answers.specs.declared.faults.ToolFault.{ToolFault}
 use Rattle.command_answers.specs.declared.faults.ToolFault.TheVariants as tool
 
--- So many rounds were played, each on a kernel of its own, and the report is that of the last one.
-pub record Raced (frames rounds : ℕ) (rows : List (Option Row)) : Type 0 where
-  pub earlier : List (List (Option Row))
-  pub count : length earlier + 1 ≡ rounds
-  pub each : All (IsReported frames) earlier
-  pub last : IsReported frames rows
+-- a round with a referee, on a kernel of its own of so many frames, and its rows
+abbrev pub IsRoundBy : {S : Type 0} → (S → List (Option Row) → S → Type 0) → ℕ → S → List (Option Row) → S → Type 0
+IsRoundBy asks frames before rows after = asks before rows after × IsReported frames rows
+
+-- so many rounds in sequence with a referee, each such a round, and the rows of the last
+abbrev pub Raced : {S : Type 0} → (S → List (Option Row) → S → Type 0) → S → S → ℕ → ℕ → List (Option Row) → Type 0
+Raced asks before after frames rounds rows = Times (IsRoundBy asks frames) rounds before rows after
 
 -- ---- Texts
 
@@ -36,13 +36,9 @@ race_heading rounds = line (codes "rounds " ++ decimal rounds) ++ (line (codes "
 unfoldable pub race_text : ℕ → List (Option Row) → List ℕ
 race_text rounds rows = race_heading rounds ++ report_text rows
 
--- so many rounds were played, and then their text was written
-abbrev pub Writes : ℕ → ℕ → Option (List ℕ) → Option (List ℕ) → Type 0
-Writes frames rounds held holds = (rows : List (Option Row)) × Raced frames rounds rows × Appends held holds (race_text rounds rows)
-
--- after that many rounds with this referee, the text of the last round's rows was written
-abbrev pub WritesAnswers : {S : Type 0} → (S → List (Option Row) → S → Type 0) → ℕ → S → S → Option (List ℕ) → Option (List ℕ) → Type 0
-WritesAnswers asks rounds before after held holds = (rows : List (Option Row)) × Times asks rounds before rows after × Appends held holds (race_text rounds rows)
+-- a race was played with these last rows, and then its text was written
+abbrev pub Writes : (List (Option Row) → Type 0) → ℕ → Option (List ℕ) → Option (List ℕ) → Type 0
+Writes raced rounds held holds = (rows : List (Option Row)) × raced rows × Appends held holds (race_text rounds rows)
 
 -- what ends a round early ends the race
 abbrev pub fault_of_round : RoundFault → ToolFault
@@ -51,17 +47,17 @@ fault_of_round round.Turns = tool.RaceTurns
 fault_of_round round.Failed = tool.RaceFailed
 
 -- What a race that ended by this fault wrote: nothing, unless a write failed, before which all rounds were played.
-abbrev pub EndsRace : ℕ → ℕ → ToolFault → Option (List ℕ) → Option (List ℕ) → Type 0
-EndsRace frames rounds tool.WriteFailed held holds = (rows : List (Option Row)) × Raced frames rounds rows × AppendsFront held holds (race_text rounds rows)
-EndsRace frames rounds tool.BadSize held holds = Keeps held holds
-EndsRace frames rounds tool.BadWideSize held holds = ⊥
-EndsRace frames rounds (tool.Malformed line) held holds = ⊥
-EndsRace frames rounds tool.TooLong held holds = ⊥
-EndsRace frames rounds tool.ReadFailed held holds = ⊥
-EndsRace frames rounds tool.NotImage held holds = ⊥
-EndsRace frames rounds tool.BadVersion held holds = ⊥
-EndsRace frames rounds tool.BadLength held holds = ⊥
-EndsRace frames rounds (tool.BadField offset) held holds = ⊥
-EndsRace frames rounds tool.NoMemory held holds = Keeps held holds
-EndsRace frames rounds tool.RaceTurns held holds = Keeps held holds
-EndsRace frames rounds tool.RaceFailed held holds = Keeps held holds
+abbrev pub EndsRace : (List (Option Row) → Type 0) → ℕ → ToolFault → Option (List ℕ) → Option (List ℕ) → Type 0
+EndsRace raced rounds tool.WriteFailed held holds = (rows : List (Option Row)) × raced rows × AppendsFront held holds (race_text rounds rows)
+EndsRace raced rounds tool.BadSize held holds = Keeps held holds
+EndsRace raced rounds tool.BadWideSize held holds = ⊥
+EndsRace raced rounds (tool.Malformed line) held holds = ⊥
+EndsRace raced rounds tool.TooLong held holds = ⊥
+EndsRace raced rounds tool.ReadFailed held holds = ⊥
+EndsRace raced rounds tool.NotImage held holds = ⊥
+EndsRace raced rounds tool.BadVersion held holds = ⊥
+EndsRace raced rounds tool.BadLength held holds = ⊥
+EndsRace raced rounds (tool.BadField offset) held holds = ⊥
+EndsRace raced rounds tool.NoMemory held holds = Keeps held holds
+EndsRace raced rounds tool.RaceTurns held holds = Keeps held holds
+EndsRace raced rounds tool.RaceFailed held holds = Keeps held holds

@@ -1,17 +1,19 @@
 //! The jobs, each with the answer that comes of it.
 
-ghost use Rattle.std.specs.Prelude.{◌≡◌, ◌≤◌, true, false, None, IfOk, IfErr, map};
-ghost use Rattle.tower_jobs.specs.Answers.{AnswersWords, ChecksFile, ChecksPlain, ChecksStored, DoesJob, HasCore, HasCoreAs, HasNoCore, ImagesAs, ImagesFile, ImagesResumed, ImagesScript, ImagesWhole, LacksAs, PlaysRace, ResumesFile, ResumesScript, RunsScript, StoresScript};
+ghost use Rattle.std.specs.Prelude.{◌≡◌, ◌≤◌, true, false, IfOk, IfErr, map};
+ghost use Rattle.command_answers.specs.Files.{IsOf};
+ghost use Rattle.guest_race.specs.Asked.{IsAsked};
+ghost use Rattle.tower_jobs.specs.Answers.{AnswersWords, ChecksFile, ChecksNamed, ChecksPlain, ChecksStored, DoesJob, HasCore, HasCoreAs, HasNamedCore, HasNoCore, ImagesAs, ImagesFile, ImagesResumed, ImagesScript, ImagesWhole, LacksAs, LacksNamedCore, PlaysRace, RefusesSize, ResumesFile, ResumesScript, RunsScript, StoresScript};
+ghost use Rattle.tower_jobs.specs.Races.{Raced};
 ghost use Rattle.tower_cli.specs.Jobs.{HasRounds, as_asked};
 
 use crate::races::race;
-use command_answers::{Answer, ToolFault, bytes_of, front_of, refuse, says_whole};
+use command_answers::{Answer, Opens, ToolFault, bytes_of, front_of, refuse, says_whole};
+use guest_race::Referee;
 use kernel_calls::Core;
 use script_run::{resume_script, run_script};
 use std::alloc::Global;
 use std::convert::AsStr;
-use std::fs;
-use std::fs::Files;
 use std::io::{Read, Write};
 use std::sync::Wait;
 use std::thread::Threads;
@@ -27,7 +29,8 @@ fn run_replies<I: Read, O: Write>(
     output: &mut O,
     frames: u32,
 ) -> Answer
-    ensures { RunsScript frames result (I.remaining input.old) (I.remaining input.new) (O.contents output.old)
+    ensures size { RefusesSize ToolFault.BadSize 4096 frames result }
+    ensures runs { RunsScript frames result (I.remaining input.old) (I.remaining input.new) (O.contents output.old)
         (O.contents output.new) }
 {
     match run_script(alloc, input, output, frames) {
@@ -43,8 +46,9 @@ fn write_image_of<I: Read, O: Write>(
     output: &mut O,
     frames: u32,
 ) -> Answer
-    ensures { ImagesScript frames result (I.remaining input.old) (I.remaining input.new) (O.contents output.old)
-        (O.contents output.new) }
+    ensures size { RefusesSize ToolFault.BadSize 4096 frames result }
+    ensures images { ImagesScript frames result (I.remaining input.old) (I.remaining input.new)
+        (O.contents output.old) (O.contents output.new) }
 {
     match write_script_image(alloc, input, output, frames) {
         Ok(()) => Answer::Done,
@@ -59,8 +63,9 @@ fn write_whole_of<I: Read, O: Write>(
     output: &mut O,
     frames: u32,
 ) -> Answer
-    ensures { StoresScript frames result (I.remaining input.old) (I.remaining input.new) (O.contents output.old)
-        (O.contents output.new) }
+    ensures size { RefusesSize ToolFault.BadWideSize 1048576 frames result }
+    ensures stores { StoresScript frames result (I.remaining input.old) (I.remaining input.new)
+        (O.contents output.old) (O.contents output.new) }
 {
     match write_script_whole(alloc, input, output, frames) {
         Ok(()) => Answer::Done,
@@ -113,10 +118,11 @@ fn check_file<F: Read + Drop, O: Write>(alloc: Global, file: F, output: &mut O) 
 }
 
 /// Checks the image in the file of that name; ReadFailed where it can't be opened.
-fn check_named<R: AllocGlobal + Files, O: Write>(rt: &R, name: &str, output: &mut O) -> Answer
-    ensures { ChecksFile result None (O.contents output.old) (O.contents output.new) }
+fn check_named<R: AllocGlobal + Opens, O: Write>(rt: &R, name: &str, output: &mut O) -> Answer
+    ensures { ChecksNamed (IsOf R.Opened.remaining R.named name.now) result (O.contents output.old)
+        (O.contents output.new) }
 {
-    match fs::open(rt, name) {
+    match rt.open_named(name) {
         Ok(file) => check_file(rt.alloc(), file, output),
         Err(_) => Answer::Failed(ToolFault::ReadFailed),
     }
@@ -180,11 +186,12 @@ fn core_in<F: Read + Drop>(alloc: Global, file: F) -> Result<Resumed, Answer>
 }
 
 /// The core of the image in the file of that name; ReadFailed where it can't be opened.
-fn core_named<R: AllocGlobal + Files>(rt: &R, name: &str) -> Result<Resumed, Answer>
-    ensures core { IfOk result (λ resumed. HasCore resumed.whole None resumed.core) }
-    ensures none { IfErr result (HasNoCore None) }
+fn core_named<R: AllocGlobal + Opens>(rt: &R, name: &str) -> Result<Resumed, Answer>
+    ensures core { IfOk result (λ resumed. HasNamedCore (IsOf R.Opened.remaining R.named name.now) resumed.whole
+        resumed.core) }
+    ensures none { IfErr result (LacksNamedCore (IsOf R.Opened.remaining R.named name.now)) }
 {
-    match fs::open(rt, name) {
+    match rt.open_named(name) {
         Ok(file) => core_in(rt.alloc(), file),
         Err(_) => Err(Answer::Failed(ToolFault::ReadFailed)),
     }
@@ -256,14 +263,14 @@ fn resume_image<I: Read, O: Write>(
 }
 
 /// Runs a script on the machine of the image in the file of that name, and writes its replies.
-fn resume_named<R: AllocGlobal + Files, I: Read, O: Write>(
+fn resume_named<R: AllocGlobal + Opens, I: Read, O: Write>(
     rt: &R,
     name: &str,
     input: &mut I,
     output: &mut O,
 ) -> Answer
-    ensures { ResumesFile result None (I.remaining input.old) (I.remaining input.new) (O.contents output.old)
-        (O.contents output.new) }
+    ensures { ResumesFile (IsOf R.Opened.remaining R.named name.now) result (I.remaining input.old)
+        (I.remaining input.new) (O.contents output.old) (O.contents output.new) }
 {
     match core_named(rt, name) {
         Ok(resumed) => resume_replies(rt.alloc(), resumed.core, input, output),
@@ -272,14 +279,14 @@ fn resume_named<R: AllocGlobal + Files, I: Read, O: Write>(
 }
 
 /// Runs a script on such a machine, and writes the image of the machine that it leaves, of the file's version.
-fn image_named<R: AllocGlobal + Files, I: Read, O: Write>(
+fn image_named<R: AllocGlobal + Opens, I: Read, O: Write>(
     rt: &R,
     name: &str,
     input: &mut I,
     output: &mut O,
 ) -> Answer
-    ensures { ImagesFile result None (I.remaining input.old) (I.remaining input.new) (O.contents output.old)
-        (O.contents output.new) }
+    ensures { ImagesFile (IsOf R.Opened.remaining R.named name.now) result (I.remaining input.old)
+        (I.remaining input.new) (O.contents output.old) (O.contents output.new) }
 {
     match core_named(rt, name) {
         Ok(resumed) => resume_image(rt.alloc(), resumed, input, output),
@@ -287,33 +294,38 @@ fn image_named<R: AllocGlobal + Files, I: Read, O: Write>(
     }
 }
 
-/// Plays so many rounds of a race, at least one, and writes what is said of them. It may wait.
-fn play_race<R: AllocGlobal + Threads + Wait + Sync, O: Write>(
+/// Plays so many rounds of a race with a referee, at least one, and writes what is said of them. It may wait.
+fn play_race<R: AllocGlobal + Threads + Wait + Sync, O: Write, F: Referee>(
     rt: &R,
     output: &mut O,
     frames: u32,
     rounds: u32,
+    referee: &mut F,
 ) -> Answer
     requires { 1 ≤ rounds }
-    ensures { PlaysRace frames rounds result (O.contents output.old) (O.contents output.new) }
+    ensures size { RefusesSize ToolFault.BadSize 4096 frames result }
+    ensures plays { PlaysRace (Raced (IsAsked F.reported F.judged) referee.old referee.new) frames rounds result
+        (O.contents output.old) (O.contents output.new) }
 {
-    match race(rt, rt.alloc(), output, frames, rounds) {
+    match race(rt, rt.alloc(), output, frames, rounds, referee) {
         Ok(()) => Answer::Done,
         Err(fault) => Answer::Failed(fault),
     }
 }
 
-/// Does a job: a script is read from `input`, and what the job gives is written to `output`. A race may
-/// wait.
-fn answer_job<R: AllocGlobal + Files + Threads + Wait + Sync, I: Read, O: Write>(
+/// Does a job: a script is read from `input`, and what the job gives is written to `output`. A race is played with
+/// the referee, and may wait.
+fn answer_job<R: AllocGlobal + Opens + Threads + Wait + Sync, I: Read, O: Write, F: Referee>(
     rt: &R,
     job: Job<'_>,
     input: &mut I,
     output: &mut O,
+    referee: &mut F,
 ) -> Answer
     requires { HasRounds job }
-    ensures { DoesJob (as_asked job.entry) result (I.remaining input.old) (I.remaining input.new)
-        (O.contents output.old) (O.contents output.new) }
+    ensures { DoesJob (IsOf R.Opened.remaining R.named) (Raced (IsAsked F.reported F.judged) referee.old referee.new)
+        (as_asked job.entry) result (I.remaining input.old) (I.remaining input.new) (O.contents output.old)
+        (O.contents output.new) }
 {
     match job {
         Job::Run { frames } => run_replies(rt.alloc(), input, output, frames),
@@ -322,22 +334,26 @@ fn answer_job<R: AllocGlobal + Files + Threads + Wait + Sync, I: Read, O: Write>
         Job::Check { file } => check_named(rt, file, output),
         Job::Resume { file } => resume_named(rt, file, input, output),
         Job::ResumeImage { file } => image_named(rt, file, input, output),
-        Job::Race { frames, rounds } => play_race(rt, output, frames, rounds),
+        Job::Race { frames, rounds } => play_race(rt, output, frames, rounds, referee),
     }
 }
 
-/// Does what the arguments request, of which the first is the program's name. A race may wait.
-pub fn answer<R: AllocGlobal + Files + Threads + Wait + Sync, S: AsStr, I: Read, O: Write>(
-    rt: &R,
-    words: &[S],
-    input: &mut I,
-    output: &mut O,
-) -> Answer
-    ensures { AnswersWords (map S.text words.now) result (I.remaining input.old) (I.remaining input.new)
-        (O.contents output.old) (O.contents output.new) }
+/// Does what the arguments request, of which the first is the program's name. Only a run of a script reads `input`. A
+/// race is played with the referee, which asks in each round, and may wait. A check or a resume opens the file that is
+/// named.
+pub fn answer<
+    R: AllocGlobal + Opens + Threads + Wait + Sync,
+    S: AsStr,
+    I: Read,
+    O: Write,
+    F: Referee,
+>(rt: &R, words: &[S], input: &mut I, output: &mut O, referee: &mut F) -> Answer
+    ensures { AnswersWords (IsOf R.Opened.remaining R.named)
+        (Raced (IsAsked F.reported F.judged) referee.old referee.new) (map S.text words.now) result
+        (I.remaining input.old) (I.remaining input.new) (O.contents output.old) (O.contents output.new) }
 {
     match job_of(rt.alloc(), words) {
-        Ok(job) => answer_job(rt, job, input, output),
+        Ok(job) => answer_job(rt, job, input, output, referee),
         Err(error) => refuse(error),
     }
 }

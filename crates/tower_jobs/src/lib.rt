@@ -8,4 +8,4 @@ mod races;
 
 pub use commands::answer;
 pub use guest_race::{Asks, Referee};
-pub use races::{race, race_by};
+pub use races::race;

@@ -2,13 +2,13 @@
 
 ghost use Rattle.std.specs.Prelude.{◌≡◌, ◌≤◌, ◌↔◌, IfOk, IfErr, IsErrOf, OnOk, OnErr};
 ghost use Rattle.std.specs.Io.KnownBytes.{Appends};
-ghost use Rattle.guest_race.specs.Asked.{IsAsked, Times};
-ghost use Rattle.tower_jobs.specs.Races.{Raced, Writes, WritesAnswers, EndsRace, fault_of_round, race_heading, race_text};
+ghost use Rattle.guest_race.specs.Asked.{IsAsked};
+ghost use Rattle.tower_jobs.specs.Races.{Raced, Writes, EndsRace, fault_of_round, race_heading, race_text};
 ghost use Rattle.text_output.specs.Output.{AppendsFront};
 
 use arrayvec::ArrayVec;
 use command_answers::ToolFault;
-use guest_race::{Asks, Referee, RoundFault, round_by};
+use guest_race::{Referee, RoundFault, round_by};
 use memory_report::Report;
 use page_words::is_frame_count;
 use std::alloc::Global;
@@ -40,8 +40,7 @@ fn play<R: Threads + Wait + Sync, F: Referee>(
     referee: &mut F,
 ) -> Result<Report, RoundFault>
     requires { 1 ≤ rounds }
-    ensures raced { IfOk result (Raced frames rounds) }
-    ensures asked { IfOk result (λ rows. Times (IsAsked F.reported F.judged) rounds referee.old rows referee.new) }
+    ensures { IfOk result (Raced (IsAsked F.reported F.judged) referee.old referee.new frames rounds) }
 {
     let mut report = round_by(rt, alloc, frames, referee)?;
     for played in 1..rounds {
@@ -81,7 +80,7 @@ fn write_race<W: Write>(writer: &mut W, rounds: u32, report: &Report) -> Result<
 /// race: `NoMemory` where memory runs out, else `RaceTurns` where a guest ran out of turns, else
 /// `RaceFailed`. Nothing is written before all rounds are done. `WriteFailed` comes last, and what was
 /// written is then a front of the text.
-pub fn race_by<R: Threads + Wait + Sync, W: Write, F: Referee>(
+pub fn race<R: Threads + Wait + Sync, W: Write, F: Referee>(
     rt: &R,
     alloc: Global,
     writer: &mut W,
@@ -91,10 +90,10 @@ pub fn race_by<R: Threads + Wait + Sync, W: Write, F: Referee>(
 ) -> Result<(), ToolFault>
     requires { 1 ≤ rounds }
     ensures size { IsErrOf result ToolFault.BadSize ↔ (16 ≤ frames → frames ≤ 4096 → ⊥) }
-    ensures text { OnOk result (Writes frames rounds (W.contents writer.old) (W.contents writer.new)) }
-    ensures fault { IfErr result (λ fault. EndsRace frames rounds fault (W.contents writer.old)
-        (W.contents writer.new)) }
-    ensures asked { OnOk result (WritesAnswers (IsAsked F.reported F.judged) rounds referee.old referee.new
+    ensures text { OnOk result (Writes (Raced (IsAsked F.reported F.judged) referee.old referee.new frames rounds)
+        rounds (W.contents writer.old) (W.contents writer.new)) }
+    ensures fault { IfErr result (λ fault. EndsRace
+        (Raced (IsAsked F.reported F.judged) referee.old referee.new frames rounds) rounds fault
         (W.contents writer.old) (W.contents writer.new)) }
 {
     if !is_frame_count(frames) {
@@ -106,21 +105,4 @@ pub fn race_by<R: Threads + Wait + Sync, W: Write, F: Referee>(
     };
     write_race(writer, rounds, &report)?;
     Ok(())
-}
-
-/// A race as `race_by` plays it, with a referee that keeps nothing.
-pub fn race<R: Threads + Wait + Sync, W: Write>(
-    rt: &R,
-    alloc: Global,
-    writer: &mut W,
-    frames: u32,
-    rounds: u32,
-) -> Result<(), ToolFault>
-    requires { 1 ≤ rounds }
-    ensures size { IsErrOf result ToolFault.BadSize ↔ (16 ≤ frames → frames ≤ 4096 → ⊥) }
-    ensures text { OnOk result (Writes frames rounds (W.contents writer.old) (W.contents writer.new)) }
-    ensures fault { IfErr result (λ fault. EndsRace frames rounds fault (W.contents writer.old)
-        (W.contents writer.new)) }
-{
-    race_by(rt, alloc, writer, frames, rounds, &mut Asks)
 }

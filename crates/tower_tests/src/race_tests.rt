@@ -8,7 +8,7 @@ use command_answers::ToolFault;
 use std::process::Abort;
 use std::sync::Wait;
 use std::thread::Threads;
-use tower_jobs::race;
+use tower_jobs::{Asks, race};
 
 const THREE_ROUNDS: &[u8] =
     b"rounds 3\nhistory legal\nreport equal\nverdict sound\nprocess 0 parent 0 quota 15 used 3 given 5\nprocess 1 parent 0 quota 5 used 3 given 0\ntotal 6\n";
@@ -25,7 +25,7 @@ fn raced<R: AllocGlobal + Threads + Wait + Sync>(
     requires { 1 ≤ rounds }
 {
     let mut written = Vec::new(rt.alloc());
-    let ended = race(rt, rt.alloc(), &mut written, frames, rounds);
+    let ended = race(rt, rt.alloc(), &mut written, frames, rounds, &mut Asks);
     (ended, written)
 }
 
@@ -74,7 +74,7 @@ fn cut_short<R: AllocGlobal + Threads + Wait + Sync>(
     left: usize,
 ) -> (Option<ToolFault>, bool) {
     let mut writer = FullWriter::new(left);
-    let ended = race(rt, rt.alloc(), &mut writer, 16, 3).err();
+    let ended = race(rt, rt.alloc(), &mut writer, 16, 3, &mut Asks).err();
     let front = THREE_ROUNDS.get(..left);
     (ended, Some(writer.written.as_slice()) == front)
 }

@@ -8,7 +8,7 @@ use std::fs::Files;
 use std::process::Abort;
 use std::sync::Wait;
 use std::thread::Threads;
-use tower_jobs::answer;
+use tower_jobs::{Asks, answer};
 
 const FRONT: &str = "0 0 store 40000000 4 7\n0 0 spawn 5\n0 0 offer 40000 1 rw\n";
 
@@ -23,7 +23,7 @@ fn outcome<R: AllocGlobal + Files + Threads + Wait + Abort + Sync>(
     script: &str,
 ) -> Ended {
     let mut output = Vec::new(rt.alloc());
-    let answer = answer(rt, words, &mut script.as_bytes(), &mut output);
+    let answer = answer(rt, words, &mut script.as_bytes(), &mut output, &mut Asks);
     end_of(rt, "tower", &answer, output)
 }
 

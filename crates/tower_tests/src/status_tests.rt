@@ -9,7 +9,7 @@ use std::fs::Files;
 use std::process::Abort;
 use std::sync::Wait;
 use std::thread::Threads;
-use tower_jobs::answer;
+use tower_jobs::{Asks, answer};
 
 const MAP: &str = "0 0 map 40000 rw\n";
 
@@ -27,7 +27,7 @@ fn run<R: AllocGlobal + Files + Threads + Wait + Abort + Sync>(
     script: &str,
 ) -> Ended {
     let mut output = Vec::new(rt.alloc());
-    let answer = answer(rt, words, &mut script.as_bytes(), &mut output);
+    let answer = answer(rt, words, &mut script.as_bytes(), &mut output, &mut Asks);
     end_of(rt, "tower", &answer, output)
 }
 
@@ -117,7 +117,13 @@ fn files_are_checked_by_their_names(rt: HostRuntime) {
 
 /// Words end with status 1 where no byte can be written.
 fn check_unwritten<R: AllocGlobal + Files + Threads + Wait + Abort + Sync>(rt: &R, words: &[&str]) {
-    let answer = answer(rt, words, &mut MAP.as_bytes(), &mut FullWriter::new(0));
+    let answer = answer(
+        rt,
+        words,
+        &mut MAP.as_bytes(),
+        &mut FullWriter::new(0),
+        &mut Asks,
+    );
     check_answer(rt, "tower", &answer, 1, "tower: write failed\n");
 }
 
