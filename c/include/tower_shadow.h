@@ -115,8 +115,8 @@ TOWER_NODISCARD uint32_t tower_shadow_fault(struct tower *tower, struct tower_sh
                                             uint64_t address, bool write, struct tower_reply *reply,
                                             struct tower_ended *ended);
 
-/* Carries out one event, as tower_step_ending does, and forgets what it ended. False if one of the handles has nothing;
- * then nothing is written. */
+/* Carries out one event, as tower_step_ending does, and forgets what it ended. A refusal or a fault changes nothing, nor
+ * does what is no event. False if one of the handles has nothing; then nothing is written. */
 TOWER_NODISCARD bool tower_shadow_step(struct tower *tower, struct tower_shadow *shadow,
                                        const struct tower_event *event, struct tower_reply *reply,
                                        struct tower_ended *ended);

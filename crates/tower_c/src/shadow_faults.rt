@@ -6,7 +6,7 @@ ghost use Rattle.kernel_calls.specs.Translations.{Ends};
 ghost use Rattle.c_handle.specs.Handle.{IsTower};
 ghost use Rattle.c_handle.specs.ShadowHandle.{IsTowerShadow};
 ghost use Rattle.shadow_core.specs.Paired.{IsShadowed};
-ghost use Rattle.tower_c.specs.Border.{event_in, pid_of, reply_in, state_after, ends_in, ended_numbers};
+ghost use Rattle.tower_c.specs.Border.{event_in, pid_of, reply_in, state_after, is_carried_out, ends_in, ended_numbers};
 ghost use Rattle.tower_c.specs.Shadows.{AreShadowed, HandlesIn, Forgets, status_of, told_of};
 
 use crate::numbers::{
@@ -136,6 +136,7 @@ pub extern "C" fn tower_shadow_fault(
 }
 
 /// Carries out an event, and forgets what it ended. Numbers that are no event change nothing.
+#[tactic(auto, unfolding(crate::specs::Border::is_carried_out))]
 fn step(core: &mut Core, tables: &mut ShadowTables, event: &TowerEvent) -> (TowerReply, TowerEnded)
     requires { IsShadowed core.old tables.old }
     ensures shadowed { IsShadowed core.new tables.new }
@@ -144,6 +145,8 @@ fn step(core: &mut Core, tables: &mut ShadowTables, event: &TowerEvent) -> (Towe
     ensures state { core.new.state ≡ state_after core.old.state (event_in event.now) }
     ensures ends { Ends (ends_in core.old (event_in event.now)) core.old core.new }
     ensures forgets { Forgets tables.old (ends_in core.old (event_in event.now)) tables.new }
+    ensures refused { is_carried_out core.old.state (event_in event.now) ≡ false
+        → (core.new ≡ core.old) × (tables.new ≡ tables.old) }
     ensures stands { StandsFor (image_of core.new) core.new.state }
 {
     core.stands();
@@ -155,7 +158,8 @@ fn step(core: &mut Core, tables: &mut ShadowTables, event: &TowerEvent) -> (Towe
 }
 
 /// Carries out one event, as `tower_step_ending` does, and forgets what it ended. If that is all of a process, no
-/// processor may have its root. Returns false if one of the handles has nothing; then nothing changes.
+/// processor may have its root. A refusal or a fault changes nothing, nor do numbers that are no event. Returns false if
+/// one of the handles has nothing; then nothing changes.
 #[unsafe(no_mangle)]
 pub extern "C" fn tower_shadow_step(
     alloc: Global,
@@ -184,6 +188,9 @@ pub extern "C" fn tower_shadow_step(
     ensures forgets { result ≡ true → IfSome tower.old.hold.core (λ core. IfSome shadow.old.hold.tables
         (λ tables. IfSome shadow.new.hold.tables
         (λ later. Forgets tables (ends_in core (event_in event.now)) later))) }
+    ensures refused { result ≡ true → IfSome tower.old.hold.core (λ core. is_carried_out core.state
+        (event_in event.now) ≡ false → (tower.new.hold.core ≡ tower.old.hold.core)
+        × (shadow.new.hold.tables ≡ shadow.old.hold.tables)) }
     ensures stands { result ≡ true → IfSome tower.new.hold.core (λ core. StandsFor (image_of core) core.state) }
     ensures none { result ≡ false → (reply.new ≡ reply.old) × (ended.new ≡ ended.old)
         × (tower.new.hold.core ≡ tower.old.hold.core) × (shadow.new.hold.tables ≡ shadow.old.hold.tables) }
