@@ -1,5 +1,5 @@
 -- The drawing of the bytes of an image, and the answer to a command line that requests it.
-use Rattle.std.specs.Prelude.{◌≡◌, ◌⊎◌, ℕ, Bool, true, false, List, [], Option, Some, None, option_and_then, slice_get, codes}
+use Rattle.std.specs.Prelude.{◌≡◌, ◌⊎◌, ℕ, Bool, true, false, List, [], Option, Some, option_and_then, slice_get, codes}
 use Rattle.std.specs.Option.{option_map_or}
 use Rattle.std.specs.Str.{bytes_eq}
 use Rattle.std.specs.Io.KnownBytes.{Appends, Keeps}
@@ -14,7 +14,7 @@ use Rattle.memory_image.specs.declared.faults.ImageFault.{ImageFault}
 use Rattle.text_output.specs.Output.{AppendsFront}
 use Rattle.command_answers.specs.Answers.{Refuses}
 use Rattle.command_answers.specs.Faults.{IsFileFault, tool_of_image}
-use Rattle.command_answers.specs.Files.{IsContent, IsRead, SaysWhole, file_argument, file_in}
+use Rattle.command_answers.specs.Files.{Content, IsContent, IsRead, SaysWhole, file_argument, file_in}
 use Rattle.command_answers.specs.declared.answers.Answer.{Answer}
 use Rattle.command_answers.specs.declared.answers.Answer.TheVariants.{Done, NotSound, Failed, NotText, Refused}
 use Rattle.command_answers.specs.declared.faults.ToolFault.{ToolFault}
@@ -131,9 +131,15 @@ DrawsFile form answer file held holds =
     ((answer ≡ Failed tool.ReadFailed) × Keeps held holds)
     ⊎ ((content : Option (List ℕ)) × (whole : Bool) × IsContent file content × SaysWhole whole content × DrawsAs whole form answer content held holds)
 
--- `clap` takes the words, and the file that they name was drawn, of whose bytes nothing is said; or it refuses them, or
--- there was no memory for them, and nothing was written
-abbrev pub AnswersWords : List (List ℕ) → Answer → Option (List ℕ) → Option (List ℕ) → Type 0
-AnswersWords words answer held holds =
-    ((clap_faults map_app words ≡ []) × DrawsFile (request_asked words).0 answer None held holds)
+-- a named file was drawn so; or it was not opened
+abbrev pub DrawsNamed : Content → Form → Answer → Option (List ℕ) → Option (List ℕ) → Type 0
+DrawsNamed named form answer held holds =
+    ((answer ≡ Failed tool.ReadFailed) × Keeps held holds)
+    ⊎ ((file : Option (List ℕ)) × named file × DrawsFile form answer file held holds)
+
+-- `clap` takes the words, and the file that they name was drawn; or it refuses them, or there was no memory for them, and
+-- nothing was written
+abbrev pub AnswersWords : (Text → Content) → List (List ℕ) → Answer → Option (List ℕ) → Option (List ℕ) → Type 0
+AnswersWords named words answer held holds =
+    ((clap_faults map_app words ≡ []) × DrawsNamed (named (request_asked words).1) (request_asked words).0 answer held holds)
     ⊎ ((error : Error) × HasKind (clap_faults map_app words) error × Refuses error answer × Keeps held holds)

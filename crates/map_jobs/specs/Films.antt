@@ -1,7 +1,7 @@
 -- The film of a script, and the answer to a command line that requests it.
 --     page_text rows      the page of a film with these rows
 --     FilmsScript frames answer ..      what a film with that answer read and wrote
---     AnswersAll words answer ..      what any command line with that answer read and wrote
+--     AnswersAll named words answer ..      what any command line with that answer read and wrote, by what says which file it names
 use Rattle.std.specs.Prelude.{◌≡◌, ◌⊎◌, ℕ, Bool, true, false, List, [], ◌++◌, Option, Some, unwrap_or, codes}
 use Rattle.std.specs.List.{list_any}
 use Rattle.std.specs.Str.{bytes_eq}
@@ -16,7 +16,7 @@ use Rattle.script_run.specs.declared.faults.ScriptFault.{ScriptFault}
 use Rattle.text_output.specs.Output.{AppendsFront}
 use Rattle.command_answers.specs.Answers.{Refuses}
 use Rattle.command_answers.specs.Faults.{tool_of_script}
-use Rattle.command_answers.specs.Files.{IsRead}
+use Rattle.command_answers.specs.Files.{Content, IsRead}
 use Rattle.command_answers.specs.Options.{frames_option, frames_in}
 use Rattle.command_answers.specs.declared.answers.Answer.{Answer}
 use Rattle.command_answers.specs.declared.answers.Answer.TheVariants.{Done, Failed}
@@ -99,10 +99,10 @@ AnswersFilm words answer remained held holds =
     ⊎ ((error : Error) × HasKind (clap_faults film_app words) error × Refuses error answer × Keeps held holds)
 
 -- arguments with --film request a film, and all others a drawing
-abbrev pub AnswersBy : Bool → List (List ℕ) → Answer → Option (List ℕ) → Option (List ℕ) → Option (List ℕ) → Type 0
-AnswersBy true words answer remained held holds = AnswersFilm words answer remained held holds
-AnswersBy false words answer remained held holds = AnswersWords words answer held holds
+abbrev pub AnswersBy : (Text → Content) → Bool → List (List ℕ) → Answer → Option (List ℕ) → Option (List ℕ) → Option (List ℕ) → Type 0
+AnswersBy named true words answer remained held holds = AnswersFilm words answer remained held holds
+AnswersBy named false words answer remained held holds = AnswersWords named words answer held holds
 
 -- what any command line with that answer read and wrote
-abbrev pub AnswersAll : List (List ℕ) → Answer → Option (List ℕ) → Option (List ℕ) → Option (List ℕ) → Type 0
-AnswersAll words answer remained held holds = AnswersBy (asks_film words) words answer remained held holds
+abbrev pub AnswersAll : (Text → Content) → List (List ℕ) → Answer → Option (List ℕ) → Option (List ℕ) → Option (List ℕ) → Type 0
+AnswersAll named words answer remained held holds = AnswersBy named (asks_film words) words answer remained held holds

@@ -1,17 +1,16 @@
 //! Runs a command line of `memory_map`.
 
-ghost use Rattle.std.specs.Prelude.{◌≡◌, None, map};
-ghost use Rattle.map_jobs.specs.Drawings.{AnswersWords, DrawsFile, DrawsPlain, DrawsStored};
+ghost use Rattle.std.specs.Prelude.{◌≡◌, map};
+ghost use Rattle.command_answers.specs.Files.{IsOf};
+ghost use Rattle.map_jobs.specs.Drawings.{AnswersWords, DrawsFile, DrawsNamed, DrawsPlain, DrawsStored};
 ghost use Rattle.map_jobs.specs.Films.{AnswersAll, AnswersFilm};
 
 use crate::drawing::{Form, draw_bytes, draw_whole};
 use crate::films::film_script;
 use crate::jobs::{asks_film, frames_of, request_of};
-use command_answers::{Answer, ToolFault, bytes_of, front_of, refuse, says_whole};
+use command_answers::{Answer, Opens, ToolFault, bytes_of, front_of, refuse, says_whole};
 use std::alloc::Global;
 use std::convert::AsStr;
-use std::fs;
-use std::fs::Files;
 use std::io::{Read, Write};
 
 /// Draws the image of version 1 or 2 that a file has.
@@ -63,15 +62,16 @@ fn draw_file<F: Read + Drop, O: Write>(alloc: Global, form: Form, file: F, outpu
 }
 
 /// Draws the image in the file of that name; ReadFailed where it can't be opened.
-fn draw_named<R: AllocGlobal + Files, O: Write>(
+fn draw_named<R: AllocGlobal + Opens, O: Write>(
     rt: &R,
     form: Form,
     name: &str,
     output: &mut O,
 ) -> Answer
-    ensures { DrawsFile form result None (O.contents output.old) (O.contents output.new) }
+    ensures { DrawsNamed (IsOf R.Opened.remaining R.named name.now) form result (O.contents output.old)
+        (O.contents output.new) }
 {
-    match fs::open(rt, name) {
+    match rt.open_named(name) {
         Ok(file) => draw_file(rt.alloc(), form, file, output),
         Err(_) => Answer::Failed(ToolFault::ReadFailed),
     }
@@ -82,12 +82,13 @@ fn draw_named<R: AllocGlobal + Files, O: Write>(
 ///
 /// Done where the image is sound, NotSound where it isn't; ReadFailed where the file can't be opened or
 /// read; the other faults are those of `draw_bytes`, or for an image of version 3 of `draw_whole`.
-pub fn draw<R: AllocGlobal + Files, S: AsStr, O: Write>(
+pub fn draw<R: AllocGlobal + Opens, S: AsStr, O: Write>(
     rt: &R,
     words: &[S],
     output: &mut O,
 ) -> Answer
-    ensures { AnswersWords (map S.text words.now) result (O.contents output.old) (O.contents output.new) }
+    ensures { AnswersWords (IsOf R.Opened.remaining R.named) (map S.text words.now) result (O.contents output.old)
+        (O.contents output.new) }
 {
     match request_of(rt.alloc(), words) {
         Ok(request) => draw_named(rt, request.form, request.file, output),
@@ -116,14 +117,14 @@ fn film<S: AsStr, I: Read + Drop, O: Write>(
 ///
 /// Done where a film was written or the image is sound, NotSound where it isn't. Of a film the faults are those
 /// of `film_script`, of a drawing those of `draw`.
-pub fn answer<R: AllocGlobal + Files, S: AsStr, I: Read + Drop, O: Write>(
+pub fn answer<R: AllocGlobal + Opens, S: AsStr, I: Read + Drop, O: Write>(
     rt: &R,
     words: &[S],
     input: I,
     output: &mut O,
 ) -> Answer
-    ensures { AnswersAll (map S.text words.now) result (I.remaining input) (O.contents output.old)
-        (O.contents output.new) }
+    ensures { AnswersAll (IsOf R.Opened.remaining R.named) (map S.text words.now) result (I.remaining input)
+        (O.contents output.old) (O.contents output.new) }
 {
     if asks_film(words) {
         film(rt.alloc(), words, input, output)
