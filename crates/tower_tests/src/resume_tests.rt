@@ -3,6 +3,7 @@
 use crate::command_lines::{Ended, check_ended, check_nothing_done, end_of};
 use crate::comparing::{same, same_bytes};
 use crate::images::{image_after, opening, opening_of_version, opening_with_quota};
+use command_answers::Opens;
 use std::fs;
 use std::fs::Files;
 use std::process::Abort;
@@ -17,7 +18,7 @@ const REST: &str = "0 0 load 40000000 4\n0 0 map 40000 rw\n0 1 accept 0 40000 40
 const REPLIES: &str = "value 00000007\nrefused Mapped\nrefused NoOffer\nquota 15 3 5\n";
 
 /// The outcome of words with a script.
-fn outcome<R: AllocGlobal + Files + Threads + Wait + Abort + Sync>(
+fn outcome<R: AllocGlobal + Files + Opens<Opened = R::File> + Threads + Wait + Abort + Sync>(
     rt: &R,
     words: &[&str],
     script: &str,
@@ -28,7 +29,7 @@ fn outcome<R: AllocGlobal + Files + Threads + Wait + Abort + Sync>(
 }
 
 /// The outcome of `resume` with a file's name and a script.
-fn resume<R: AllocGlobal + Files + Threads + Wait + Abort + Sync>(
+fn resume<R: AllocGlobal + Files + Opens<Opened = R::File> + Threads + Wait + Abort + Sync>(
     rt: &R,
     name: &str,
     script: &str,
@@ -37,7 +38,7 @@ fn resume<R: AllocGlobal + Files + Threads + Wait + Abort + Sync>(
 }
 
 /// The outcome of `resume --image` on a file of these bytes.
-fn image_resumed<R: AllocGlobal + Files + Threads + Wait + Abort + Sync>(
+fn image_resumed<R: AllocGlobal + Files + Opens<Opened = R::File> + Threads + Wait + Abort + Sync>(
     rt: &R,
     bytes: &[u8],
     script: &str,
@@ -50,7 +51,7 @@ fn image_resumed<R: AllocGlobal + Files + Threads + Wait + Abort + Sync>(
 }
 
 /// The image of a run that resumes on a file of these bytes has these bytes.
-fn check_image<R: AllocGlobal + Files + Threads + Wait + Abort + Sync>(
+fn check_image<R: AllocGlobal + Files + Opens<Opened = R::File> + Threads + Wait + Abort + Sync>(
     rt: &R,
     bytes: &[u8],
     script: &str,
@@ -62,7 +63,7 @@ fn check_image<R: AllocGlobal + Files + Threads + Wait + Abort + Sync>(
 }
 
 /// A script that resumes on a file of these bytes ends with this status, and these texts.
-fn check_resume<R: AllocGlobal + Files + Threads + Wait + Abort + Sync>(
+fn check_resume<R: AllocGlobal + Files + Opens<Opened = R::File> + Threads + Wait + Abort + Sync>(
     rt: &R,
     bytes: &[u8],
     script: &str,
@@ -78,12 +79,9 @@ fn check_resume<R: AllocGlobal + Files + Threads + Wait + Abort + Sync>(
 }
 
 /// No script resumes on a file of these bytes: the status and the line say why.
-fn check_not_resumed<R: AllocGlobal + Files + Threads + Wait + Abort + Sync>(
-    rt: &R,
-    bytes: &[u8],
-    status: u8,
-    errors: &str,
-) {
+fn check_not_resumed<
+    R: AllocGlobal + Files + Opens<Opened = R::File> + Threads + Wait + Abort + Sync,
+>(rt: &R, bytes: &[u8], status: u8, errors: &str) {
     check_resume(rt, bytes, REST, status, "", errors);
 }
 

@@ -3,7 +3,7 @@
 use crate::command_lines::{Ended, check_answer, check_ended, check_nothing_done, end_of};
 use crate::images::{opening, opening_with_quota};
 use base_tests::streams::FullWriter;
-use command_answers::{Answer, ToolFault};
+use command_answers::{Answer, Opens, ToolFault};
 use std::fs;
 use std::fs::Files;
 use std::process::Abort;
@@ -21,7 +21,7 @@ const ONE_ROUND: &str =
 const BAD_SIZE: &str = "tower: frames must be 16 to 4096\n";
 
 /// The outcome of arguments and a script on standard input.
-fn run<R: AllocGlobal + Files + Threads + Wait + Abort + Sync>(
+fn run<R: AllocGlobal + Files + Opens<Opened = R::File> + Threads + Wait + Abort + Sync>(
     rt: &R,
     words: &[&str],
     script: &str,
@@ -32,7 +32,7 @@ fn run<R: AllocGlobal + Files + Threads + Wait + Abort + Sync>(
 }
 
 /// Words and a script come to this status, and these texts.
-fn check_run<R: AllocGlobal + Files + Threads + Wait + Abort + Sync>(
+fn check_run<R: AllocGlobal + Files + Opens<Opened = R::File> + Threads + Wait + Abort + Sync>(
     rt: &R,
     words: &[&str],
     script: &str,
@@ -60,12 +60,15 @@ fn a_command_line_ends_with_its_status(rt: HostRuntime) {
 }
 
 /// Words end with status 2, with nothing on standard output and something on standard error.
-fn check_refused<R: AllocGlobal + Files + Threads + Wait + Abort + Sync>(rt: &R, words: &[&str]) {
+fn check_refused<R: AllocGlobal + Files + Opens<Opened = R::File> + Threads + Wait + Abort + Sync>(
+    rt: &R,
+    words: &[&str],
+) {
     check_nothing_done(rt, &run(rt, words, ""), 2, words);
 }
 
 /// Standard error begins with this text, once these words were refused.
-fn check_told<R: AllocGlobal + Files + Threads + Wait + Abort + Sync>(
+fn check_told<R: AllocGlobal + Files + Opens<Opened = R::File> + Threads + Wait + Abort + Sync>(
     rt: &R,
     words: &[&str],
     text: &str,
@@ -84,7 +87,7 @@ fn refused_words_end_with_status_2(rt: HostRuntime) {
 }
 
 /// The outcome of a check of a file with these bytes.
-fn run_on_file<R: AllocGlobal + Files + Threads + Wait + Abort + Sync>(
+fn run_on_file<R: AllocGlobal + Files + Opens<Opened = R::File> + Threads + Wait + Abort + Sync>(
     rt: &R,
     bytes: &[u8],
 ) -> Ended {
@@ -96,7 +99,7 @@ fn run_on_file<R: AllocGlobal + Files + Threads + Wait + Abort + Sync>(
 }
 
 /// A file of these bytes comes to this status, and these texts.
-fn check_file<R: AllocGlobal + Files + Threads + Wait + Abort + Sync>(
+fn check_file<R: AllocGlobal + Files + Opens<Opened = R::File> + Threads + Wait + Abort + Sync>(
     rt: &R,
     bytes: &[u8],
     status: u8,
@@ -116,7 +119,9 @@ fn files_are_checked_by_their_names(rt: HostRuntime) {
 }
 
 /// Words end with status 1 where no byte can be written.
-fn check_unwritten<R: AllocGlobal + Files + Threads + Wait + Abort + Sync>(rt: &R, words: &[&str]) {
+fn check_unwritten<
+    R: AllocGlobal + Files + Opens<Opened = R::File> + Threads + Wait + Abort + Sync,
+>(rt: &R, words: &[&str]) {
     let answer = answer(
         rt,
         words,

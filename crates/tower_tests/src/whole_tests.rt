@@ -2,6 +2,7 @@
 
 use crate::command_lines::{Ended, check_ended, end_of};
 use crate::comparing::{same, same_bytes};
+use command_answers::Opens;
 use map_jobs::draw;
 use std::fs;
 use std::fs::Files;
@@ -25,7 +26,7 @@ const OFFER: usize = 16;
 const RECORD: usize = 4116;
 
 /// The outcome of words of `tower` with a script.
-fn outcome<R: AllocGlobal + Files + Threads + Wait + Abort + Sync>(
+fn outcome<R: AllocGlobal + Files + Opens<Opened = R::File> + Threads + Wait + Abort + Sync>(
     rt: &R,
     words: &[&str],
     script: &str,
@@ -36,7 +37,7 @@ fn outcome<R: AllocGlobal + Files + Threads + Wait + Abort + Sync>(
 }
 
 /// The outcome of a script on so many frames for an image of version 3.
-fn imaged<R: AllocGlobal + Files + Threads + Wait + Abort + Sync>(
+fn imaged<R: AllocGlobal + Files + Opens<Opened = R::File> + Threads + Wait + Abort + Sync>(
     rt: &R,
     frames: &str,
     script: &str,
@@ -49,14 +50,17 @@ fn imaged<R: AllocGlobal + Files + Threads + Wait + Abort + Sync>(
 }
 
 /// The image of version 3 of 5,000 frames after a script.
-fn stored<R: AllocGlobal + Files + Threads + Wait + Abort + Sync>(rt: &R, script: &str) -> Vec<u8> {
+fn stored<R: AllocGlobal + Files + Opens<Opened = R::File> + Threads + Wait + Abort + Sync>(
+    rt: &R,
+    script: &str,
+) -> Vec<u8> {
     let ended = imaged(rt, "5000", script);
     same(rt, &(ended.status, ended.errors.len()), &(0, 0));
     ended.output
 }
 
 /// The outcome of words of `tower` and the name of a file of these bytes, with a script.
-fn on_file<R: AllocGlobal + Files + Threads + Wait + Abort + Sync>(
+fn on_file<R: AllocGlobal + Files + Opens<Opened = R::File> + Threads + Wait + Abort + Sync>(
     rt: &R,
     name: &str,
     words: &[&str],
@@ -70,7 +74,7 @@ fn on_file<R: AllocGlobal + Files + Threads + Wait + Abort + Sync>(
 }
 
 /// The outcome of `resume` on a file of these bytes.
-fn resumed<R: AllocGlobal + Files + Threads + Wait + Abort + Sync>(
+fn resumed<R: AllocGlobal + Files + Opens<Opened = R::File> + Threads + Wait + Abort + Sync>(
     rt: &R,
     bytes: &[u8],
     script: &str,
@@ -80,7 +84,7 @@ fn resumed<R: AllocGlobal + Files + Threads + Wait + Abort + Sync>(
 }
 
 /// The outcome of `resume --image` on a file of these bytes.
-fn imaged_again<R: AllocGlobal + Files + Threads + Wait + Abort + Sync>(
+fn imaged_again<R: AllocGlobal + Files + Opens<Opened = R::File> + Threads + Wait + Abort + Sync>(
     rt: &R,
     bytes: &[u8],
     script: &str,
@@ -96,7 +100,7 @@ fn imaged_again<R: AllocGlobal + Files + Threads + Wait + Abort + Sync>(
 }
 
 /// A file of these bytes is checked with this status, and these texts.
-fn check_checked<R: AllocGlobal + Files + Threads + Wait + Abort + Sync>(
+fn check_checked<R: AllocGlobal + Files + Opens<Opened = R::File> + Threads + Wait + Abort + Sync>(
     rt: &R,
     bytes: &[u8],
     status: u8,
@@ -144,7 +148,7 @@ fn with_byte<R: AllocGlobal + Abort>(rt: &R, bytes: &[u8], place: usize, byte: u
 }
 
 /// With that byte at a place, no script resumes on the image, and the check ends with this status and these texts.
-fn check_changed<R: AllocGlobal + Files + Threads + Wait + Abort + Sync>(
+fn check_changed<R: AllocGlobal + Files + Opens<Opened = R::File> + Threads + Wait + Abort + Sync>(
     rt: &R,
     bytes: &[u8],
     place: usize,
@@ -173,7 +177,7 @@ fn a_changed_image_resumes_no_script(rt: HostRuntime) {
 }
 
 /// The check of bytes that are no image of version 3 ends with status 2 and this line.
-fn check_refused<R: AllocGlobal + Files + Threads + Wait + Abort + Sync>(
+fn check_refused<R: AllocGlobal + Files + Opens<Opened = R::File> + Threads + Wait + Abort + Sync>(
     rt: &R,
     bytes: &[u8],
     errors: &str,
