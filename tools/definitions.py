@@ -157,13 +157,17 @@ class Tree:
         word = word.partition(".")[0] if dot and not word.startswith(".") else word
         return self.by_name.get((file.module, word), []) or self.items_of(*file.names.get(word, ("", "")))
 
+    @functools.cache
+    def named_by(self, item):
+        """The items that an item's words refer to."""
+        return list(dict.fromkeys(other for word in item.words for other in self.called(item.file, word)))
+
     def reached(self, begin):
         """These items, and all that they name, and that these name."""
         found = dict.fromkeys(begin)
         waiting = list(found)
         while waiting:
-            it = waiting.pop()
-            new = [other for word in it.words for other in self.called(it.file, word) if other not in found]
+            new = [other for other in self.named_by(waiting.pop()) if other not in found]
             found.update(dict.fromkeys(new))
             waiting += new
         return found.keys()
