@@ -12,7 +12,7 @@
 #include "wrong.h"
 
 enum { RUNNING_MAX = 16, NOBODY = 255, NONE_LEFT = 254, LINES_MAX = 20, IMAGES_MAX = 4 };
-enum { SLICES = 5, EXITS = 1000, WALKS = 10000, EVENTS = 20000, TURNS = 4000, ROUNDS = 4 };
+enum { SLICES = 5, EXITS = 1000, WALKS = 10000, EVENTS = 20000, TURNS = 4000, ROUNDS = 4, PARTS = 8 };
 
 static struct tower tower = TOWER_NONE;
 static uint8_t *memory;
@@ -507,16 +507,18 @@ static const char *behind(const char *first, const char *word) {
     return *first ? 0 : word;
 }
 
-/* Runs a trial of several processors in a version of wrong.c. One round of the shootdowns may miss a rare event. */
+/* Runs a trial of several processors in a version of wrong.c. The cores are compared once its turns are over, so a wrong
+ * version has few turns in each of many rounds: most are then found soon. A round may miss a rare event. */
 static void try_version(const char *version, bool is_storm) {
     choose_wrong(version);
     start_processors(svm_start);
-    if (is_storm) {
-        try_storm(TURNS, false, &tower);
-        return;
-    }
-    for (uint32_t round = 0; round < (wrong == RIGHT ? 1 : ROUNDS); round++) {
-        try_shootdowns(TURNS, &tower);
+    uint32_t parts = wrong == RIGHT ? 1 : PARTS, rounds = wrong == RIGHT ? 1 : ROUNDS * PARTS;
+    for (uint32_t round = 0; round < rounds; round++) {
+        if (is_storm) {
+            try_storm(TURNS / parts, false, &tower);
+        } else {
+            try_shootdowns(TURNS / parts, &tower);
+        }
         tower_free(&tower);
     }
 }

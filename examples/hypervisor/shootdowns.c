@@ -427,7 +427,7 @@ void try_shootdowns(uint32_t turns, struct tower *tower) {
     on_all(shoot);
     uint32_t accesses = tell_second(&second);
     compare_cores(core, &second);
-    need(stale > 0 || processors() == 1, "an access is made by a stale translation");
+    need(stale > 0 || processors() == 1 || wrong != RIGHT, "an access is made by a stale translation");
     say("shootdowns: the second core agrees\n");
     say("schedule: %u calls, %u windows; %u accesses, %u of them in a window, %u by a stale translation\n", calls,
         windows, accesses, within, stale);

@@ -3,8 +3,9 @@
  * the kernel's functions. */
 #define _GNU_SOURCE
 #include <stdio.h>
+#include <stdlib.h>
 #include <string.h>
-#include <sys/stat.h>
+#include <unistd.h>
 
 #include "../../kernel.h"
 #include "../../need.h"
@@ -40,44 +41,74 @@ static bool is_to_be_told(const struct engine *it, uint32_t page) {
     return is_found;
 }
 
-/* The block has the file of each frame mapped in the frame's place. */
-static unsigned long inode_of(const char *line, unsigned long from) {
-    unsigned long at, inode = 0;
-    return sscanf(line, "%lx-%*x %*s %*x %*s %lu", &at, &inode) == 2 && at == from ? inode : 0;
+/* ---- What the host has mapped */
+
+static unsigned long inodes[TOWER_MAX_FRAMES]; /* of the file that is mapped in a frame's place; 0 if there is none */
+
+struct mapping {
+    unsigned long from, to, inode;
+    bool may_write;
+    const char *name; /* up to the end of the line */
+};
+
+/* A line of the host's on mappings: FROM-TO RIGHTS OFFSET DEVICE INODE, and mostly a name. */
+static struct mapping mapping_of(const char *line) {
+    char *at;
+    struct mapping it = {.from = strtoul(line, &at, 16)};
+    it.to = strtoul(at + 1, &at, 16);
+    it.may_write = at[2] == 'w';
+    (void)strtoul(at + 5, &at, 16);
+    it.inode = strtoul(at + 1 + strcspn(at + 1, " "), &at, 10);
+    it.name = at;
+    return it;
 }
 
-static unsigned long inode_of_frame(uint32_t frame) {
-    char line[512];
-    unsigned long inode = 0;
-    FILE *maps = fopen("/proc/self/maps", "re");
-    while (maps && !inode && fgets(line, sizeof line, maps)) {
-        inode = inode_of(line, (unsigned long)(uintptr_t)kernel.memory + (unsigned long)frame * PAGE_BYTES);
+static FILE *open_mappings(pid_t process) {
+    static char path[64], buffer[1 << 16];
+    snprintf(path, sizeof path, "/proc/%d/maps", process);
+    FILE *maps = fopen(path, "re");
+    if (maps) {
+        setvbuf(maps, buffer, _IOFBF, sizeof buffer);
+    }
+    return maps;
+}
+
+/* The block has the file of each frame mapped in the frame's place. */
+static void read_own(void) {
+    static char line[512];
+    unsigned long block = (unsigned long)(uintptr_t)kernel.memory, end = block + sizeof inodes / sizeof *inodes * PAGE_BYTES;
+    FILE *maps = open_mappings(getpid());
+    need(maps != NULL, "the host says what is mapped");
+    memset(inodes, 0, sizeof inodes);
+    while (fgets(line, sizeof line, maps)) {
+        struct mapping it = mapping_of(line);
+        if (it.from >= block && it.from < end) {
+            inodes[(it.from - block) / PAGE_BYTES] = it.inode;
+        }
     }
     fclose(maps);
-    return inode;
 }
 
 static bool is_given(const struct engine *it, uint32_t page, unsigned long inode, bool write) {
     for (uint32_t i = 0; i < it->given_count; i++) {
         const struct given *given = &it->given[i];
         if (given->page == page && given->is_in) {
-            return inode_of_frame(given->frame) == inode && (given->write || !write);
+            return inodes[given->frame] == inode && (given->write || !write);
         }
     }
     return false;
 }
 
 static bool are_all_given(const struct engine *it) {
-    char path[64], line[512];
+    static char line[512];
     bool are_all = true;
-    snprintf(path, sizeof path, "/proc/%d/maps", it->process);
-    FILE *maps = fopen(path, "re");
+    FILE *maps = open_mappings(it->process);
     while (maps && fgets(line, sizeof line, maps)) {
-        unsigned long from, to, inode;
-        char rights[8];
-        if (sscanf(line, "%lx-%lx %7s %*x %*s %lu", &from, &to, rights, &inode) == 4 && strstr(line, "/memfd:frame")) {
-            uint32_t page = (uint32_t)((from - WINDOW) / PAGE_BYTES);
-            are_all = are_all && to - from == PAGE_BYTES && (is_to_be_told(it, page) || is_given(it, page, inode, rights[1] == 'w'));
+        struct mapping of = mapping_of(line);
+        if (strstr(of.name, "/memfd:frame")) {
+            uint32_t page = (uint32_t)((of.from - WINDOW) / PAGE_BYTES);
+            are_all = are_all && of.to - of.from == PAGE_BYTES &&
+                      (is_to_be_told(it, page) || is_given(it, page, of.inode, of.may_write));
         }
     }
     if (maps) {
@@ -87,6 +118,7 @@ static bool are_all_given(const struct engine *it) {
 }
 
 static struct tower_reply check(struct tower_reply reply) {
+    read_own();
     for (uint32_t pid = 0; pid < TOWER_PROCESSES; pid++) {
         const struct engine *it = &kernel.engines[pid];
         for (uint32_t i = 0; i < it->given_count; i++) {
