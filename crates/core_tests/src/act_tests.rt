@@ -1,8 +1,8 @@
 //! What a kernel does for its processes: it ends a family, and takes a page back from all others.
 
-use crate::common::same;
+use crate::common::{check, process, same, share};
 use kernel_acts::{Holder, end_family, next_beside, take_back};
-use kernel_calls::{Call, Cause, Core, Event, Page, Pid, Reply, Size, Vaddr};
+use kernel_calls::{Call, Cause, Core, Page, Reply, Size, Vaddr};
 use std::process::Abort;
 use std::test::Fail;
 
@@ -10,16 +10,6 @@ const PAGE: Page = Page(0x40000);
 
 /// The first address of the page.
 const ADDRESS: Vaddr = Vaddr(0x4000_0000);
-
-fn process(rt: &impl Abort, number: u8) -> Pid {
-    Pid::new(number).expect(rt, "a number below 64")
-}
-
-/// A call of a process has this reply.
-fn check(rt: &impl Abort, core: &mut Core, number: u8, call: Call, reply: Reply) {
-    let pid = process(rt, number);
-    same(rt, &core.step(&Event { cpu: 0, pid, call }), &reply);
-}
 
 /// A process gets a child with that quota and this number.
 fn spawn(rt: &impl Abort, core: &mut Core, parent: u8, quota: u32, child: u8) {
@@ -55,6 +45,20 @@ fn refuses_to_end(rt: &impl Abort, core: &mut Core, number: u8, cause: Cause) {
     same(rt, &end_family(core, pid, &mut exited), &Err(cause));
 }
 
+/// Which of the processes 0 to 5 are live.
+fn check_live(rt: &impl Abort, core: &Core, expected: [bool; 6]) {
+    same(rt, &live(rt, core), &expected);
+}
+
+/// A family of three processes is ended, in this order.
+fn check_ended(rt: &impl Abort, core: &mut Core, number: u8, expected: [u8; 3]) {
+    let mut exited = [process(rt, 0); 64];
+    let ended = end_family(core, process(rt, number), &mut exited);
+    let [first, second, third, ..] = exited;
+    let expected = expected.map(|number| process(rt, number));
+    same(rt, &(ended, [first, second, third]), &(Ok(3), expected));
+}
+
 /// Process 2 is a child of process 1, and process 3 of process 2. Process 4 is not of the family.
 #[test]
 fn ends_a_family_from_its_leaves_up(rt: HostRuntime) -> Result<(), Fail> {
@@ -63,55 +67,16 @@ fn ends_a_family_from_its_leaves_up(rt: HostRuntime) -> Result<(), Fail> {
     spawn(&rt, &mut core, 1, 9, 2);
     spawn(&rt, &mut core, 2, 3, 3);
     spawn(&rt, &mut core, 0, 4, 4);
-    same(
-        &rt,
-        &live(&rt, &core),
-        &[true, true, true, true, true, false],
-    );
+    check_live(&rt, &core, [true, true, true, true, true, false]);
     check_children(&rt, &core, 0, [1, 4]);
-    let mut exited = [process(&rt, 0); 64];
-    let ended = end_family(&mut core, process(&rt, 1), &mut exited);
-    same(&rt, &ended, &Ok(3));
-    let [first, second, third, ..] = exited;
-    same(
-        &rt,
-        &[first, second, third],
-        &[3, 2, 1].map(|number| process(&rt, number)),
-    );
-    same(
-        &rt,
-        &live(&rt, &core),
-        &[true, false, false, false, true, false],
-    );
+    check_ended(&rt, &mut core, 1, [3, 2, 1]);
+    check_live(&rt, &core, [true, false, false, false, true, false]);
     let (quota, used, given) = (31, 1, 4);
-    check(
-        &rt,
-        &mut core,
-        0,
-        Call::Quota,
-        Reply::Quota { quota, used, given },
-    );
+    let left = Reply::Quota { quota, used, given };
+    check(&rt, &mut core, 0, Call::Quota, left);
     refuses_to_end(&rt, &mut core, 1, Cause::NoProcess);
     refuses_to_end(&rt, &mut core, 0, Cause::RootExit);
     Ok(())
-}
-
-/// A process accepts the root's page, as one of its own pages.
-fn share(rt: &impl Abort, core: &mut Core, number: u8, page: Page) {
-    let (target, write) = (process(rt, number), true);
-    let offer = Call::Offer {
-        page: PAGE,
-        target,
-        write,
-    };
-    let giver = process(rt, 0);
-    let accept = Call::Accept {
-        giver,
-        giver_page: PAGE,
-        page,
-    };
-    check(rt, core, 0, offer, Reply::Done);
-    check(rt, core, number, accept, Reply::Done);
 }
 
 /// The root stores 7 to its page, which process 1 then has at two pages, and process 2 at one.
@@ -127,9 +92,9 @@ fn shared<R: AllocGlobal + Abort>(rt: &R) -> Core {
     );
     spawn(rt, &mut core, 0, 6, 1);
     spawn(rt, &mut core, 0, 4, 2);
-    share(rt, &mut core, 1, Page(0x50000));
-    share(rt, &mut core, 1, Page(0x50001));
-    share(rt, &mut core, 2, PAGE);
+    share(rt, &mut core, 1, Page(0x50000), true);
+    share(rt, &mut core, 1, Page(0x50001), true);
+    share(rt, &mut core, 2, PAGE, true);
     core
 }
 
@@ -151,6 +116,12 @@ fn finds_who_else_has_a_page(rt: HostRuntime) {
     beside(&rt, &core, (0, 0x40000), 0, 0, None);
     beside(&rt, &core, (1, 0x50001), 1, 0, Some(0x50000));
     beside(&rt, &core, (0, 0x40001), 1, 0, None);
+}
+
+/// The root maps a page, with the right to write.
+fn map(rt: &impl Abort, core: &mut Core, page: Page) {
+    let write = true;
+    check(rt, core, 0, Call::Map { page, write }, Reply::Done);
 }
 
 /// The root offers a page to a process.
@@ -180,26 +151,8 @@ fn finds_offers_by_page_and_target(rt: HostRuntime) -> Result<(), Fail> {
     let other = Page(0x40001);
     spawn(&rt, &mut core, 0, 4, 1);
     spawn(&rt, &mut core, 0, 4, 2);
-    check(
-        &rt,
-        &mut core,
-        0,
-        Call::Map {
-            page: PAGE,
-            write: true,
-        },
-        Reply::Done,
-    );
-    check(
-        &rt,
-        &mut core,
-        0,
-        Call::Map {
-            page: other,
-            write: true,
-        },
-        Reply::Done,
-    );
+    map(&rt, &mut core, PAGE);
+    map(&rt, &mut core, other);
     offer(&rt, &mut core, other, 1, false);
     offer(&rt, &mut core, PAGE, 2, true);
     offer(&rt, &mut core, PAGE, 1, false);

@@ -1,22 +1,12 @@
 //! Which frames an event may write.
 
-use crate::common::same;
-use kernel_calls::{Call, Core, Event, Frame, Page, Pid, Reply, Size, Vaddr};
+use crate::common::{check, process, same};
+use kernel_calls::{Call, Core, Event, Frame, Page, Reply, Size, Vaddr};
 use std::process::Abort;
 
 const LOW: Page = Page(0x40000);
 
 const HIGH: Page = Page(0x40001);
-
-fn process(rt: &impl Abort, number: u8) -> Pid {
-    Pid::new(number).expect(rt, "a number below 64")
-}
-
-/// A call of a process has this reply.
-fn check(rt: &impl Abort, core: &mut Core, number: u8, call: Call, reply: Reply) {
-    let pid = process(rt, number);
-    same(rt, &core.step(&Event { cpu: 0, pid, call }), &reply);
-}
 
 /// An event may write a frame or not.
 fn may_write(rt: &impl Abort, core: &Core, event: &Event, frame: u32) -> bool {

@@ -3,10 +3,10 @@
 ghost use Rattle.std.specs.Prelude.{◌≡◌, true, if◌then◌else◌, Ok, Err};
 ghost use Rattle.kernel_calls.specs.declared.calls.Reply.TheVariants.{Value};
 
-use crate::common::same;
+use crate::common::{process, same};
 use guest_cpu::{End, Guest, Instruction, Port, PortFault, Reg, run};
 use kernel_calls::{Call, Cause, Core, Event, Reply};
-use page_words::{Pid, Size, Vaddr};
+use page_words::{Size, Vaddr};
 use std::process::Abort;
 
 /// Answers its first call with 7, and fails at each one after that.
@@ -32,7 +32,7 @@ impl Port for AnswersOnce {
 
 /// A guest of the root on CPU 0, which has not begun.
 fn root_guest<R: Abort>(rt: &R) -> Guest {
-    Guest::new(0, Pid::new(0).expect(rt, "process 0"))
+    Guest::new(0, process(rt, 0))
 }
 
 fn register<R: Abort>(rt: &R, number: u8) -> Reg {
@@ -74,20 +74,12 @@ fn stores_and_loads(address: u32, r: &[Reg; 8]) -> [Instruction; 5] {
 }
 
 /// The outcome of a guest of the root: how it ended, its counter, and two of its registers.
-#[derive(Clone, Copy, Debug, PartialEq, Eq)]
-struct Outcome {
-    end: End,
-    counter: usize,
-    values: [u32; 2],
-}
+type Outcome = (End, usize, [u32; 2]);
 
 /// Returns a guest's outcome, with the two registers looked at.
 fn came_to(guest: &Guest, end: End, looked_at: [Reg; 2]) -> Outcome {
-    Outcome {
-        end,
-        counter: guest.counter(),
-        values: looked_at.map(|register| guest.register(register)),
-    }
+    let values = looked_at.map(|register| guest.register(register));
+    (end, guest.counter(), values)
 }
 
 /// Runs a program on a core of 16 frames for so many turns, and reads two registers.
@@ -150,15 +142,8 @@ fn begins_with_zeros(rt: HostRuntime) {
 fn stores_and_loads_within_its_turns(rt: HostRuntime) {
     let r = registers(&rt);
     let program = stores_and_loads(0x4000_0000, &r);
-    let halted = Outcome {
-        end: End::Halted,
-        counter: 4,
-        values: [7, 7],
-    };
-    let out_of_turns = Outcome {
-        end: End::OutOfTurns,
-        ..halted
-    };
+    let halted = (End::Halted, 4, [7, 7]);
+    let out_of_turns = (End::OutOfTurns, 4, [7, 7]);
     check_run(&rt, &program, 5, [r[2], r[3]], halted);
     check_run(&rt, &program, 4, [r[2], r[3]], out_of_turns);
 }
@@ -171,11 +156,7 @@ fn stops_at_a_fault(rt: HostRuntime) {
         addr: Vaddr(0x3fff_fffc),
         code: 6,
     };
-    let want = Outcome {
-        end: End::Stopped(fault),
-        counter: 2,
-        values: [0, 0],
-    };
+    let want = (End::Stopped(fault), 2, [0, 0]);
     check_run(&rt, &program, 5, [r[3], r[4]], want);
 }
 
@@ -187,11 +168,7 @@ fn sees_what_is_left_of_its_quota(rt: HostRuntime) {
         Instruction::Sys(r[2], Call::Quota),
         Instruction::Jump(1000),
     ];
-    let want = Outcome {
-        end: End::Halted,
-        counter: 1000,
-        values: [1, 9],
-    };
+    let want = (End::Halted, 1000, [1, 9]);
     check_run(&rt, &program, 3, [r[1], r[2]], want);
 }
 
@@ -199,11 +176,7 @@ fn sees_what_is_left_of_its_quota(rt: HostRuntime) {
 fn stops_at_a_refusal(rt: HostRuntime) {
     let r = registers(&rt);
     let program = [Instruction::Sys(r[1], Call::Exit)];
-    let want = Outcome {
-        end: End::Stopped(Reply::Refused(Cause::RootExit)),
-        counter: 0,
-        values: [0, 0],
-    };
+    let want = (End::Stopped(Reply::Refused(Cause::RootExit)), 0, [0, 0]);
     check_run(&rt, &program, 1, [r[1], r[2]], want);
 }
 
@@ -235,11 +208,7 @@ fn ends_where_its_port_fails(rt: HostRuntime) {
         Instruction::Load(Size::Four, r[1], r[0]),
         Instruction::Load(Size::Four, r[2], r[0]),
     ];
-    let want = Outcome {
-        end: End::PortFault(PortFault(9)),
-        counter: 1,
-        values: [7, 0],
-    };
+    let want = (End::PortFault(PortFault(9)), 1, [7, 0]);
     check_once(&rt, &program, 2, [r[1], r[2]], want);
 }
 
@@ -271,11 +240,7 @@ fn check_single_turns<R: AllocGlobal + Abort>(
 fn runs_on_where_it_ran_out(rt: HostRuntime) {
     let r = registers(&rt);
     let program = stores_and_loads(0x4000_0000, &r);
-    let want = Outcome {
-        end: End::Halted,
-        counter: 4,
-        values: [7, 7],
-    };
+    let want = (End::Halted, 4, [7, 7]);
     check_single_turns(&rt, &program, [r[2], r[3]], want);
 }
 
@@ -289,11 +254,11 @@ fn fills_its_quota(rt: HostRuntime) {
         Instruction::Add(r[1], r[1], r[2]),
         Instruction::Jump(2),
     ];
-    let want = Outcome {
-        end: End::Stopped(Reply::Refused(Cause::Quota)),
-        counter: 2,
-        values: [0x4000_d000, 0x1000],
-    };
+    let want = (
+        End::Stopped(Reply::Refused(Cause::Quota)),
+        2,
+        [0x4000_d000, 0x1000],
+    );
     check_run(&rt, &program, 1000, [r[1], r[2]], want);
 }
 
@@ -308,10 +273,6 @@ fn jumps_where_two_are_equal(rt: HostRuntime) {
         Instruction::Set(r[4], 1),
         Instruction::JumpEq(r[3], r[4], 9),
     ];
-    let want = Outcome {
-        end: End::Halted,
-        counter: 9,
-        values: [2, 1],
-    };
+    let want = (End::Halted, 9, [2, 1]);
     check_run(&rt, &program, 6, [r[2], r[3]], want);
 }

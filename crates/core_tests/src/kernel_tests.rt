@@ -1,5 +1,5 @@
 //! A core by its calls.
-use crate::common::same;
+use crate::common::{process, same};
 use kernel_calls::{
     BootFault, Call, Core, Ended, Event, Frame, Outcome, Pid, Reply, Role, WideFault,
 };
@@ -12,10 +12,6 @@ const PAGE: Page = Page(0x40000);
 
 const SIZE: Size = Size::Four;
 
-fn root(rt: &impl Abort) -> Pid {
-    Pid::new(0).expect(rt, "0 is below 64")
-}
-
 fn event(pid: Pid, call: Call) -> Event {
     Event { cpu: 0, pid, call }
 }
@@ -23,7 +19,7 @@ fn event(pid: Pid, call: Call) -> Event {
 /// The root's quota on a core of so many frames.
 fn booted<R: AllocGlobal + Abort>(rt: &R, frames: u32) -> Result<u32, BootFault> {
     let core = Core::boot(rt.alloc(), frames)?;
-    let container = core.container(root(rt));
+    let container = core.container(process(rt, 0));
     Ok(container.map(|container| container.quota).unwrap_or(0))
 }
 
@@ -45,7 +41,7 @@ fn boots_16_to_4096_frames(rt: HostRuntime) {
 /// The root's quota on a wide core of so many frames.
 fn booted_wide<R: AllocGlobal + Abort>(rt: &R, frames: u32) -> Result<u32, WideFault> {
     let core = Core::boot_wide(rt.alloc(), frames)?;
-    let container = core.container(root(rt));
+    let container = core.container(process(rt, 0));
     Ok(container.map(|container| container.quota).unwrap_or(0))
 }
 
@@ -66,7 +62,7 @@ fn boots_wide_past_4096_frames(rt: HostRuntime) {
 #[test]
 fn maps_stores_loads_and_unmaps(rt: HostRuntime) -> Result<(), Fail> {
     let mut core = Core::boot(rt.alloc(), 16)?;
-    let root = root(&rt);
+    let root = process(&rt, 0);
     let (page, addr, size) = (PAGE, Vaddr(0x4000_0ffc), SIZE);
     let value = 0xdead_beef;
     let events = [
@@ -95,7 +91,7 @@ fn maps_stores_loads_and_unmaps(rt: HostRuntime) -> Result<(), Fail> {
 
 /// The role of the frame of the root's directory, of which there is one.
 fn role_of_directory(rt: &impl Abort, core: &Core) -> Role {
-    let directory = core.directory(root(rt)).expect(rt, "a directory");
+    let directory = core.directory(process(rt, 0)).expect(rt, "a directory");
     assert!(rt; directory.0 < core.frames());
     core.role(directory)
 }
@@ -103,7 +99,7 @@ fn role_of_directory(rt: &impl Abort, core: &Core) -> Role {
 #[test]
 fn boots_with_a_directory_in_memory(rt: HostRuntime) -> Result<(), Fail> {
     let core = Core::boot(rt.alloc(), 16)?;
-    let pid = root(&rt);
+    let pid = process(&rt, 0);
     same(
         &rt,
         &role_of_directory(&rt, &core),
@@ -116,14 +112,14 @@ fn boots_with_a_directory_in_memory(rt: HostRuntime) -> Result<(), Fail> {
 
 /// A call of the root is decided with this charge, and committed with this reply.
 fn decide(rt: &impl Abort, core: &mut Core, call: Call, used: u32, reply: Reply) {
-    let decision = core.decide(&event(root(rt), call));
+    let decision = core.decide(&event(process(rt, 0), call));
     same(rt, &decision.used_after, &used);
     same(rt, &core.commit(decision), &reply);
 }
 
 /// A call of the root is carried out with this charge and this reply.
 fn perform(rt: &impl Abort, core: &mut Core, call: Call, used: u32, reply: Reply) {
-    let outcome = core.perform(&event(root(rt), call));
+    let outcome = core.perform(&event(process(rt, 0), call));
     same(
         rt,
         &outcome,
@@ -179,7 +175,7 @@ fn page_ended(ended: &Ended) -> Option<Page> {
 
 /// Checks that a call of the root is done, and that it makes the translations of that page stale, or of no page.
 fn ends(rt: &impl Abort, core: &mut Core, call: Call, page: Option<Page>) {
-    let told = core.step_ending(&event(root(rt), call));
+    let told = core.step_ending(&event(process(rt, 0), call));
     same(rt, &told.0, &Reply::Done);
     same(rt, &page_ended(&told.1), &page);
 }

@@ -1,6 +1,6 @@
 //! A lazy page: what memory's words say of it, until it is stored to.
 
-use crate::common::same;
+use crate::common::{process, same};
 use kernel_calls::{Call, Core, Event, Frame, Pid, Reply};
 use page_words::{DirWord, Page, Size, Vaddr, index_of, slot_of};
 use std::process::Abort;
@@ -9,10 +9,6 @@ use std::test::Fail;
 const ADDRESS: Vaddr = Vaddr(0x4000_0000);
 
 const PAGE: Page = Page(0x40000);
-
-fn root(rt: &impl Abort) -> Pid {
-    Pid::new(0).expect(rt, "0 is below 64")
-}
 
 /// The word of an index of a frame, or 0 outside memory.
 fn word_at(core: &Core, frame: Frame, index: u32) -> u32 {
@@ -39,7 +35,7 @@ fn table_word(core: &Core, root: Pid) -> u32 {
 /// A call of the root has this reply, and leaves these flags in the page's table word: whether it names a frame
 /// of its own then.
 fn check(rt: &impl Abort, core: &mut Core, call: Call, reply: Reply, flags: u32, has_frame: bool) {
-    let pid = root(rt);
+    let pid = process(rt, 0);
     let told = core.step(&Event { cpu: 0, pid, call });
     let word = table_word(core, pid);
     same(

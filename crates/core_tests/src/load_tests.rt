@@ -1,8 +1,8 @@
 //! A kernel loads bytes into the pages of a process: all of them, or none.
 
-use crate::common::same;
+use crate::common::{check, info, peek, process, same, share};
 use kernel_acts::load_bytes;
-use kernel_calls::{Call, Cause, Core, Event, Page, Pid, Reply, Size, Vaddr};
+use kernel_calls::{Call, Cause, Core, Page, Reply, Size, Vaddr};
 use std::process::Abort;
 use std::test::Fail;
 
@@ -15,22 +15,26 @@ const ADDRESS: Vaddr = Vaddr(0x4000_0ffd);
 
 const BYTES: [u8; 6] = [1, 2, 3, 4, 5, 6];
 
-fn process(rt: &impl Abort, number: u8) -> Pid {
-    Pid::new(number).expect(rt, "a number below 64")
-}
-
-/// A call of a process has this reply.
-fn check(rt: &impl Abort, core: &mut Core, number: u8, call: Call, reply: Reply) {
-    let pid = process(rt, number);
-    same(rt, &core.step(&Event { cpu: 0, pid, call }), &reply);
-}
-
 /// A core with process 1, which has that quota.
 fn with_child<R: AllocGlobal + Abort>(rt: &R, quota: u32) -> Core {
     let mut core = Core::boot(rt.alloc(), 32).ok().expect(rt, "a core");
     let child = Reply::Child(process(rt, 1));
     check(rt, &mut core, 0, Call::Spawn { quota }, child);
     core
+}
+
+/// A load of these bytes has this result.
+fn load_of(
+    rt: &impl Abort,
+    core: &mut Core,
+    number: u8,
+    at: Vaddr,
+    bytes: &[u8],
+    write: bool,
+    told: Result<(), Cause>,
+) {
+    let pid = process(rt, number);
+    same(rt, &load_bytes(core, pid, at, bytes, write), &told);
 }
 
 /// A load of the six bytes has this result.
@@ -42,32 +46,7 @@ fn load(
     write: bool,
     told: Result<(), Cause>,
 ) {
-    let pid = process(rt, number);
-    same(rt, &load_bytes(core, pid, at, &BYTES, write), &told);
-}
-
-/// From an address on, so many bytes of a process are mapped, and these are the first six; where none is, they are 9.
-fn peek(rt: &impl Abort, core: &Core, number: u8, at: Vaddr, count: usize, bytes: [u8; 6]) {
-    let mut out = [9; 6];
-    same(
-        rt,
-        &kernel_acts::peek(core, process(rt, number), at, &mut out),
-        &count,
-    );
-    same(rt, &out, &bytes);
-}
-
-/// A process's page has these flags (write, may, accessed, dirty) and so many holders.
-fn info(rt: &impl Abort, core: &mut Core, number: u8, page: Page, flags: [bool; 4], holders: u32) {
-    let [write, may, accessed, dirty] = flags;
-    let info = Reply::Info {
-        write,
-        may,
-        accessed,
-        dirty,
-        holders,
-    };
-    check(rt, core, number, Call::Info { page }, info);
+    load_of(rt, core, number, at, &BYTES, write, told);
 }
 
 /// A process has neither LOW nor HIGH, and is charged for so many frames.
@@ -96,37 +75,39 @@ fn loads_bytes_into_two_pages_and_leaves_the_right(rt: HostRuntime) {
 #[test]
 fn loads_a_page_between_two_others(rt: HostRuntime) {
     let mut core = with_child(&rt, 5);
-    let bytes = [7; 4100];
-    let pid = process(&rt, 1);
-    same(
-        &rt,
-        &load_bytes(&mut core, pid, ADDRESS, &bytes, true),
-        &Ok(()),
-    );
+    load_of(&rt, &mut core, 1, ADDRESS, &[7; 4100], true, Ok(()));
     peek(&rt, &core, 1, Vaddr(0x4000_0ffb), 6, [0, 0, 7, 7, 7, 7]);
     peek(&rt, &core, 1, Vaddr(0x4000_1ffd), 6, [7, 7, 7, 7, 0, 0]);
     peek(&rt, &core, 1, Vaddr(0x4000_2ffd), 3, [0, 0, 0, 9, 9, 9]);
 }
 
+/// With that quota process 1 can't load the six bytes there: nothing changes.
+fn refuses<R: AllocGlobal + Abort>(rt: &R, at: Vaddr, quota: u32) {
+    let mut core = with_child(rt, quota);
+    load(rt, &mut core, 1, at, true, Err(Cause::Quota));
+    check_untouched(rt, &core, 1, 1);
+}
+
+/// With that quota process 1 loads the six bytes there.
+fn loads<R: AllocGlobal + Abort>(rt: &R, at: Vaddr, quota: u32) -> Core {
+    let mut core = with_child(rt, quota);
+    load(rt, &mut core, 1, at, true, Ok(()));
+    core
+}
+
 /// The directory, a table and two pages are four frames.
 #[test]
 fn loads_nothing_where_the_quota_ends_at_the_last_page(rt: HostRuntime) {
-    let mut core = with_child(&rt, 3);
-    load(&rt, &mut core, 1, ADDRESS, true, Err(Cause::Quota));
-    check_untouched(&rt, &core, 1, 1);
-    let mut core = with_child(&rt, 4);
-    load(&rt, &mut core, 1, ADDRESS, true, Ok(()));
+    refuses(&rt, ADDRESS, 3);
+    loads(&rt, ADDRESS, 4);
 }
 
 /// Pages 403ff and 40400 lie in two regions, so that each needs a table.
 #[test]
 fn counts_the_table_of_each_region(rt: HostRuntime) {
     let address = Vaddr(0x403f_fffd);
-    let mut core = with_child(&rt, 4);
-    load(&rt, &mut core, 1, address, true, Err(Cause::Quota));
-    check_untouched(&rt, &core, 1, 1);
-    let mut core = with_child(&rt, 5);
-    load(&rt, &mut core, 1, address, true, Ok(()));
+    refuses(&rt, address, 4);
+    let core = loads(&rt, address, 5);
     peek(&rt, &core, 1, address, 6, BYTES);
 }
 
@@ -143,23 +124,6 @@ fn loads_nothing_outside_the_user_range(rt: HostRuntime) {
     load(&rt, &mut core, 2, Vaddr(0xefff_fffd), true, none);
 }
 
-/// Process 1 accepts the root's page LOW, as that page, with that right.
-fn share(rt: &impl Abort, core: &mut Core, page: Page, write: bool) {
-    let (giver, target) = (process(rt, 0), process(rt, 1));
-    let offer = Call::Offer {
-        page: LOW,
-        target,
-        write,
-    };
-    let accept = Call::Accept {
-        giver,
-        giver_page: LOW,
-        page,
-    };
-    check(rt, core, 0, offer, Reply::Done);
-    check(rt, core, 1, accept, Reply::Done);
-}
-
 /// The root stores 4 bytes at the start of LOW.
 fn store(rt: &impl Abort, core: &mut Core) {
     let (addr, size, value) = (Vaddr(0x4000_0000), Size::Four, 0x0403_0201);
@@ -171,7 +135,7 @@ fn store(rt: &impl Abort, core: &mut Core) {
 fn loads_nothing_without_a_right(rt: HostRuntime) {
     let mut core = with_child(&rt, 3);
     store(&rt, &mut core);
-    share(&rt, &mut core, HIGH, false);
+    share(&rt, &mut core, 1, HIGH, false);
     load(&rt, &mut core, 1, ADDRESS, false, Err(Cause::Rights));
     peek(&rt, &core, 1, Vaddr(0x4000_1000), 6, [1, 2, 3, 4, 0, 0]);
     info(&rt, &mut core, 1, HIGH, [false, false, false, false], 2);
@@ -184,31 +148,22 @@ fn loads_nothing_without_a_right(rt: HostRuntime) {
 fn last_byte_of_a_page_at_two_addresses_stays(rt: HostRuntime) {
     let mut core = with_child(&rt, 4);
     store(&rt, &mut core);
-    share(&rt, &mut core, LOW, true);
-    share(&rt, &mut core, HIGH, true);
+    share(&rt, &mut core, 1, LOW, true);
+    share(&rt, &mut core, 1, HIGH, true);
     load(&rt, &mut core, 1, ADDRESS, true, Ok(()));
     peek(&rt, &core, 1, ADDRESS, 6, BYTES);
-    let pid = process(&rt, 1);
-    let bytes = [7; 4100];
-    same(
-        &rt,
-        &load_bytes(&mut core, pid, ADDRESS, &bytes, true),
-        &Err(Cause::Quota),
-    );
-    let page = [5; 4097];
+    let quota = Err(Cause::Quota);
+    load_of(&rt, &mut core, 1, ADDRESS, &[7; 4100], true, quota);
     let at = Vaddr(0x4000_0fff);
-    same(&rt, &load_bytes(&mut core, pid, at, &page, true), &Ok(()));
+    load_of(&rt, &mut core, 1, at, &[5; 4097], true, Ok(()));
     peek(&rt, &core, 0, Vaddr(0x4000_0000), 6, [5; 6]);
 }
 
 #[test]
 fn loads_no_byte_at_all(rt: HostRuntime) {
     let mut core = with_child(&rt, 1);
-    let pid = process(&rt, 1);
     let far = Vaddr(0xffff_ffff);
-    same(&rt, &load_bytes(&mut core, pid, far, &[], true), &Ok(()));
-    let gone = process(&rt, 2);
-    let none = Err(Cause::NoProcess);
-    same(&rt, &load_bytes(&mut core, gone, far, &[], true), &none);
+    load_of(&rt, &mut core, 1, far, &[], true, Ok(()));
+    load_of(&rt, &mut core, 2, far, &[], true, Err(Cause::NoProcess));
     check_untouched(&rt, &core, 1, 1);
 }

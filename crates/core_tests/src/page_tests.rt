@@ -1,7 +1,8 @@
 //! What a kernel does with a page of a process: it clears marks, copies bytes out, and installs bytes.
 
-use crate::common::same;
-use kernel_calls::{Call, Cause, Core, Event, Page, Pid, Reply, Size, Vaddr};
+use crate::common;
+use crate::common::{check, info, peek, process, same};
+use kernel_calls::{Call, Cause, Core, Page, Reply, Size, Vaddr};
 use page_words::offset_of;
 use std::process::Abort;
 use std::test::Fail;
@@ -12,16 +13,6 @@ const HIGH: Page = Page(0x40001);
 
 /// The last four bytes of LOW.
 const ADDRESS: Vaddr = Vaddr(0x4000_0ffc);
-
-fn process(rt: &impl Abort, number: u8) -> Pid {
-    Pid::new(number).expect(rt, "a number below 64")
-}
-
-/// A call of a process has this reply.
-fn check(rt: &impl Abort, core: &mut Core, number: u8, call: Call, reply: Reply) {
-    let pid = process(rt, number);
-    same(rt, &core.step(&Event { cpu: 0, pid, call }), &reply);
-}
 
 /// A process stores the bytes 1 to 4 to the last of LOW.
 fn store(rt: &impl Abort, core: &mut Core, reply: Reply) {
@@ -35,33 +26,9 @@ fn map(rt: &impl Abort, core: &mut Core, page: Page, write: bool) {
 
 /// Process 1 accepts the root's page LOW as its page HIGH, with that right.
 fn share(rt: &impl Abort, core: &mut Core, write: bool) {
-    let (giver, target) = (process(rt, 0), process(rt, 1));
-    let offer = Call::Offer {
-        page: LOW,
-        target,
-        write,
-    };
-    let accept = Call::Accept {
-        giver,
-        giver_page: LOW,
-        page: HIGH,
-    };
-    check(rt, core, 0, Call::Spawn { quota: 5 }, Reply::Child(target));
-    check(rt, core, 0, offer, Reply::Done);
-    check(rt, core, 1, accept, Reply::Done);
-}
-
-/// A process's page has these flags (write, may, accessed, dirty) and so many holders.
-fn info(rt: &impl Abort, core: &mut Core, number: u8, page: Page, flags: [bool; 4], holders: u32) {
-    let [write, may, accessed, dirty] = flags;
-    let info = Reply::Info {
-        write,
-        may,
-        accessed,
-        dirty,
-        holders,
-    };
-    check(rt, core, number, Call::Info { page }, info);
+    let child = Reply::Child(process(rt, 1));
+    check(rt, core, 0, Call::Spawn { quota: 5 }, child);
+    common::share(rt, core, 1, HIGH, write);
 }
 
 /// The root's first page is LOW. Its marks are cleared; it was dirty or not.
@@ -103,17 +70,6 @@ fn clears_marks_and_returns_whether_a_page_was_dirty(rt: HostRuntime) -> Result<
     clean(&rt, &mut core, false);
     info(&rt, &mut core, 0, LOW, [true, true, false, false], 1);
     Ok(())
-}
-
-/// So many bytes of a process are copied from an address on; the rest stay 9.
-fn peek(rt: &impl Abort, core: &Core, number: u8, at: Vaddr, count: usize, bytes: [u8; 6]) {
-    let mut out = [9; 6];
-    same(
-        rt,
-        &kernel_acts::peek(core, process(rt, number), at, &mut out),
-        &count,
-    );
-    same(rt, &out, &bytes);
 }
 
 /// LOW is real and HIGH lazy; process 1 has LOW at HIGH, where nothing is marked yet.

@@ -1,5 +1,6 @@
 //! Accesses, planned and settled.
-use crate::common::same;
+use crate::common::{process, same};
+use crate::process_tests::{check_lazy, map, spawn};
 use fault_handler::{PageStep, Plan, Stop, plan, settle};
 use page_words::{Page, Pid, Size, Vaddr};
 use process_table::{Cause, Processes};
@@ -13,10 +14,6 @@ const ADDRESS: Vaddr = Vaddr(0x4000_0ffc);
 
 const BELOW: Vaddr = Vaddr(0x3fff_fffe);
 
-fn root(rt: &impl Abort) -> Pid {
-    Pid::new(0).expect(rt, "0 is below 64")
-}
-
 /// An access of the root of four bytes has this plan.
 fn check_plan(
     rt: &impl Abort,
@@ -25,22 +22,10 @@ fn check_plan(
     access: Access,
     expected: Plan,
 ) {
-    let pid = root(rt);
+    let pid = process(rt, 0);
     assert!(rt; processes.live(pid));
     let found = plan(processes, pid, address, Size::Four, access);
     same(rt, &found, &expected);
-}
-
-fn map_page(rt: &impl Abort, processes: &mut Processes, page: Page, write: bool) {
-    let pid = root(rt);
-    assert!(rt; processes.can_map(pid, page).is_ok());
-    processes.map(pid, page, write);
-}
-
-fn spawn(rt: &impl Abort, processes: &mut Processes, quota: u32) {
-    let pid = root(rt);
-    assert!(rt; processes.can_spawn(pid, quota).is_ok());
-    processes.spawn(pid, quota);
 }
 
 fn one(first: PageStep) -> Plan {
@@ -66,7 +51,7 @@ fn plans_by_the_first_line_that_applies(rt: HostRuntime) -> Result<(), Fail> {
         Access::Write,
         one(PageStep::MapZero),
     );
-    map_page(&rt, &mut processes, PAGE, false);
+    map(&rt, &mut processes, process(&rt, 0), PAGE, false);
     check_plan(&rt, &processes, ADDRESS, Access::Write, fault(ADDRESS, 7));
     check_plan(
         &rt,
@@ -75,7 +60,7 @@ fn plans_by_the_first_line_that_applies(rt: HostRuntime) -> Result<(), Fail> {
         Access::Read,
         one(PageStep::Complete),
     );
-    spawn(&rt, &mut processes, 12);
+    spawn(&rt, &mut processes, process(&rt, 0), 12);
     let elsewhere = Vaddr(0x4000_1000);
     check_plan(
         &rt,
@@ -95,7 +80,7 @@ fn check_settled(
     value: u32,
     expected: u32,
 ) {
-    let pid = root(rt);
+    let pid = process(rt, 0);
     assert!(rt; processes.live(pid));
     let plan = plan(processes, pid, ADDRESS, Size::Four, access);
     let read = match plan {
@@ -123,7 +108,7 @@ fn check_access(
     value: u32,
     expected: Result<u32, Stop>,
 ) {
-    let pid = root(rt);
+    let pid = process(rt, 0);
     let found = fault_handler::access(processes, pid, address, Size::Four, access, value);
     same(rt, &found, &expected);
 }
@@ -167,11 +152,18 @@ fn accesses_one_page(rt: HostRuntime) -> Result<(), Fail> {
     Ok(())
 }
 
+/// An access of a process that is not live is refused.
+fn check_nobody(rt: &impl Abort, processes: &mut Processes, nobody: Pid) {
+    let (size, read) = (Size::Four, Access::Read);
+    let found = fault_handler::access(processes, nobody, ADDRESS, size, read, 0);
+    same(rt, &found, &Err(Stop::Refused(Cause::NoProcess)));
+}
+
 #[test]
 fn an_access_stops_by_its_plan(rt: HostRuntime) -> Result<(), Fail> {
     let mut processes = Processes::new(rt.alloc(), 16)?;
     let beside = Vaddr(0x4000_1000);
-    map_page(&rt, &mut processes, Page(0x40001), false);
+    map(&rt, &mut processes, process(&rt, 0), Page(0x40001), false);
     let barred = PageFault {
         addr: beside,
         code: 7,
@@ -185,7 +177,7 @@ fn an_access_stops_by_its_plan(rt: HostRuntime) -> Result<(), Fail> {
         Err(Stop::Fault(barred)),
     );
     check_access(&rt, &mut processes, beside, Access::Read, 7, Ok(0));
-    spawn(&rt, &mut processes, 12);
+    spawn(&rt, &mut processes, process(&rt, 0), 12);
     check_access(
         &rt,
         &mut processes,
@@ -194,10 +186,7 @@ fn an_access_stops_by_its_plan(rt: HostRuntime) -> Result<(), Fail> {
         7,
         Err(Stop::Refused(Cause::Quota)),
     );
-    let nobody = Pid::new(63).expect(&rt, "63 is below 64");
-    let (size, read) = (Size::Four, Access::Read);
-    let found = fault_handler::access(&mut processes, nobody, ADDRESS, size, read, 0);
-    same(&rt, &found, &Err(Stop::Refused(Cause::NoProcess)));
+    check_nobody(&rt, &mut processes, process(&rt, 63));
     Ok(())
 }
 
@@ -226,12 +215,12 @@ fn accesses_two_pages(rt: HostRuntime) -> Result<(), Fail> {
 #[test]
 fn fills_a_page_that_is_written(rt: HostRuntime) -> Result<(), Fail> {
     let mut processes = Processes::new(rt.alloc(), 16)?;
-    let pid = root(&rt);
-    map_page(&rt, &mut processes, PAGE, true);
+    let pid = process(&rt, 0);
+    map(&rt, &mut processes, pid, PAGE, true);
     check_access(&rt, &mut processes, ADDRESS, Access::Read, 7, Ok(0));
-    same(&rt, &processes.is_lazy(pid, PAGE), &true);
+    check_lazy(&rt, &processes, pid, PAGE, true);
     check_access(&rt, &mut processes, ADDRESS, Access::Write, 7, Ok(0));
-    same(&rt, &processes.is_lazy(pid, PAGE), &false);
+    check_lazy(&rt, &processes, pid, PAGE, false);
     check_access(&rt, &mut processes, ADDRESS, Access::Write, 9, Ok(0));
     check_access(&rt, &mut processes, ADDRESS, Access::Read, 7, Ok(9));
     let below = PageFault {

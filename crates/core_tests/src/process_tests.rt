@@ -1,5 +1,5 @@
 //! Processes by their calls: an example of each test and of each call.
-use crate::common::same;
+use crate::common::{process, same};
 use address_space::Cell;
 use page_words::{
     MachineFault, Page, Pid, Size, Vaddr, WideFault, in_user_range, page_of, second_page,
@@ -21,11 +21,7 @@ const THERE: Vaddr = Vaddr(0x4000_0008);
 /// An address in HIGH.
 const HERE: Vaddr = Vaddr(0x4000_1008);
 
-fn process(rt: &impl Abort, number: u8) -> Pid {
-    Pid::new(number).expect(rt, "a number below 64")
-}
-
-fn map(rt: &impl Abort, processes: &mut Processes, pid: Pid, page: Page, write: bool) {
+pub fn map(rt: &impl Abort, processes: &mut Processes, pid: Pid, page: Page, write: bool) {
     assert!(rt; processes.can_map(pid, page).is_ok());
     processes.map(pid, page, write);
 }
@@ -69,7 +65,7 @@ fn accept(
     processes.accept(pid, giver, giver_page, page);
 }
 
-fn spawn(rt: &impl Abort, processes: &mut Processes, pid: Pid, quota: u32) -> Pid {
+pub fn spawn(rt: &impl Abort, processes: &mut Processes, pid: Pid, quota: u32) -> Pid {
     assert!(rt; processes.can_spawn(pid, quota).is_ok());
     processes.spawn(pid, quota)
 }
@@ -145,7 +141,7 @@ fn check_untouched(
     same(rt, &processes.spaces().cell(pid, page), &Some(cell));
 }
 
-fn check_lazy(rt: &impl Abort, processes: &Processes, pid: Pid, page: Page, lazy: bool) {
+pub fn check_lazy(rt: &impl Abort, processes: &Processes, pid: Pid, page: Page, lazy: bool) {
     assert!(rt; in_user_range(page));
     same(rt, &processes.is_lazy(pid, page), &lazy);
 }

@@ -1,6 +1,6 @@
 //! A log that is absorbed entry by entry, and the text of a report.
 
-use crate::common::same;
+use crate::common::{process, same};
 use base_tests::streams::{BrokenWriter, Pieces};
 use kernel_calls::{Call, Core, Event, Reply};
 use memory_report::{LogEntry, Report, Row, WriteFailed, report_of};
@@ -13,10 +13,6 @@ const TEXT: &[u8] =
     b"process 0 parent 0 quota 15 used 3 given 5\nprocess 1 parent 0 quota 5 used 3 given 0\ntotal 6\n";
 
 const PAGE: Page = Page(0x40000);
-
-fn process(rt: &impl Abort, number: u8) -> Pid {
-    Pid::new(number).expect(rt, "a number below 64")
-}
 
 /// The report is that of the core, with this total.
 fn check_total(rt: &impl Abort, core: &Core, report: &Report, total: u64) {

@@ -3,7 +3,7 @@ ghost use Rattle.std.specs.Prelude.{◌≡◌, ◌+◌, ◌≤◌, length};
 ghost use Rattle.page_words.specs.Addresses.{IsUserPage};
 ghost use Rattle.address_space.specs.View.{total_cost};
 
-use crate::common::same;
+use crate::common::{process, same};
 use address_space::{Cell, Spaces};
 use alloc_table::Role;
 use page_words::{
@@ -19,10 +19,6 @@ const ADDRESS: Vaddr = Vaddr(0x4000_0ffc);
 
 /// The last page of the first region.
 const LAST: Page = Page(0x403ff);
-
-fn process(rt: &impl Abort, number: u8) -> Pid {
-    Pid::new(number).expect(rt, "a number below 64")
-}
 
 /// Gives a process an empty space.
 fn begin(rt: &impl Abort, spaces: &mut Spaces, pid: Pid)

@@ -1,7 +1,7 @@
 //! A process's memory in and out, and its pages one after the other.
 ghost use Rattle.c_handle.specs.Handle.{IsTower};
 
-use crate::common::same;
+use crate::common::{process, same};
 use c_handle::{Tower, put, take};
 use kernel_acts::{Transfer, read_bytes, write_bytes};
 use kernel_calls::{Core, Pid, Reply};
@@ -9,19 +9,15 @@ use page_words::{Page, Vaddr, in_user_range};
 use std::process::Abort;
 use std::test::Fail;
 
-fn root(rt: &impl Abort) -> Pid {
-    Pid::new(0).expect(rt, "0 is below 64")
-}
-
 /// So many bytes of the root go in from an address on, and then this stops them.
 fn writes(rt: &impl Abort, core: &mut Core, at: Vaddr, bytes: &[u8], told: &Transfer) {
-    same(rt, &write_bytes(core, root(rt), at, bytes), told);
+    same(rt, &write_bytes(core, process(rt, 0), at, bytes), told);
 }
 
 /// Four bytes of the root from an address on are these; those behind the last that went stay 9.
 fn reads(rt: &impl Abort, core: &mut Core, at: Vaddr, bytes: [u8; 4], told: &Transfer) {
     let mut out = [9; 4];
-    let went = read_bytes(core, root(rt), at, &mut out);
+    let went = read_bytes(core, process(rt, 0), at, &mut out);
     same(rt, &went, told);
     same(rt, &out, &bytes);
 }
@@ -51,14 +47,14 @@ fn copies_a_processs_memory_in_and_out(rt: HostRuntime) -> Result<(), Fail> {
 /// The root's next page from there on.
 fn next(rt: &impl Abort, core: &Core, from: u32, page: Option<u32>) {
     let page = page.map(|page| Page(page));
-    same(rt, &core.next_page(root(rt), Page(from)), &page);
+    same(rt, &core.next_page(process(rt, 0), Page(from)), &page);
 }
 
 /// Whether a page of the root is lazy, and how many slots its group has; None where it is not mapped.
 fn stands(rt: &impl Abort, core: &Core, page: u32, told: Option<(bool, u32)>) {
     let page = Page(page);
     assert!(rt; in_user_range(page));
-    let state = core.page(root(rt), page);
+    let state = core.page(process(rt, 0), page);
     same(rt, &state.map(|it| (it.lazy, it.cell.holders)), &told);
 }
 

@@ -1,6 +1,6 @@
 //! Walks of a core's memory as a processor makes them, and what it does to a directory word.
 
-use crate::common::same;
+use crate::common::{process, same};
 use kernel_calls::{Call, Core, Event, Page, Pid, Reply, Size, Vaddr};
 use page_words::{DirWord, in_user_range, slot_of};
 use std::process::Abort;
@@ -12,10 +12,6 @@ const ACROSS: Vaddr = Vaddr(0x4000_0ffe);
 
 /// The first byte of the second page.
 const BEHIND: Vaddr = Vaddr(0x4000_1000);
-
-fn root(rt: &impl Abort) -> Pid {
-    Pid::new(0).expect(rt, "0 is below 64")
-}
 
 fn load(pid: Pid) -> Event {
     let (addr, size) = (ACROSS, Size::Four);
@@ -31,7 +27,7 @@ fn store(pid: Pid, value: u32) -> Event {
 
 /// Whether the walks of the root's directory find a frame for each of the two pages.
 fn finds(rt: &impl Abort, core: &Core, access: Access) -> bool {
-    let directory = core.directory(root(rt)).expect(rt, "a directory");
+    let directory = core.directory(process(rt, 0)).expect(rt, "a directory");
     walk(core.memory(), directory, ACROSS, access).is_ok()
         && walk(core.memory(), directory, BEHIND, access).is_ok()
 }
@@ -55,7 +51,7 @@ fn check(rt: &impl Abort, core: &mut Core, event: &Event, reply: Reply, found: [
 
 /// Whether accessed is set in the directory word of a page of the root.
 fn is_walked(rt: &impl Abort, core: &Core, page: Page) -> bool {
-    let directory = core.directory(root(rt)).expect(rt, "a directory");
+    let directory = core.directory(process(rt, 0)).expect(rt, "a directory");
     let slot = slot_of(page) as usize;
     let place = directory.0 as usize * 4096 + slot * 4;
     assert!(rt; place + 4 <= core.memory().bytes().len());
@@ -65,7 +61,7 @@ fn is_walked(rt: &impl Abort, core: &Core, page: Page) -> bool {
 #[test]
 fn walks_find_a_store_once_both_pages_have_frames(rt: HostRuntime) -> Result<(), Fail> {
     let mut core = Core::boot(rt.alloc(), 16)?;
-    let (load, store) = (load(root(&rt)), store(root(&rt), 0xdead_beef));
+    let (load, store) = (load(process(&rt, 0)), store(process(&rt, 0), 0xdead_beef));
     assert!(rt; !finds(&rt, &core, Access::Read));
     check(&rt, &mut core, &load, Reply::Value(0), [true, false]);
     check(&rt, &mut core, &store, Reply::Done, [true, true]);
@@ -83,10 +79,10 @@ fn walks_find_a_store_once_both_pages_have_frames(rt: HostRuntime) -> Result<(),
 fn a_directory_word_is_marked_by_itself(rt: HostRuntime) -> Result<(), Fail> {
     let mut core = Core::boot(rt.alloc(), 16)?;
     let page = Page(0x40000);
-    core.step(&load(root(&rt)));
-    walk_by(&mut core, root(&rt), page, true);
+    core.step(&load(process(&rt, 0)));
+    walk_by(&mut core, process(&rt, 0), page, true);
     assert!(rt; is_walked(&rt, &core, page));
-    walk_by(&mut core, root(&rt), page, false);
+    walk_by(&mut core, process(&rt, 0), page, false);
     assert!(rt; !is_walked(&rt, &core, page));
     Ok(())
 }
