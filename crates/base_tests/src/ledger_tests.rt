@@ -100,7 +100,7 @@ fn take_one(rt: &impl Abort, ledger: &mut Ledger, marks: &mut [bool]) -> Option<
     ensures { ledger.new.frames ≡ ledger.old.frames }
 {
     let found = ledger.take();
-    same(rt, &found.is_some(), &marks.iter().any(|mark| *mark));
+    same(rt, &found.is_some(), &(count_free(marks) > 0));
     let frame = found?;
     let place = frame.0 as usize;
     assert!(rt; place < marks.len());

@@ -1,5 +1,5 @@
 //! Offers, and which of them go.
-use crate::comparing::same;
+use crate::comparing::{process, same};
 use page_sharing::{OfferFault, Offers};
 use page_words::{Page, Pid};
 use std::process::Abort;
@@ -7,10 +7,6 @@ use std::process::Abort;
 const LOW: Page = Page(0x40000);
 
 const HIGH: Page = Page(0x40001);
-
-fn process(rt: &impl Abort, number: u8) -> Pid {
-    Pid::new(number).expect(rt, "a number below 64")
-}
 
 /// Makes an offer that can be made.
 fn offer(rt: &impl Abort, offers: &mut Offers, giver: Pid, page: Page, target: Pid, write: bool) {

@@ -1,11 +1,8 @@
 //! Containers and their quotas.
+use crate::comparing::process;
 use page_words::Pid;
 use quota_tree::{QuotaFault, Quotas};
 use std::process::Abort;
-
-fn process(rt: &impl Abort, number: u8) -> Pid {
-    Pid::new(number).expect(rt, "a number below 64")
-}
 
 /// Charges a process for so many frames, which it has room for.
 fn charge(rt: &impl Abort, quotas: &mut Quotas, pid: Pid, frames: u32) {

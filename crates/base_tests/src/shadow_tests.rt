@@ -1,13 +1,11 @@
 //! The walk of four-level tables on words that are written here, and shadow tables in pools of a few frames.
 ghost use Rattle.std.specs.Prelude.{◌<◌};
 
-use crate::comparing::same;
+use crate::comparing::{process, same};
 use byteorder::{ByteOrder, LittleEndian};
-use page_words::{Frame, Page, Pid};
+use page_words::{Frame, Page, Pid, in_user_range};
 use shadow_tables::{LongEnd, ShadowTables, is_kernel_half, long_walk};
-use std::alloc::Global;
 use std::process::Abort;
-use std::test::Fail;
 use table_walk::Access;
 
 type End = Result<u64, LongEnd>;
@@ -46,6 +44,11 @@ fn ends<R: AllocGlobal + Abort>(rt: &R, words: [u64; 4]) -> [Option<End>; 2] {
     ]
 }
 
+/// The walks of one address for a read and for a write end so, by these words.
+fn check_ends<R: AllocGlobal + Abort>(rt: &R, words: [u64; 4], expected: [Option<End>; 2]) {
+    same(rt, &ends(rt, words), &expected);
+}
+
 #[test]
 fn walks_four_levels(rt: HostRuntime) {
     let found = Some(Ok(0x777abc));
@@ -53,76 +56,88 @@ fn walks_four_levels(rt: HostRuntime) {
     let missing = Some(Err(LongEnd::Missing));
     let unmarked = Some(Err(LongEnd::Unmarked));
     let foreign = Some(Err(LongEnd::Foreign));
-    same(
+    check_ends(&rt, [0x11027, 0x12027, 0x13027, 0x777067], [found, found]);
+    check_ends(&rt, [0x11027, 0x12027, 0x13027, 0x777025], [found, denied]);
+    check_ends(&rt, [0x11025, 0x12027, 0x13027, 0x777067], [found, denied]);
+    check_ends(&rt, [0x11027, 0x12023, 0x13027, 0x777067], [denied, denied]);
+    check_ends(
         &rt,
-        &ends(&rt, [0x11027, 0x12027, 0x13027, 0x777067]),
-        &[found, found],
+        [0x11027, 0x12027, 0x13026, 0x777067],
+        [missing, missing],
     );
-    same(
+    check_ends(
         &rt,
-        &ends(&rt, [0x11027, 0x12027, 0x13027, 0x777025]),
-        &[found, denied],
+        [0x11027, 0x12027, 0x13007, 0x777067],
+        [unmarked, unmarked],
     );
-    same(
+    check_ends(
         &rt,
-        &ends(&rt, [0x11025, 0x12027, 0x13027, 0x777067]),
-        &[found, denied],
+        [0x11027, 0x12027, 0x13027, 0x777027],
+        [found, unmarked],
     );
-    same(
+    check_ends(
         &rt,
-        &ends(&rt, [0x11027, 0x12023, 0x13027, 0x777067]),
-        &[denied, denied],
+        [0x11027, 0x120a7, 0x13027, 0x777067],
+        [foreign, foreign],
     );
-    same(
+    check_ends(
         &rt,
-        &ends(&rt, [0x11027, 0x12027, 0x13026, 0x777067]),
-        &[missing, missing],
+        [0x11027, 0x12027, 0x14027, 0x777067],
+        [foreign, foreign],
     );
-    same(
+    check_ends(
         &rt,
-        &ends(&rt, [0x11027, 0x12027, 0x13007, 0x777067]),
-        &[unmarked, unmarked],
-    );
-    same(
-        &rt,
-        &ends(&rt, [0x11027, 0x12027, 0x13027, 0x777027]),
-        &[found, unmarked],
-    );
-    same(
-        &rt,
-        &ends(&rt, [0x11027, 0x120a7, 0x13027, 0x777067]),
-        &[foreign, foreign],
-    );
-    same(
-        &rt,
-        &ends(&rt, [0x11027, 0x12027, 0x14027, 0x777067]),
-        &[foreign, foreign],
-    );
-    same(
-        &rt,
-        &ends(&rt, [0x11027, 0x12027, 0x13027, 0x8000_0000_0077_7067]),
-        &[foreign, foreign],
+        [0x11027, 0x12027, 0x13027, 0x8000_0000_0077_7067],
+        [foreign, foreign],
     );
 }
 
+/// So many times this byte.
+fn bytes_of<R: AllocGlobal + Abort>(rt: &R, byte: u8, count: usize) -> Vec<u8> {
+    vec![in rt.alloc(); byte; count].ok().expect(rt, "memory")
+}
+
 /// Shadow tables over that many frames.
-fn shadow_of(alloc: Global, frames: u32) -> Result<ShadowTables, Fail>
+fn shadow_of<R: AllocGlobal + Abort>(rt: &R, frames: u32) -> ShadowTables
     requires { frames < 16 }
 {
-    let bytes = vec![in alloc; 7u8; 4096 * frames as usize]?;
-    let kernel = vec![in alloc; 8u8; 2048]?;
-    if bytes.len() != 4096 * frames as usize || kernel.len() != 2048 {
-        return Err("a vector has another length".into());
-    }
-    if !is_kernel_half(&kernel) {
-        return Err("no word of the half is present".into());
-    }
-    Ok(ShadowTables::new(alloc, bytes, frames, POOL, BLOCK, kernel)?)
+    let bytes = bytes_of(rt, 7, 4096 * frames as usize);
+    let kernel = bytes_of(rt, 8, 2048);
+    assert!(rt; bytes.len() == 4096 * frames as usize && kernel.len() == 2048);
+    assert!(rt; is_kernel_half(&kernel));
+    let shadow = ShadowTables::new(rt.alloc(), bytes, frames, POOL, BLOCK, kernel);
+    shadow.expect(rt, "shadow tables")
+}
+
+/// Whether a page of the user range can be mapped to a frame.
+fn fills(
+    rt: &impl Abort,
+    shadow: &mut ShadowTables,
+    pid: Pid,
+    page: u32,
+    frame: u32,
+    write: bool,
+) -> bool {
+    assert!(rt; in_user_range(Page(page)));
+    assert!(rt; frame < 0x10_0000);
+    shadow.fill(pid, Page(page), Frame(frame), write).is_ok()
 }
 
 /// How the walk of an address ends.
 fn end_at(shadow: &ShadowTables, pid: Pid, address: u64, access: Access) -> Option<End> {
     walked(shadow.bytes(), shadow.root(pid)?, address, access)
+}
+
+/// The walk of an address ends so, if the process has a root.
+fn check_end(
+    rt: &impl Abort,
+    shadow: &ShadowTables,
+    pid: Pid,
+    address: u64,
+    access: Access,
+    expected: Option<End>,
+) {
+    same(rt, &end_at(shadow, pid, address, access), &expected);
 }
 
 /// The last byte of a process's root.
@@ -131,109 +146,61 @@ fn last_of_root(shadow: &ShadowTables, pid: Pid) -> Option<u8> {
     shadow.bytes().get(place as usize).copied()
 }
 
-#[test]
-fn fills_and_forgets(rt: HostRuntime) -> Result<(), Fail> {
-    let mut shadow = shadow_of(rt.alloc(), 4)?;
-    let pid = Pid::new(5).ok_or("a process")?;
-    let other = Pid::new(63).ok_or("a process")?;
-    same(&rt, &end_at(&shadow, pid, 0x40123abc, Access::Read), &None);
-    same(
-        &rt,
-        &shadow.fill(pid, Page(0x40123), Frame(0x777), true).is_ok(),
-        &true,
-    );
-    same(
-        &rt,
-        &end_at(&shadow, pid, 0x40123abc, Access::Write),
-        &Some(Ok(0x1_0077_7abc)),
-    );
-    same(
-        &rt,
-        &shadow.fill(pid, Page(0x40124), Frame(0x778), false).is_ok(),
-        &true,
-    );
-    same(
-        &rt,
-        &end_at(&shadow, pid, 0x40124abc, Access::Read),
-        &Some(Ok(0x1_0077_8abc)),
-    );
-    same(
-        &rt,
-        &end_at(&shadow, pid, 0x40124abc, Access::Write),
-        &Some(Err(LongEnd::Denied)),
-    );
-    same(
-        &rt,
-        &shadow.fill(other, Page(0x40124), Frame(1), false).is_err(),
-        &true,
-    );
-    same(
-        &rt,
-        &(shadow.needed(other, Page(0x40124)), shadow.root(other)),
-        &(4, None),
-    );
-    shadow.forget_page(pid, Page(0x40123));
-    same(
-        &rt,
-        &end_at(&shadow, pid, 0x40123abc, Access::Read),
-        &Some(Err(LongEnd::Missing)),
-    );
-    same(
-        &rt,
-        &shadow
-            .translation(pid, Page(0x40124))
-            .map(|found| found.frame),
-        &Some(Frame(0x778)),
-    );
-    shadow.forget_process(pid);
-    same(&rt, &(shadow.root(pid), shadow.free_count()), &(None, 4));
-    Ok(())
+/// A process without a root needs four frames for a page.
+fn check_full(rt: &impl Abort, shadow: &ShadowTables, pid: Pid) {
+    let found = (shadow.needed(pid, Page(0x40124)), shadow.root(pid));
+    same(rt, &found, &(4, None));
+}
+
+/// A page is still mapped to this frame.
+fn check_frame(rt: &impl Abort, shadow: &ShadowTables, pid: Pid, frame: Frame) {
+    let found = shadow.translation(pid, Page(0x40124));
+    same(rt, &found.map(|found| found.frame), &Some(frame));
 }
 
 #[test]
-fn uses_its_frames_again(rt: HostRuntime) -> Result<(), Fail> {
-    let mut shadow = shadow_of(rt.alloc(), 5)?;
-    let pid = Pid::new(0).ok_or("a process")?;
-    same(
+fn fills_and_forgets(rt: HostRuntime) {
+    let mut shadow = shadow_of(&rt, 4);
+    let (pid, other) = (process(&rt, 5), process(&rt, 63));
+    let missing = Some(Err(LongEnd::Missing));
+    let denied = Some(Err(LongEnd::Denied));
+    check_end(&rt, &shadow, pid, 0x40123abc, Access::Read, None);
+    assert!(rt; fills(&rt, &mut shadow, pid, 0x40123, 0x777, true));
+    let found = Some(Ok(0x1_0077_7abc));
+    check_end(&rt, &shadow, pid, 0x40123abc, Access::Write, found);
+    assert!(rt; fills(&rt, &mut shadow, pid, 0x40124, 0x778, false));
+    let found = Some(Ok(0x1_0077_8abc));
+    check_end(&rt, &shadow, pid, 0x40124abc, Access::Read, found);
+    check_end(&rt, &shadow, pid, 0x40124abc, Access::Write, denied);
+    assert!(rt; !fills(&rt, &mut shadow, other, 0x40124, 1, false));
+    check_full(&rt, &shadow, other);
+    shadow.forget_page(pid, Page(0x40123));
+    check_end(&rt, &shadow, pid, 0x40123abc, Access::Read, missing);
+    check_frame(&rt, &shadow, pid, Frame(0x778));
+    shadow.forget_process(pid);
+    same(&rt, &(shadow.root(pid), shadow.free_count()), &(None, 4));
+}
+
+#[test]
+fn uses_its_frames_again(rt: HostRuntime) {
+    let mut shadow = shadow_of(&rt, 5);
+    let pid = process(&rt, 0);
+    let missing = Some(Err(LongEnd::Missing));
+    assert!(rt; fills(&rt, &mut shadow, pid, 0x40000, 0, true));
+    assert!(rt; !fills(&rt, &mut shadow, pid, 0xeffff, 0xfffff, true));
+    check_end(
         &rt,
-        &shadow.fill(pid, Page(0x40000), Frame(0), true).is_ok(),
-        &true,
-    );
-    same(
-        &rt,
-        &shadow
-            .fill(pid, Page(0xeffff), Frame(0xfffff), true)
-            .is_err(),
-        &true,
-    );
-    same(
-        &rt,
-        &end_at(&shadow, pid, 0x40000000, Access::Write),
-        &Some(Ok(BLOCK)),
+        &shadow,
+        pid,
+        0x40000000,
+        Access::Write,
+        Some(Ok(BLOCK)),
     );
     shadow.forget_all();
-    same(
-        &rt,
-        &shadow
-            .fill(pid, Page(0xeffff), Frame(0xfffff), true)
-            .is_ok(),
-        &true,
-    );
-    same(
-        &rt,
-        &end_at(&shadow, pid, 0xefffffff, Access::Write),
-        &Some(Ok(0x1_ffff_ffff)),
-    );
-    same(
-        &rt,
-        &end_at(&shadow, pid, 0x40000000, Access::Read),
-        &Some(Err(LongEnd::Missing)),
-    );
-    same(
-        &rt,
-        &end_at(&shadow, pid, 0xc0000000, Access::Read),
-        &Some(Err(LongEnd::Missing)),
-    );
+    assert!(rt; fills(&rt, &mut shadow, pid, 0xeffff, 0xfffff, true));
+    let found = Some(Ok(0x1_ffff_ffff));
+    check_end(&rt, &shadow, pid, 0xefffffff, Access::Write, found);
+    check_end(&rt, &shadow, pid, 0x40000000, Access::Read, missing);
+    check_end(&rt, &shadow, pid, 0xc0000000, Access::Read, missing);
     same(&rt, &last_of_root(&shadow, pid), &Some(8));
-    Ok(())
 }
