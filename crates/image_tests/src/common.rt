@@ -1,11 +1,12 @@
 //! Cores, images and bytes that tests make, and comparisons that assert. So a test is a list of calls.
 
-use crate::comparing::same;
+use crate::comparing::{same, same_bytes};
 use crate::images::{other_image, put_all};
 use image_check::{Verdict, check};
 use kernel_calls::{Call, Core, Event};
 use memory_image::{Image, ImageFault, read_image, write_image};
 use page_words::{Page, Pid, Size, Vaddr};
+use std::fmt::Display;
 use std::process::Abort;
 use tower_cli::write_script_image;
 
@@ -149,4 +150,29 @@ pub(crate) fn add(rt: &impl Abort, text: &mut Vec<u8>, part: &[u8]) {
 /// Prints a line.
 pub(crate) fn say<R: Abort + Print>(rt: &R, line: &str) {
     println!(rt; "{line}").ok().expect(rt, "standard output");
+}
+
+/// A fault has this text.
+pub(crate) fn check_fault_text<F: Display, R: AllocGlobal + Abort>(
+    rt: &R,
+    fault: &F,
+    expected: &str,
+) {
+    let text = format!(in rt.alloc(); "{fault}")
+        .ok()
+        .expect(rt, "memory for a text");
+    same_bytes(rt, text.as_bytes(), expected.as_bytes());
+}
+
+/// The line of a process or a frame that fails a clause, with the letter of its clauses.
+pub(crate) fn line_of<R: AllocGlobal + Abort>(
+    rt: &R,
+    kind: &str,
+    number: u32,
+    letter: &str,
+    clause: u32,
+) -> String {
+    format!(in rt.alloc(); "{kind} {number} {letter}{clause}\n")
+        .ok()
+        .expect(rt, "memory for a line")
 }

@@ -1,7 +1,7 @@
 //! Images that were damaged in one word, and images that were cut off: what the check and the command that
 //! checks a file find.
 
-use crate::common::{add, check_fault, image_after, image_in, text_on, verdict_on};
+use crate::common::{add, check_fault, image_after, image_in, line_of, text_on, verdict_on};
 use crate::comparing::{same, same_bytes};
 use crate::images::{place_of, put, record_of, word};
 use command_answers::ToolFault;
@@ -130,10 +130,11 @@ pub(crate) fn a_page_turned_to_a_table(bytes: &[u8], at: &Frames) -> Damage {
 
 /// Adds the line of a frame that fails a clause.
 fn add_line<R: AllocGlobal + Abort>(rt: &R, lines: &mut Vec<u8>, frame: u32, clause: u32) {
-    let line = format!(in rt.alloc(); "frame {frame} F{clause}\n")
-        .ok()
-        .expect(rt, "memory for a line");
-    add(rt, lines, line.as_bytes());
+    add(
+        rt,
+        lines,
+        line_of(rt, "frame", frame, "F", clause).as_bytes(),
+    );
 }
 
 /// Adds the line of the frame of that number, where it fails a clause.

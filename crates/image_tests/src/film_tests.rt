@@ -2,6 +2,7 @@
 //! refused.
 
 use crate::comparing::{same, same_bytes};
+use crate::map_tests::times;
 use base_tests::streams::{BrokenReader, FullWriter, Pieces};
 use command_answers::{Answer, ToolFault};
 use map_jobs::{film_script, write_film};
@@ -94,17 +95,6 @@ fn check_refused<R: AllocGlobal + Abort>(rt: &R, frames: u32) {
 fn films_of_other_sizes_are_refused(rt: HostRuntime) {
     check_refused(&rt, 15);
     check_refused(&rt, 4097);
-}
-
-/// At how many places a page has these rows.
-fn times(page: &[u8], rows: &[u8]) -> usize {
-    let mut found: usize = 0;
-    for place in 0..page.len() {
-        if page[place..].starts_with(rows) {
-            found = found.saturating_add(1);
-        }
-    }
-    found
 }
 
 #[test]

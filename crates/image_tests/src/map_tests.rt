@@ -105,7 +105,7 @@ fn goes_on(text: &[u8], place: usize, part: &[u8]) -> bool {
 }
 
 /// At how many places a text has a part.
-fn times(text: &[u8], part: &[u8]) -> u64 {
+pub(crate) fn times(text: &[u8], part: &[u8]) -> u64 {
     let mut count = 0u64;
     for place in 0..text.len() {
         count = count.wrapping_add(u64::from(goes_on(text, place, part)));

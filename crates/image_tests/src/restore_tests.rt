@@ -1,6 +1,8 @@
 //! Cores restored from images: they continue as the old core does, and an image that fails a clause is refused.
 
-use crate::common::{call, image_in, image_of, other_bytes, process, shared_both_ways, spelled};
+use crate::common::{
+    call, image_in, image_of, line_of, other_bytes, process, shared_both_ways, spelled,
+};
 use crate::comparing::{same, same_bytes};
 use crate::damaged_tests::{Damage, damaged, damages, frames_of, image_bytes, lines_of};
 use crate::images::PAGE_WORDS;
@@ -22,7 +24,7 @@ fn restored<R: AllocGlobal + Abort>(rt: &R, image: Image) -> Core {
 }
 
 /// The reply to a call of a process.
-fn reply(rt: &impl Abort, core: &mut Core, number: u8, call: Call) -> Reply {
+pub(crate) fn reply(rt: &impl Abort, core: &mut Core, number: u8, call: Call) -> Reply {
     let pid = process(rt, number);
     core.step(&Event { cpu: 0, pid, call })
 }
@@ -138,18 +140,14 @@ fn an_image_that_is_not_sound_is_refused(rt: HostRuntime) {
 }
 
 /// The line of a clause that fails, as a verdict writes it.
-fn line_of<R: AllocGlobal + Abort>(rt: &R, failed: Failed) -> String {
-    let line = match failed {
+fn failed_line<R: AllocGlobal + Abort>(rt: &R, failed: Failed) -> String {
+    match failed {
         Failed::Process { pid, clause } => {
-            let (pid, clause) = (pid.number(), clause.number());
-            format!(in rt.alloc(); "process {pid} P{clause}\n")
+            let number = u32::from(pid.number());
+            line_of(rt, "process", number, "P", clause.number())
         }
-        Failed::Frame { frame, clause } => {
-            let (frame, clause) = (frame.0, clause.number());
-            format!(in rt.alloc(); "frame {frame} F{clause}\n")
-        }
-    };
-    line.ok().expect(rt, "memory for a line")
+        Failed::Frame { frame, clause } => line_of(rt, "frame", frame.0, "F", clause.number()),
+    }
 }
 
 /// No core comes of an image with a changed word, and the reason is the first line of its verdict.
@@ -158,7 +156,7 @@ fn check_damage<R: AllocGlobal + Abort>(rt: &R, damage: &Damage) {
     let lines = lines_of(rt, damage);
     match made.err() {
         Some(RestoreFault::NotSound(failed)) => {
-            let line = line_of(rt, failed);
+            let line = failed_line(rt, failed);
             let first = lines.get(..line.len()).expect(rt, "a line");
             same_bytes(rt, first, line.as_bytes());
         }

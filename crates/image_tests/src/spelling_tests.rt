@@ -1,7 +1,8 @@
 //! The image of a core, its bytes, and what is refused of bytes that were changed.
 
 use crate::common::{
-    booted, check_cut, check_fault, image_in, image_of, process, say, spelled, store,
+    booted, check_cut, check_fault, check_fault_text, image_in, image_of, process, say, spelled,
+    store,
 };
 use crate::comparing::{same, same_bytes};
 use crate::images::{put, put_all, word};
@@ -222,22 +223,14 @@ fn stops_where_a_write_fails(rt: HostRuntime) {
     check_broken(&rt, &image, &spelled(&rt, &image));
 }
 
-/// A fault has this text.
-fn check_text<R: AllocGlobal + Abort>(rt: &R, fault: ImageFault, expected: &str) {
-    let text = format!(in rt.alloc(); "{fault}")
-        .ok()
-        .expect(rt, "memory for a text");
-    same_bytes(rt, text.as_bytes(), expected.as_bytes());
-}
-
 #[test]
 fn faults_have_their_texts(rt: HostRuntime) {
     let field = ImageFault::BadField { offset: 140 };
-    check_text(&rt, ImageFault::NotImage, "not an image");
-    check_text(&rt, ImageFault::BadLength, "wrong image length");
-    check_text(&rt, ImageFault::BadVersion, "unknown image version");
-    check_text(&rt, field, "bad field at byte 140");
-    check_text(&rt, ImageFault::NoMemory, "out of memory");
+    check_fault_text(&rt, &ImageFault::NotImage, "not an image");
+    check_fault_text(&rt, &ImageFault::BadLength, "wrong image length");
+    check_fault_text(&rt, &ImageFault::BadVersion, "unknown image version");
+    check_fault_text(&rt, &field, "bad field at byte 140");
+    check_fault_text(&rt, &ImageFault::NoMemory, "out of memory");
 }
 
 /// The image of a core. Where memory is refused it is asked for again, and a line is printed that says so.

@@ -9,18 +9,9 @@ use page_words::{DirWord, Frame, Pid, TableWord};
 use std::alloc::{AllocError, Global};
 use std::process::Abort;
 
-/// What an image says of one mapped page of a process.
-#[derive(Clone, Copy, Debug, PartialEq, Eq)]
-struct Mapped {
-    pid: u8,
-    page: u32,
-    /// Whether the process may write to it now, and whether it may be given that right.
-    write: bool,
-    may: bool,
-    accessed: bool,
-    dirty: bool,
-    lazy: bool,
-}
+/// What an image says of one mapped page of a process: the process's number, the page, and its flags. These are whether
+/// the process may write to it now, whether it may be given that right, accessed, dirty, and whether the page is lazy.
+type Mapped = (u8, u32, [bool; 5]);
 
 /// Whether a process may write to a page now, by its word in an image of this version.
 fn may_write(version: u32, entry: TableWord) -> bool {
@@ -39,15 +30,14 @@ fn is_lazy(version: u32, entry: TableWord) -> bool {
 /// What the word of a page says, in an image of this version.
 fn mapped_by(version: u32, pid: u8, page: u32, word: u32) -> Mapped {
     let entry = TableWord::read(word);
-    Mapped {
-        pid,
-        page,
-        write: may_write(version, entry),
-        may: entry.may(),
-        accessed: entry.accessed(),
-        dirty: entry.dirty(),
-        lazy: is_lazy(version, entry),
-    }
+    let flags = [
+        may_write(version, entry),
+        entry.may(),
+        entry.accessed(),
+        entry.dirty(),
+        is_lazy(version, entry),
+    ];
+    (pid, page, flags)
 }
 
 /// Adds the mapped pages of a table of a process, each with its frame.

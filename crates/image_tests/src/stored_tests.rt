@@ -1,9 +1,11 @@
 //! Images of version 3: a machine of any size is stored and resumed, with its offers.
 
+use crate::common::process;
 use crate::comparing::{same, same_bytes};
+use crate::restore_tests::reply;
 use image_restore::{WideRestoreFault, restore_wide};
-use kernel_calls::{Call, Cause, Core, Event, Reply};
-use page_words::{Page, Pid, Size, Vaddr};
+use kernel_calls::{Call, Cause, Core, Reply};
+use page_words::{Page, Size, Vaddr};
 use std::process::Abort;
 use wide_image::{WideImageFault, read_wide_image, write_core};
 
@@ -15,12 +17,6 @@ const OFFERED: Page = Page(0x40003);
 
 /// Where process 1 accepts it.
 const ACCEPTED: Page = Page(0x50000);
-
-/// The reply to a call of a process.
-fn reply(rt: &impl Abort, core: &mut Core, number: u8, call: Call) -> Reply {
-    let pid = Pid::new(number).expect(rt, "a number below 64");
-    core.step(&Event { cpu: 0, pid, call })
-}
 
 /// Process 0 stores the number of each of its first pages in it.
 fn fill(rt: &impl Abort, core: &mut Core, pages: u8) {
@@ -37,7 +33,7 @@ fn fill(rt: &impl Abort, core: &mut Core, pages: u8) {
 
 /// Process 0 offers a page to process 1.
 fn offer(rt: &impl Abort, core: &mut Core, page: Page, write: bool) {
-    let target = Pid::new(1).expect(rt, "a number below 64");
+    let target = process(rt, 1);
     let call = Call::Offer {
         page,
         target,
@@ -51,9 +47,8 @@ fn prepared<R: AllocGlobal + Abort>(rt: &R) -> Core {
     let core = Core::boot_wide(rt.alloc(), FRAMES);
     let mut core = core.ok().expect(rt, "a wide core");
     fill(rt, &mut core, 20);
-    let child = Pid::new(1).expect(rt, "a number below 64");
     let spawned = reply(rt, &mut core, 0, Call::Spawn { quota: 9 });
-    same(rt, &spawned, &Reply::Child(child));
+    same(rt, &spawned, &Reply::Child(process(rt, 1)));
     offer(rt, &mut core, Page(0x40005), false);
     offer(rt, &mut core, OFFERED, true);
     let page = Page(0x40013);
@@ -79,7 +74,7 @@ fn resumed<R: AllocGlobal + Abort>(rt: &R, bytes: &[u8]) -> Core {
 
 /// Process 1 accepts the offered page.
 fn accepted(rt: &impl Abort, core: &mut Core) -> Reply {
-    let giver = Pid::new(0).expect(rt, "a number below 64");
+    let giver = process(rt, 0);
     let call = Call::Accept {
         giver,
         giver_page: OFFERED,

@@ -1,7 +1,7 @@
 //! A wide core has no image of its own, and is checked where its memory lies.
 
-use crate::common::{booted, process, store};
-use crate::comparing::{same, same_bytes};
+use crate::common::{booted, check_fault_text, process, store};
+use crate::comparing::same;
 use image_check::{ImageRef, Verdict, check_by_ref};
 use kernel_calls::Core;
 use memory_image::{CoreImageFault, Image, processes_of};
@@ -64,14 +64,8 @@ fn only_a_core_of_few_enough_frames_has_an_image(rt: HostRuntime) {
     );
 }
 
-/// A fault has that text.
-fn check_text<R: AllocGlobal + Abort>(rt: &R, fault: CoreImageFault, expected: &str) {
-    let text = format!(in rt.alloc(); "{fault}").ok().expect(rt, "memory");
-    same_bytes(rt, text.as_bytes(), expected.as_bytes());
-}
-
 #[test]
 fn faults_of_an_image_of_a_core_have_texts(rt: HostRuntime) {
-    check_text(&rt, CoreImageFault::TooManyFrames, "more than 4096 frames");
-    check_text(&rt, CoreImageFault::NoMemory, "out of memory");
+    check_fault_text(&rt, &CoreImageFault::TooManyFrames, "more than 4096 frames");
+    check_fault_text(&rt, &CoreImageFault::NoMemory, "out of memory");
 }
