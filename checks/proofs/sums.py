@@ -58,13 +58,14 @@ def parts(file):
 
 @functools.cache
 def named_in(crate):
-    """The heads of functions by their names, and the parts of sources by theirs, in a crate and below."""
+    """The heads of functions by their names, and the parts of sources by theirs, in a crate and below. A trait's
+    function has its last clause in the line that ends it."""
     heads, others = {}, {}
     for it in below(crate):
         for file in sources(it):
             for function in functions_of(file):
                 if it == crate or function.is_public or function.owner:
-                    head = plain(lines_of(file)[function.head : function.body])
+                    head = plain(lines_of(file)[function.head : function.body + 1])
                     heads.setdefault(function.name, []).append((file, head))
             for lines, names in parts(file):
                 for name in names:
