@@ -4,6 +4,7 @@
 again, with its proofs. One run of `rt ci` from scratch builds all of them over one another, so that they fit together.
 Then a stamp on each says what it was built from, as `rt lib` writes it. A changed source still makes the stamp stale.
 """
+import functools
 import importlib.machinery
 import importlib.util
 import os
@@ -21,6 +22,8 @@ def kit():
     module = importlib.util.module_from_spec(importlib.util.spec_from_loader("rtlib", loader))
     sys.modules["rtlib"] = module
     loader.exec_module(module)
+    # (a stamp is a sum over those of all crates below, so that each is computed once and not once for each way to it)
+    module.Crate.stamp = functools.cache(module.Crate.stamp)
     return module
 
 
