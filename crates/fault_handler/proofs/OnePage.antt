@@ -1,18 +1,7 @@
 -- An access in one page of the user range: what it plans, by whether its page is mapped.
 use Rattle.fault_handler.proofs.Prelude
-use Prelude.{◌≡◌, ℕ, nat_lt, arith, true, false, [], ◌∷◌, refl, Some, None, first_by_page}
-use Prelude.{if◌then◌else◌, page_number, second_page, touched, IsUserPage, Size, Spaces, at_page, cell_or_fresh, need}
-use Prelude.{Access, Read, Write, State, is_mapped, overdrawn, View, Quota, access_value}
-use Prelude.{Plan, is_read_only, forbidden, plan_at}
-use Rattle.std.proofs.Common.{◌-◌, Ok, Err}
-use Rattle.process_table.proofs.Overdrawn.{extra_page}
-use Rattle.process_table.specs.State.{container_of, is_live, room}
-use Rattle.quota_tree.specs.declared.Container.{Container}
+use Prelude.{◌≡◌, ℕ, nat_lt, arith, true, false, [], ◌∷◌, refl, Some, None, first_by_page, if◌then◌else◌, page_number, second_page, touched, IsUserPage, Size, Spaces, at_page, cell_or_fresh, need, Access, Read, Write, State, is_mapped, overdrawn, View, Quota, access_value, Plan, is_read_only, forbidden, plan_at, ◌-◌, Ok, Err, extra_page, container_of, is_live, room, Container, access_result, settled, NoProcess, Slot, no_value}
 use Rattle.fault_handler.proofs.Settled.{inside_by_page}
-use Rattle.fault_handler.specs.Plans.{access_result, settled}
-use Rattle.process_table.specs.declared.causes.Cause.TheVariants.{NoProcess}
-use Rattle.address_space.specs.Spaces.{Slot}
-use Rattle.page_words.proofs.OptionLemmas.{no_value}
 use Rattle.page_words.specs.FiniteMap as map
 use Rattle.fault_handler.specs.declared.plans.Stop.TheVariants as stop
 use Rattle.fault_handler.specs.declared.plans.PageStep.TheVariants as step

@@ -1,25 +1,12 @@
 -- An access whose plan is Ready: what its plan says, and that its pages, mapped first, leave what the definition says.
 use Rattle.fault_handler.proofs.Prelude
-use Prelude.{◌≡◌, ℕ, arith, Bool, true, false, not, ◌&&◌, [], ◌∷◌, refl, sym, ap, ◌∙◌, Option, Some, None}
-use Prelude.{option_map, page_number, covered, second_page, touched, EachTouched, IsUserPage, Size, first_by_page}
-use Prelude.{no_value, Slot, Spaces, at_page, cell_or_fresh, need, page_need, access_need, with_page}
-use Prelude.{is_lazy_at, with_touched-same, touched-there, Access, Read, Write, View, memory_of, access_value}
-use Prelude.{after_access, page_is_user, Plan, outside, is_read_only, forbidden, step_at, maps_page, plan_at, goes_on}
-use Prelude.{takes_no_frame}
-use Rattle.std.proofs.Common.{◌≢◌, ◌≤◌, List, inl, inr, is_some}
-use Rattle.address_space.specs.Spaces.{Cell, with_pages}
-use Rattle.fault_handler.specs.Plans.{planned_by, takes_at}
-use Rattle.std.specs.Prelude.{nat_lt, IfSome, find}
-use Rattle.std.proofs.lemmas.Bool.{cases_Bool, false≢true, le-ltb, lt-ltb, not-false}
+use Prelude.{◌≡◌, ℕ, arith, Bool, true, false, not, ◌&&◌, [], ◌∷◌, refl, sym, ap, ◌∙◌, Option, Some, None, option_map, page_number, covered, second_page, touched, EachTouched, IsUserPage, Size, first_by_page, no_value, Slot, Spaces, at_page, cell_or_fresh, need, page_need, access_need, with_page, is_lazy_at, with_touched-same, touched-there, Access, Read, Write, View, memory_of, access_value, after_access, page_is_user, Plan, outside, is_read_only, forbidden, step_at, maps_page, plan_at, goes_on, takes_no_frame, ◌≢◌, ◌≤◌, List, inl, inr, is_some, Cell, with_pages, planned_by, takes_at, IfSome, find, cases_Bool, false≢true, le-ltb, lt-ltb, not-false, need-in_one, need-in_two, cost-with_page, extra_page, extra_touched, State, is_live, is_mapped, room, overdrawn, user_page, not_less}
+use Rattle.std.specs.Prelude.{nat_lt}
 use Rattle.process_table.specs.WellFormed.{IsWellFormed}
 use Rattle.page_words.proofs.MapLemmas.{same_or_not, get-insert}
 use Rattle.page_words.proofs.SetLemmas.{same_apart}
 use Rattle.address_space.proofs.costs.AccessCosts.{key-insert}
-use Rattle.address_space.proofs.costs.AccessNeeds.{need-in_one, need-in_two, cost-with_page}
 use Rattle.table_walk.specs.Walk.{is_write}
-use Rattle.process_table.proofs.Overdrawn.{extra_page, extra_touched}
-use Rattle.process_table.specs.State.{State, is_live, is_mapped, room, overdrawn}
-use Rattle.process_table.proofs.SpaceLaws.{user_page, not_less}
 use Rattle.fault_handler.specs.declared.plans.PageStep.{PageStep}
 use Rattle.page_words.specs.FiniteMap as map
 use Rattle.fault_handler.specs.declared.plans.PageStep.TheVariants as step

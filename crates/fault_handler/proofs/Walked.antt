@@ -1,18 +1,7 @@
 -- An access whose walks find a frame for each of its pages completes as memory stands.
 use Rattle.fault_handler.proofs.Prelude
-use Prelude.{◌≡◌, ℕ, nat_lt, arith, Bool, true, false, None, if◌then◌else◌, find, option_map, page_number, covered}
-use Prelude.{second_page, touched, EachTouched, IsUserPage, Size, first_by_page, slot_at, at_page, cell_or_fresh}
-use Prelude.{is_lazy_at, takes_stores, with_touched-same, Access, Read, Write, extra_touched, State, is_mapped, overdrawn}
-use Prelude.{View, memory_of, Quota, page_is_user, outside, forbidden, fault_or, step_at, plan_at, takes_no_frame}
-use Rattle.fault_handler.specs.Plans.{access_result, at_once, settled, takes_at}
+use Prelude.{◌≡◌, ℕ, nat_lt, arith, Bool, true, false, None, if◌then◌else◌, find, option_map, page_number, covered, second_page, touched, EachTouched, IsUserPage, Size, first_by_page, slot_at, at_page, cell_or_fresh, is_lazy_at, takes_stores, with_touched-same, Access, Read, Write, extra_touched, State, is_mapped, overdrawn, View, memory_of, Quota, page_is_user, outside, forbidden, fault_or, step_at, plan_at, takes_no_frame, access_result, at_once, settled, takes_at, Err, Ok, ap, ◌∙◌, not-true, le-ltb, and_parts, access_value, is_live, NoProcess, Plan, cost-with_touched}
 use Rattle.fault_handler.specs.declared.plans.Stop.TheVariants as stop
-use Rattle.std.proofs.Common.{Err, Ok, ap, ◌∙◌}
-use Rattle.std.proofs.lemmas.Bool.{not-true, le-ltb, and_parts}
-use Rattle.process_table.specs.Calls.{access_value}
-use Rattle.process_table.specs.State.{is_live}
-use Rattle.process_table.specs.declared.causes.Cause.TheVariants.{NoProcess}
-use Rattle.fault_handler.specs.declared.plans.Plan.{Plan}
-use Rattle.address_space.proofs.costs.AccessNeeds.{cost-with_touched}
 use Rattle.fault_handler.proofs.Settled.{all_user, each_page}
 use Rattle.fault_handler.specs.declared.plans.PageStep.TheVariants as step
 use Rattle.fault_handler.specs.declared.plans.Plan.TheVariants as plan

@@ -1,17 +1,12 @@
 -- Two slots of one group lead to one frame.
 use Rattle.kernel_acts.proofs.Prelude
-use Prelude.{◌≡◌, ◌<◌, ◌≤◌, ◌+◌, ◌*◌, ◌^◌, ℕ, [], length, Err, inl, inr, arith, Bool, true, false, not, ◌&&◌, ◌==◌}
-use Prelude.{refl, sym, ap, subst, ◌∙◌, is_some, Option, Some, None, unwrap_or, Ok, ◌↔◌, IsTrue, MatchBool, ◌⊎◌}
-use Prelude.{option_map, option_and_then, cases_lt, page_number, start_number, IsUserPage, frame_bytes, frame_past}
-use Prelude.{walk_of, Read, frame_number, is_lazy, is_lazy_at, directory_at, page_word, page_frame, CellStands}
-use Prelude.{own_frame, Slot, slot_order, Cell, cell_or_fresh, is_slot, at_page, slot_at, way_of, IsCore}
-use Prelude.{WalkEndsBy, way_parts, from_map, owned, own_is, memory_of, State, is_mapped, View}
-use Prelude.{IsWellFormed, same_itself, shares, is_beside, eqb-true, eq-eqb}
+use Prelude.{◌≡◌, ◌<◌, ◌≤◌, ◌+◌, ◌*◌, ◌^◌, ℕ, [], length, Err, inl, inr, arith, Bool, true, false, not, ◌&&◌, ◌==◌, refl, sym, ap, subst, ◌∙◌, is_some, Option, Some, None, unwrap_or, Ok, ◌↔◌, IsTrue, MatchBool, ◌⊎◌, option_map, option_and_then, cases_lt, page_number, start_number, IsUserPage, frame_bytes, frame_past, walk_of, Read, is_lazy_at, directory_at, page_word, page_frame, CellStands, Slot, slot_order, Cell, cell_or_fresh, is_slot, at_page, slot_at, way_of, IsCore, WalkEndsBy, way_parts, owned, own_is, memory_of, State, is_mapped, View, IsWellFormed, same_itself, shares, is_beside, eqb-true, eq-eqb, walks_of, ways_of, way_mapped}
 use Rattle.table_walk.specs.declared.WalkEnd.{WalkEnd}
-use Rattle.kernel_calls.proofs.CoreMemory.{walks_of, ways_of}
-use Rattle.kernel_calls.proofs.Translated.{way_mapped}
 use Rattle.page_words.specs.FiniteMap as map
 use Rattle.page_words.specs.FiniteSet as set
+use Rattle.page_words.specs.Words.{frame_number, is_lazy}
+use Rattle.address_space.specs.ImageWords.{own_frame}
+use Rattle.address_space.proofs.standing.Restored.{from_map}
 
 -- whom a slot shares its page with is mapped
 pub shares_there : (s : State) (slot other : Slot) → IsWellFormed s → shares s slot other ≡ true → is_mapped s other ≡ true

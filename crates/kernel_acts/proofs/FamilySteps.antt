@@ -1,11 +1,7 @@
 -- The loop that ends a family: one Exit more, and the last.
-use Rattle.kernel_acts.proofs.Prelude.{◌≡◌, ◌≢◌, ℕ, ◌+◌, ◌<◌, ◌≤◌, length, take, set, true, false, List, [], ◌∷◌, ◌++◌}
-use Rattle.kernel_acts.proofs.Prelude.{sym, ap, subst, ◌∙◌, Some, arith, take_more_set, map-append, Member, State}
-use Rattle.kernel_acts.proofs.Prelude.{is_live, View, IsWellFormed, exit_of, exits, Descends, EndsFamily, is_child_of}
-use Rattle.kernel_acts.proofs.Prelude.{answer, next, ended_by, CarriesOut, EndAlong, Event, Ended}
-use Rattle.kernel_acts.specs.Acts.{spaces_of_all}
-use Rattle.kernel_acts.proofs.FamilyEnds.{Ending, ending_more, ending_last, parent_below, descends_then, descends_live}
-use Rattle.kernel_acts.proofs.FamilyEnds.{descends_not_root, exit_after, along_more}
+use Rattle.kernel_acts.proofs.Prelude
+use Prelude.{◌≡◌, ◌≢◌, ℕ, ◌+◌, ◌<◌, ◌≤◌, length, take, set, true, false, List, [], ◌∷◌, ◌++◌, sym, ap, subst, ◌∙◌, Some, arith, take_more_set, map-append, Member, State, is_live, View, IsWellFormed, exit_of, exits, Descends, EndsFamily, is_child_of, answer, next, ended_by, CarriesOut, EndAlong, Event, Ended, spaces_of_all}
+use Rattle.kernel_acts.proofs.FamilyEnds.{Ending, ending_more, ending_last, parent_below, descends_then, descends_live, descends_not_root, exit_after, along_more}
 use Rattle.kernel_acts.proofs.Members.{len_removed}
 use Rattle.page_words.specs.FiniteMap as map
 use Rattle.kernel_calls.specs.declared.calls.Reply.TheVariants as reply

@@ -1,14 +1,12 @@
 -- Which frames an event may write, by their roles.
 use Rattle.kernel_acts.proofs.Prelude
-use Prelude.{◌≡◌, ℕ, ◌+◌, ◌≤◌, ◌<◌, ◌==◌, ◌&&◌, Bool, false, not, refl, sym, ap, subst, ◌∙◌, Some, inl, inr, arith, ◌⊎◌}
-use Prelude.{◌↔◌, IsTrue, slice_get, cases_lt, eqb-true, eq-eqb, same_Some, slot_number, Role, Reserved, Free}
-use Prelude.{Directory, Table, Page, directory_at, table_at, page_frame, is_lazy_at, Slot, at_page, way_of}
-use Prelude.{owned, own_is, memory_of, is_mapped, View, both_true, IsCore, Event}
+use Prelude.{◌≡◌, ℕ, ◌+◌, ◌≤◌, ◌<◌, ◌==◌, ◌&&◌, Bool, false, not, refl, sym, ap, subst, ◌∙◌, Some, inl, inr, arith, ◌⊎◌, ◌↔◌, IsTrue, slice_get, cases_lt, eqb-true, eq-eqb, same_Some, slot_number, Reserved, Free, Directory, Table, Page, directory_at, table_at, page_frame, is_lazy_at, Slot, at_page, way_of, owned, own_is, memory_of, is_mapped, View, both_true, IsCore, Event}
 use Rattle.kernel_calls.specs.Written.{TakesLazy, MayWrite}
 use Rattle.kernel_acts.proofs.Beside.{led}
 use Rattle.kernel_calls.proofs.Writings.{unmapped_slot}
 use Rattle.address_space.specs.Image as memory
 use Rattle.kernel_calls.specs.declared.calls.Call.TheVariants as call
+use Rattle.alloc_table.specs.declared.Role.{Role}
 
 -- ---- By the role
 

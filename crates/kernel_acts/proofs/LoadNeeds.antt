@@ -1,13 +1,10 @@
 -- What the pages of a load cost together: each is counted once those before it are mapped.
-use Rattle.kernel_acts.proofs.Prelude.{◌≡◌, ◌≢◌, ℕ, zero, suc, ◌+◌, ◌-◌, ◌<◌, ◌≤◌, ◌==◌, ◌&&◌, Bool, true, false, not}
-use Rattle.kernel_acts.proofs.Prelude.{List, [], ◌∷◌, ◌++◌, append_assoc, refl, sym, ap, ◌∙◌, arith, if◌then◌else◌}
-use Rattle.kernel_acts.proofs.Prelude.{range_with_len, eqb-true, eq-eqb, append-nil, page_number, slot_number}
-use Rattle.kernel_acts.proofs.Prelude.{offset_number, nat_order, range_split, Spaces, at_page, fresh, cost, regions_of}
-use Rattle.kernel_acts.proofs.Prelude.{need, page_need, with_page, with_pages, kept, cost-with_page, need-beside}
-use Rattle.kernel_acts.proofs.Prelude.{same_pages, State, extra_cost, get-inserted_other, pages_under}
+use Rattle.kernel_acts.proofs.Prelude
+use Prelude.{◌≡◌, ◌≢◌, ℕ, zero, suc, ◌+◌, ◌-◌, ◌<◌, ◌≤◌, ◌==◌, ◌&&◌, Bool, true, false, not, List, [], ◌∷◌, ◌++◌, append_assoc, refl, sym, ap, ◌∙◌, arith, if◌then◌else◌, range_with_len, eqb-true, eq-eqb, append-nil, page_number, slot_number, offset_number, nat_order, range_split, Spaces, at_page, fresh, cost, regions_of, need, page_need, with_page, with_pages, kept, cost-with_page, need-beside, State, extra_cost, get-inserted_other, pages_under}
 use Rattle.kernel_acts.proofs.LoadedPages.{pages_more}
 use Rattle.page_words.specs.FiniteMap as map
 use Rattle.page_words.specs.FiniteSet as set
+use Rattle.address_space.proofs.costs.Costs.{same_pages}
 
 with_pages-append : (S : Spaces) (p : ℕ) (xs ys : List ℕ) → with_pages S p (xs ++ ys) ≡ with_pages (with_pages S p xs) p ys
 with_pages-append S p [] ys = refl

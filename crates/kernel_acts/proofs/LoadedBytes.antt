@@ -1,12 +1,6 @@
 -- What stands where bytes were loaded: the bytes, and the right of each page.
 use Rattle.kernel_acts.proofs.Prelude
-use Prelude.{◌≡◌, ◌≢◌, ℕ, ◌+◌, ◌<◌, ◌≤◌, ◌||◌, Bool, true, false, length, take, drop, List, ◌++◌, refl, sym, ap}
-use Prelude.{◌∙◌, Option, Some, None, unwrap_or, inl, inr, arith, ◌⊎◌, if◌then◌else◌, slice_index, option_map}
-use Prelude.{length-take-le, length-append, get_or_append_left, get_or-append-add, get_or-append_right, get_or-take}
-use Prelude.{get_or-drop, offset_number, same, get-map_values, contains-insert, same_cases, same_apart, Slot}
-use Prelude.{slot_order, Spaces, Cell, slot_at, fresh, cell_or_fresh, with_bytes, set_bytes, write_at, protected}
-use Prelude.{stored, State, IsWellFormed, get-inserted, get-inserted_other, shares, installed}
-use Rattle.kernel_calls.proofs.Commuting.{group_at, group_stored}
+use Prelude.{◌≡◌, ◌≢◌, ℕ, ◌+◌, ◌<◌, ◌≤◌, ◌||◌, Bool, true, false, length, take, drop, List, ◌++◌, refl, sym, ap, ◌∙◌, Option, Some, None, unwrap_or, inl, inr, arith, ◌⊎◌, if◌then◌else◌, slice_index, option_map, length-take-le, length-append, get_or_append_left, get_or-append-add, get_or-append_right, get_or-take, get_or-drop, offset_number, same, get-map_values, contains-insert, same_cases, same_apart, Slot, slot_order, Spaces, Cell, slot_at, fresh, cell_or_fresh, with_bytes, set_bytes, write_at, protected, stored, State, IsWellFormed, get-inserted, get-inserted_other, shares, installed, group_at, group_stored}
 use Rattle.page_words.specs.FiniteMap as map
 use Rattle.page_words.specs.FiniteSet as set
 

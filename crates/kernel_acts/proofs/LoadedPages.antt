@@ -1,14 +1,6 @@
 -- The pages of a load, one after another: what is against it, before and after each page.
 use Rattle.kernel_acts.proofs.Prelude
-use Prelude.{◌≡◌, ℕ, zero, suc, ◌+◌, ◌-◌, ◌<◌, ◌≤◌, ◌&&◌, Bool, true, false, not, List, [], ◌∷◌, refl, sym, ap, subst}
-use Prelude.{◌∙◌, is_some, Option, Some, None, unwrap_or, Err, inl, inr, arith, nat_lt, Result, Ok, ◌↔◌, if◌then◌else◌}
-use Prelude.{IsTrue, IsOk, IfErr, list_all, range_with_len, option_map, cases_lt, leb-true, ltb-false, le-ltb}
-use Prelude.{page_number, offset_number, is_user_page, IsUserPage, get-map_values, same_cases, Slot, slot_order, Spaces}
-use Prelude.{Cell, at_page, slot_at, fresh, cell_or_fresh, with_bytes, set_bytes, write_at, protected, stored, cost}
-use Prelude.{with_page, with_pages, cost-same, key-stored, kept, cost-with_page, Book, given, quota_of, State, is_live}
-use Prelude.{is_mapped, overdrawn, both_true, get-inserted, get-inserted_other, page_is_user, pages_under, may_at}
-use Prelude.{load_refusal, answer, completes, Reply, map_of, protect_of, is_writable_at, installed, IsNotOpened}
-use Rattle.address_space.proofs.costs.AccessCosts.{key-insert}
+use Prelude.{◌≡◌, ℕ, zero, suc, ◌+◌, ◌-◌, ◌<◌, ◌≤◌, ◌&&◌, Bool, true, false, not, List, [], ◌∷◌, refl, sym, ap, subst, ◌∙◌, is_some, Option, Some, None, unwrap_or, Err, inl, inr, arith, nat_lt, Result, Ok, ◌↔◌, if◌then◌else◌, IsTrue, IsOk, IfErr, list_all, range_with_len, option_map, cases_lt, leb-true, ltb-false, le-ltb, page_number, offset_number, is_user_page, IsUserPage, get-map_values, same_cases, Slot, slot_order, Spaces, Cell, at_page, slot_at, fresh, cell_or_fresh, with_bytes, set_bytes, write_at, protected, stored, cost, with_page, with_pages, cost-same, key-stored, kept, cost-with_page, Book, given, quota_of, State, is_live, is_mapped, overdrawn, both_true, get-inserted, get-inserted_other, page_is_user, pages_under, may_at, load_refusal, answer, completes, Reply, map_of, protect_of, is_writable_at, installed, IsNotOpened, key-insert}
 use Rattle.page_words.specs.FiniteMap as map
 use Rattle.page_words.specs.FiniteSet as set
 use Rattle.process_table.specs.declared.causes.Cause.TheVariants as cause

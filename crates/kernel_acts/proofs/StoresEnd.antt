@@ -1,16 +1,7 @@
 -- What changes of one page leave of the translations that processors keep.
 use Rattle.kernel_acts.proofs.Prelude
-use Prelude.{◌≡◌, ◌≢◌, ℕ, ◌+◌, ◌-◌, ◌<◌, ◌≤◌, ◌==◌, ◌&&◌, Bool, true, false, List, refl, sym, ap, ◌∙◌, is_some, Option}
-use Prelude.{Some, None, length, arith, if◌then◌else◌, nat_le, option_map, eq-eqb, leb-true, same_Some, page_number}
-use Prelude.{offset_number, same_itself, get-map_values, some_value, walk_of, Slot, slot_order, Cell, Spaces}
-use Prelude.{cell_or_fresh, with_bytes, set_bytes, write_at, stored, is_slot, at_page, slot_at, Gone, FramesStay}
-use Prelude.{StandsFor, image_of, memory_of, View, get-inserted_other, EndsMarks, of_lazy_pages, is_ended, is_all_of}
-use Prelude.{Ended, and-false}
+use Prelude.{◌≡◌, ◌≢◌, ℕ, ◌+◌, ◌-◌, ◌<◌, ◌≤◌, ◌==◌, ◌&&◌, Bool, true, false, List, refl, sym, ap, ◌∙◌, is_some, Option, Some, None, length, arith, if◌then◌else◌, nat_le, option_map, eq-eqb, leb-true, same_Some, page_number, offset_number, same_itself, get-map_values, some_value, walk_of, Slot, slot_order, Cell, Spaces, cell_or_fresh, with_bytes, set_bytes, write_at, stored, is_slot, at_page, slot_at, Gone, FramesStay, StandsFor, image_of, memory_of, View, get-inserted_other, EndsMarks, of_lazy_pages, is_ended, is_all_of, Ended, and-false, IsCore, ways_of, mapped_way, tables_map, walk_takes, walk_finds, has_right}
 use Rattle.kernel_calls.proofs.Flags.{has}
-use Rattle.kernel_calls.specs.Processors.{IsCore}
-use Rattle.kernel_calls.proofs.CoreMemory.{ways_of}
-use Rattle.kernel_calls.proofs.Linked.{mapped_way, tables_map}
-use Rattle.kernel_calls.proofs.Translated.{walk_takes, walk_finds, has_right}
 use Rattle.kernel_acts.proofs.Unmaps.{slot_test}
 use Rattle.page_words.specs.FiniteMap as map
 use Rattle.page_words.specs.FiniteSet as set

@@ -1,11 +1,7 @@
 -- Slots that are taken back in two parts, one after the other.
-use Rattle.kernel_acts.proofs.Prelude.{◌≡◌, ℕ, Bool, true, cond, not, ◌||◌, List, [], ◌∷◌, ◌++◌, refl, sym, ap, subst}
-use Rattle.kernel_acts.proofs.Prelude.{◌∙◌, None, arith, map-append, All-append, All-weaker, list_any-append, same_map}
-use Rattle.kernel_acts.proofs.Prelude.{get-retain_keys, Slot, at_page, is_slot, OfferKey, State, View, answer}
-use Rattle.kernel_acts.proofs.Prelude.{completes, info_of_page, is_beside, is_held, without_slots, TakesBack, Taking}
-use Rattle.kernel_acts.proofs.Prelude.{EndAlong, Event, Holder, Ended}
+use Rattle.kernel_acts.proofs.Prelude
+use Prelude.{◌≡◌, ℕ, Bool, true, cond, not, ◌||◌, List, [], ◌∷◌, ◌++◌, refl, sym, ap, subst, ◌∙◌, None, arith, map-append, All-append, All-weaker, list_any-append, same_map, get-retain_keys, Slot, at_page, is_slot, OfferKey, State, View, answer, completes, info_of_page, is_beside, is_held, without_slots, TakesBack, Taking, EndAlong, Event, Holder, Ended, answers-append, end_of-append}
 use Rattle.kernel_acts.proofs.FamilyEnds.{without_both, stays_twice}
-use Rattle.kernel_calls.proofs.Runs.{answers-append, end_of-append}
 use Rattle.kernel_acts.proofs.Unmaps.{beside_before, takes_none}
 use Rattle.page_words.specs.FiniteMap as map
 

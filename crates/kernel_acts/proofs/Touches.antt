@@ -1,43 +1,17 @@
 -- The access of one byte that changes none.
 use Rattle.kernel_acts.proofs.Prelude
-use Prelude.{◌≡◌, ℕ, zero, suc, ◌+◌, ◌%◌, ◌<◌, ◌^◌, ◌==◌, ◌&&◌, Bool, true, false, not, length, List, [], ◌∷◌, ◌++◌}
-use Prelude.{take, drop, refl, sym, ap, subst, ◌∙◌, Option, Some, None, unwrap_or, inl, inr, arith, if◌then◌else◌}
-use Prelude.{slice_index, option_map, some_value, nat_lt, page_number, offset_number}
-use Prelude.{page_and, touched, IsUserPage, same_cases, walk_of, Read, Write}
-use Prelude.{is_lazy_at, takes_stores, Slot, slot_order, Cell, Spaces, slot_at, fresh, cell_or_fresh}
-use Prelude.{byte_at, accessed, stored, write_at, with_pages, all_accessed, way_parts}
-use Prelude.{FramesStay, none_goes, WalkEndsBy, stays_most, memory_of, State, is_live}
-use Prelude.{is_mapped, View, after_stores, IsWellFormed, get-inserted, plan_of, step_of, Goes}
-use Prelude.{ready, all_user, same_cells, answer, answer_of, next, completes, carried}
-use Prelude.{is_some, ended_by, Ends, load_byte, store_byte, Event, Reply, Ended}
+use Prelude.{◌≡◌, ℕ, zero, suc, ◌+◌, ◌%◌, ◌<◌, ◌^◌, ◌==◌, ◌&&◌, Bool, true, false, not, length, List, [], ◌∷◌, ◌++◌, take, drop, refl, sym, ap, subst, ◌∙◌, Option, Some, None, unwrap_or, inl, inr, arith, if◌then◌else◌, slice_index, option_map, some_value, nat_lt, page_number, offset_number, page_and, touched, IsUserPage, same_cases, walk_of, Read, Write, is_lazy_at, takes_stores, Slot, slot_order, Cell, Spaces, slot_at, fresh, cell_or_fresh, byte_at, accessed, stored, write_at, with_pages, all_accessed, way_parts, FramesStay, none_goes, WalkEndsBy, stays_most, memory_of, State, is_live, is_mapped, View, after_stores, IsWellFormed, get-inserted, plan_of, step_of, Goes, ready, all_user, same_cells, answer, answer_of, next, completes, carried, is_some, ended_by, Ends, load_byte, store_byte, Event, Reply, Ended, cases_Bool, get_or-replicate, All-get_or, One, is_write, zeros, store_in, write_at-nothing, stored-flags, each_right, next-goes, next-stays, IsCore, walks_of, ways_of, mapped_way, went-on, walk_finds, has_right, option_and_then, if_lazy, of_call, of_pages, gone_by}
 use Rattle.std.specs.Result.{is_ok}
-use Rattle.std.proofs.lemmas.Bool.{cases_Bool}
 use Rattle.std.proofs.lemmas.Bool.Decides.{nat_tests}
-use Rattle.std.proofs.lemmas.List.{get_or-replicate}
-use Rattle.std.proofs.lemmas.List.Elements.{All-get_or}
-use Rattle.page_words.specs.declared.addresses.Size.TheVariants.{One}
 use Rattle.page_words.specs.FiniteMap as map
 use Rattle.page_words.specs.FiniteSet as set
 use Rattle.phys_memory.specs.Bytes.{frame_bytes}
 use Rattle.table_walk.specs.declared.Access.{Access}
-use Rattle.table_walk.specs.Walk.{is_write}
 use Rattle.address_space.specs.ByWalk.{finds_at}
-use Rattle.address_space.specs.Spaces.{zeros, store_in}
-use Rattle.address_space.proofs.steps.Bytes.{write_at-nothing, stored-flags}
-use Rattle.fault_handler.proofs.Settled.{each_right}
-use Rattle.kernel_calls.proofs.Decided.{next-goes, next-stays}
 use Rattle.kernel_calls.proofs.Leaving.{event_ends}
-use Rattle.kernel_calls.specs.Processors.{IsCore}
-use Rattle.kernel_calls.proofs.CoreMemory.{walks_of, ways_of}
-use Rattle.kernel_calls.proofs.Linked.{mapped_way}
-use Rattle.kernel_calls.proofs.Runs.{went-on}
-use Rattle.kernel_calls.proofs.Translated.{walk_finds, has_right}
-use Rattle.std.specs.Option.{option_and_then}
-use Rattle.kernel_calls.specs.Translations.{if_lazy, of_call, of_pages}
 use Rattle.process_table.specs.declared.causes.Cause.TheVariants as cause
 use Rattle.kernel_calls.specs.declared.calls.Reply.TheVariants as reply
 use Rattle.kernel_calls.specs.declared.translations.Ended.TheVariants as end
-use Rattle.kernel_calls.specs.Gone.{gone_by}
 use Rattle.kernel_acts.specs.Touched.{access_of_byte, AreMarked, TakesNoStore, Touches}
 use Rattle.kernel_acts.proofs.LoadedBytes.{bytes_in, alike, page_long, own_bytes, beside_bytes}
 use Rattle.kernel_acts.proofs.TransferSteps.{one_page, part_stored, takes, byte_accessed, FirstStored, first_stored, first_loaded}

@@ -1,11 +1,6 @@
 -- Runs that stop at the first event that is refused or faults, and transfers one behind another.
-use Rattle.kernel_acts.proofs.Prelude.{◌≡◌, ℕ, zero, suc, ◌+◌, ◌<◌, Bool, true, false, List, [], ◌∷◌, ◌++◌, length}
-use Rattle.kernel_acts.proofs.Prelude.{take, drop, refl, ap, sym, ◌∙◌, subst, arith, ◌-◌, ◌≤◌, Option, Some, None}
-use Rattle.kernel_acts.proofs.Prelude.{length-drop, append_assoc, length-append, append-nil, take-append-drop}
-use Rattle.kernel_acts.proofs.Prelude.{length-take-le, take_at, drop_at, drop-drop, if◌then◌else◌, slice_index, State}
-use Rattle.kernel_acts.proofs.Prelude.{answer, answers, next, end_of, completes, load_byte, store_byte, loads, stores}
-use Rattle.kernel_acts.proofs.Prelude.{carried, stop_of, value_in, values, AreLoaded, AreStored, Event, Reply, put_mid}
-use Rattle.kernel_calls.proofs.Runs.{answers-append, end_of-append}
+use Rattle.kernel_acts.proofs.Prelude
+use Prelude.{◌≡◌, ℕ, zero, suc, ◌+◌, ◌<◌, Bool, true, false, List, [], ◌∷◌, ◌++◌, length, take, drop, refl, ap, sym, ◌∙◌, subst, arith, ◌-◌, ◌≤◌, Option, Some, None, length-drop, append_assoc, length-append, append-nil, take-append-drop, length-take-le, take_at, drop_at, drop-drop, if◌then◌else◌, slice_index, State, answer, answers, next, end_of, completes, load_byte, store_byte, loads, stores, carried, stop_of, value_in, values, AreLoaded, AreStored, Event, Reply, put_mid, answers-append, end_of-append}
 use Rattle.kernel_calls.specs.declared.calls.Reply.TheVariants as reply
 
 -- ---- A run of which all is carried out, and then more

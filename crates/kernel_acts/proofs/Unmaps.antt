@@ -1,27 +1,17 @@
 -- The other slots of a group are unmapped, one after another.
 use Rattle.kernel_acts.proofs.Prelude
-use Prelude.{◌≡◌, ◌≢◌, ℕ, ◌+◌, ◌<◌, ◌≤◌, Bool, true, false, cond, not, ◌&&◌, ◌||◌, ◌==◌, length, take, set, List, []}
-use Prelude.{◌∷◌, ◌++◌, refl, sym, ap, subst, ◌∙◌, is_some, Option, Some, None, unwrap_or, arith, inl, inr}
-use Prelude.{if◌then◌else◌, All, option_map, cases_lt, and_parts, same_Some, map-append, take_more_set, All-append}
-use Prelude.{All-cons, list_any-append, same, Set, same_map, same_set, same-true, same_itself, get-retain_keys}
-use Prelude.{contains-retain, some_value, same_cases, same_sym, Slot, slot_order, slot_cmp, Cell, without, is_slot}
-use Prelude.{at_page, is_lazy_at, left, get-without, OfferKey, without_page, State, is_live, is_mapped, after_unmap}
-use Prelude.{View, IsWellFormed, memory_of, page_is_user, ungrouped, shares, IsAlone, answer, next, completes}
-use Prelude.{refused_or, unmap_of, is_beside, is_held, without_slots, TakesBack, Taking, Unmapped, ended_by, Holder}
-use Prelude.{eqb-true, eq-eqb, and-true, or-false}
-use Rattle.std.specs.FinMap.Entries.{find}
+use Prelude.{◌≡◌, ◌≢◌, ℕ, ◌+◌, ◌<◌, ◌≤◌, Bool, true, false, cond, not, ◌&&◌, ◌||◌, ◌==◌, length, take, set, List, [], ◌∷◌, ◌++◌, refl, sym, ap, subst, ◌∙◌, is_some, Option, Some, None, unwrap_or, arith, inl, inr, if◌then◌else◌, All, option_map, cases_lt, and_parts, same_Some, map-append, take_more_set, All-append, All-cons, list_any-append, same, Set, same_map, same_set, same-true, same_itself, get-retain_keys, contains-retain, some_value, same_cases, same_sym, Slot, slot_order, slot_cmp, Cell, without, is_slot, at_page, is_lazy_at, left, get-without, OfferKey, without_page, State, is_live, is_mapped, after_unmap, View, IsWellFormed, memory_of, page_is_user, ungrouped, shares, answer, next, completes, refused_or, unmap_of, is_beside, is_held, without_slots, TakesBack, Taking, Unmapped, ended_by, Holder, eqb-true, eq-eqb, and-true, or-false, find, next-goes, answers-append, end_of-append}
 use Rattle.address_space.specs.Shown.{shown}
 use Rattle.kernel_calls.specs.Pages.{page_in}
 use Rattle.kernel_calls.specs.declared.pages.PageState.{PageState}
 use Rattle.kernel_acts.proofs.Beside.{shares_there}
-use Rattle.kernel_calls.proofs.Decided.{next-goes}
 use Rattle.kernel_acts.proofs.FamilyEnds.{without_both, stays_twice, along_more}
-use Rattle.kernel_calls.proofs.Runs.{answers-append, end_of-append}
 use Rattle.page_words.specs.FiniteMap as map
 use Rattle.page_words.specs.FiniteSet as set
 use Rattle.process_table.specs.declared.causes.Cause.TheVariants as cause
 use Rattle.kernel_calls.specs.declared.calls.Reply.TheVariants as reply
 use Rattle.kernel_calls.specs.declared.translations.Ended.TheVariants as end
+use Rattle.kernel_calls.specs.Effects.{IsAlone}
 
 -- ---- Who shares, without some slots
 

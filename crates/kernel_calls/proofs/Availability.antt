@@ -1,18 +1,6 @@
 -- What other processes leave of the calls that a process can make.
 use Rattle.kernel_calls.proofs.Prelude
-use Prelude.{◌≡◌, ◌≢◌, ℕ, ◌≤◌, ◌&&◌, ◌||◌, ◌==◌, not, Bool, true, false, List, [], ◌∷◌, refl, sym, ap, subst, ◌∙◌}
-use Prelude.{Option, Some, None, is_some, is_none, arith, inl, inr, nat_lt, ◌⊎◌, if◌then◌else◌, option_map, All, ne_eqb}
-use Prelude.{not-false, nat_tests, All-head, All-tail, covered, touched, page_number, second_page, Size, Map, same}
-use Prelude.{some_value, is_some-map, at_page, cost, pages_of, access_need, same_pages, given, number_of_children}
-use Prelude.{next_number, given-remove, number-remove, OfferKey, offer_order, offer_key, pending, Access, Read, Write}
-use Prelude.{is_write, extra_page, extra_touched, State, is_live, is_mapped, room, extra_cost, overdrawn, map_refusal}
-use Prelude.{unmap_refusal, protect_refusal, offer_refusal, withdraw_refusal, accept_refusal, spawn_refusal}
-use Prelude.{fork_refusal, exit_refusal, IsWellFormed, Cause, next_free, not_less, plan_of, step_of, forbidden}
-use Prelude.{is_read_only, fault_or, goes_on, Plan, ready, flags_at, lost, RunsNeverRefuse, answer, answer_of, after}
-use Prelude.{next, end_of, completes, refused_or, planned_or, Call, Event, Reply}
-use Rattle.std.specs.Prelude.{find}
-use Rattle.page_words.proofs.MapLemmas.{retain-insert_other}
-use Rattle.process_table.proofs.Sizes.{len-retain}
+use Prelude.{◌≡◌, ◌≢◌, ℕ, ◌≤◌, ◌&&◌, ◌||◌, ◌==◌, not, Bool, true, false, List, [], ◌∷◌, refl, sym, ap, subst, ◌∙◌, Option, Some, None, is_some, is_none, arith, inl, inr, nat_lt, ◌⊎◌, if◌then◌else◌, option_map, All, ne_eqb, not-false, nat_tests, All-head, All-tail, covered, touched, page_number, second_page, Size, Map, same, some_value, is_some-map, at_page, cost, pages_of, access_need, same_pages, given, number_of_children, next_number, given-remove, number-remove, OfferKey, offer_order, offer_key, pending, Access, Read, Write, is_write, extra_page, extra_touched, State, is_live, is_mapped, room, extra_cost, overdrawn, map_refusal, unmap_refusal, protect_refusal, offer_refusal, withdraw_refusal, accept_refusal, spawn_refusal, fork_refusal, exit_refusal, IsWellFormed, Cause, next_free, not_less, plan_of, step_of, forbidden, is_read_only, fault_or, goes_on, Plan, ready, flags_at, lost, RunsNeverRefuse, answer, answer_of, after, next, end_of, completes, refused_or, planned_or, Call, Event, Reply, find, retain-insert_other, len-retain}
 use Rattle.kernel_calls.proofs.Decided.{next-stays, next-goes}
 use Rattle.kernel_calls.proofs.Runs.{not-refused, went-on, kept-next}
 use Rattle.kernel_calls.proofs.Untouched.{LeavesAll, leaves_all, caller_live}

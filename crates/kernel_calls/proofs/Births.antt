@@ -1,13 +1,6 @@
 -- What a new child has, and that it sees what its parent saw.
 use Rattle.kernel_calls.proofs.Prelude
-use Prelude.{◌≡◌, ℕ, ◌||◌, Bool, true, false, refl, sym, ap, ◌∙◌, Option, Some, None, inl, inr, arith, ◌⊎◌}
-use Prelude.{if◌then◌else◌, option_map, nat_order, same_itself, get-insert, no_value, same_cases, get-remove_other}
-use Prelude.{get-removed, Slot, Cell, Spaces, at_page, is_of, copy_of, copied, copied-own, Book, offer_key, Read, Write}
-use Prelude.{State, is_live, child_of, map_refusal, unmap_refusal, protect_refusal, offer_refusal, withdraw_refusal}
-use Prelude.{accept_refusal, spawn_refusal, fork_refusal, exit_refusal, IsWellFormed, lone, Cause, child_free}
-use Prelude.{fork_free, no_page, plan_of, Plan, Flags, flags_of, Shown, shown_of, is_offered, ChildrenAreTheirMakers}
-use Prelude.{PlacesStay, quota_asked, answer, answer_of, after, next, completes, refused_or, planned_or, Call, Event}
-use Prelude.{Reply, eqb-true}
+use Prelude.{◌≡◌, ℕ, ◌||◌, Bool, true, false, refl, sym, ap, ◌∙◌, Option, Some, None, inl, inr, arith, ◌⊎◌, if◌then◌else◌, option_map, nat_order, same_itself, get-insert, no_value, same_cases, get-remove_other, get-removed, Slot, Cell, Spaces, at_page, is_of, copy_of, copied, copied-own, Book, offer_key, Read, Write, State, is_live, child_of, map_refusal, unmap_refusal, protect_refusal, offer_refusal, withdraw_refusal, accept_refusal, spawn_refusal, fork_refusal, exit_refusal, IsWellFormed, lone, Cause, child_free, fork_free, no_page, plan_of, Plan, Flags, flags_of, Shown, shown_of, is_offered, ChildrenAreTheirMakers, PlacesStay, quota_asked, answer, answer_of, after, next, completes, refused_or, planned_or, Call, Event, Reply, eqb-true}
 use Rattle.kernel_calls.proofs.Decided.{next-stays, next-goes}
 use Rattle.kernel_calls.proofs.Runs.{not-refused}
 use Rattle.kernel_calls.proofs.Untouched.{caller_live}

@@ -1,10 +1,6 @@
 -- A set of processes that has nothing in common with others stays so, and others leave what it has.
 use Rattle.kernel_calls.proofs.Prelude
-use Prelude.{◌≡◌, ◌≢◌, ℕ, Bool, true, false, List, [], ◌∷◌, refl, sym, ap, ◌∙◌, Option, Some, None, is_some, unwrap_or}
-use Prelude.{inl, inr, arith, slice_index, option_map, All, ext_get_or, All-head, All-tail, same_Some, Set, same_set}
-use Prelude.{Slot, slot_order, Cell, at_page, slot_at, OfferKey, offer_key, State, is_live, IsWellFormed, flags_of}
-use Prelude.{shares, byte_in, IsJoin, IsConfined, KeepsWithin, Along, members_at_end, IsAsBefore, RunsKeepBorders, next}
-use Prelude.{end_of, Event}
+use Prelude.{◌≡◌, ◌≢◌, ℕ, Bool, true, false, List, [], ◌∷◌, refl, sym, ap, ◌∙◌, Option, Some, None, is_some, unwrap_or, inl, inr, arith, slice_index, option_map, All, ext_get_or, All-head, All-tail, same_Some, Set, same_set, Slot, slot_order, Cell, at_page, slot_at, OfferKey, offer_key, State, is_live, IsWellFormed, flags_of, shares, byte_in, IsJoin, IsConfined, KeepsWithin, Along, members_at_end, IsAsBefore, RunsKeepBorders, next, end_of, Event}
 use Rattle.kernel_calls.proofs.Consent.{sharing_by_consent, offers_by_offerer}
 use Rattle.kernel_calls.proofs.Runs.{kept-next}
 use Rattle.kernel_calls.proofs.Stays.{makes_child, next_live}

@@ -1,14 +1,6 @@
 -- How sharing, offers and rights spread: by consent.
 use Rattle.kernel_calls.proofs.Prelude
-use Prelude.{◌≡◌, ◌≢◌, ℕ, ◌+◌, ◌||◌, Bool, true, false, List, [], ◌∷◌, refl, sym, ap, subst, ◌∙◌, Option, Some, None}
-use Prelude.{unwrap_or, inl, inr, arith, ◌⊎◌, if◌then◌else◌, IsTrue, option_map, cases_eq, same_Some, offset_number}
-use Prelude.{Set, get-insert, get-map_values, contains-insert, contains-retain, some_value, same_cases, same_apart}
-use Prelude.{Slot, slot_order, Cell, Spaces, fresh, cell_or_fresh, with_bytes, with_holders, set_bytes, set_holders}
-use Prelude.{write_at, without, is_slot, is_of, at_page, slot_at, accessed, stored, with_page, with_pages, all_accessed}
-use Prelude.{all_stored, joined, copied, copied-own, copied-other, left, get-without, OfferKey, offer_key, State}
-use Prelude.{is_live, accept_refusal, offered, after_unmap, after_accept, after_exit, IsWellFormed, lone, retained}
-use Prelude.{get-inserted, get-inserted_other, MayAccept, may_accept, flags_of, flags_at, shares, IsJoin}
-use Prelude.{SharingByConsent, OffersByOfferer, answer, answer_of, after, next, completes, Call, Event, in_lone}
+use Prelude.{◌≡◌, ◌≢◌, ℕ, ◌+◌, ◌||◌, Bool, true, false, List, [], ◌∷◌, refl, sym, ap, subst, ◌∙◌, Option, Some, None, unwrap_or, inl, inr, arith, ◌⊎◌, if◌then◌else◌, IsTrue, option_map, cases_eq, same_Some, offset_number, Set, get-insert, get-map_values, contains-insert, contains-retain, some_value, same_cases, same_apart, Slot, slot_order, Cell, Spaces, fresh, cell_or_fresh, with_bytes, with_holders, set_bytes, set_holders, write_at, without, is_slot, is_of, at_page, slot_at, accessed, stored, with_page, with_pages, all_accessed, all_stored, joined, copied, copied-own, copied-other, left, get-without, OfferKey, offer_key, State, is_live, accept_refusal, offered, after_unmap, after_accept, after_exit, IsWellFormed, lone, retained, get-inserted, get-inserted_other, MayAccept, may_accept, flags_of, flags_at, shares, IsJoin, SharingByConsent, OffersByOfferer, answer, answer_of, after, next, completes, Call, Event, in_lone}
 use Rattle.kernel_calls.proofs.Decided.{by_next, next-stays, next-goes}
 use Rattle.kernel_calls.proofs.Runs.{not-refused}
 use Rattle.kernel_calls.proofs.UntouchedSlots.{kept_shares}

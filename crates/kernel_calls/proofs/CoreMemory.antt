@@ -1,16 +1,10 @@
 -- A core's memory is address spaces with room, so each of its walks ends as the state says.
 use Rattle.kernel_calls.proofs.Prelude
-use Prelude.{◌≡◌, ℕ, ◌+◌, ◌<◌, true, length, sym, ap, subst, ◌∙◌, arith, is_some, unwrap_or, option_map, is_some-map}
-use Prelude.{some_value, WaysAgree, WalksAgree, Member, quota_of, is_live, as_account, View}
-use Prelude.{memory_of, total-within, IsCore}
-use Rattle.kernel_calls.specs.Processors.{CoresAreWalked}
+use Prelude.{◌≡◌, ℕ, ◌+◌, ◌<◌, true, length, sym, ap, subst, ◌∙◌, arith, is_some, unwrap_or, option_map, is_some-map, some_value, WaysAgree, WalksAgree, Member, quota_of, is_live, as_account, View, memory_of, total-within, IsCore, CoresAreWalked, IsSpaces, from_map, stands, stands_for_one, total}
 use Rattle.address_space.specs.Restored.{HasRoom}
-use Rattle.address_space.specs.Sound.{IsSpaces}
 use Rattle.address_space.specs.View.{directory_of, spaces_in, total_cost}
-use Rattle.address_space.proofs.standing.Restored.{from_map, kept, stands}
-use Rattle.address_space.proofs.standing.Standing.{stands_for_one}
+use Rattle.address_space.proofs.standing.Restored.{kept}
 use Rattle.address_space.proofs.standing.WaysStand.{walks_agree, ways_agree}
-use Rattle.process_table.specs.WellFormed.{total}
 use Rattle.process_table.proofs.Ranges.{total-book}
 use Rattle.page_words.specs.FiniteMap as map
 

@@ -1,12 +1,6 @@
 -- The decision of an event is carried out exactly if its reply is neither a refusal nor a fault.
 use Rattle.kernel_calls.proofs.Prelude
-use Prelude.{◌≡◌, ℕ, Bool, true, false, refl, ap, sym, subst, ◌∙◌, Option, Some, None, if◌then◌else◌, Result, Ok, Err}
-use Prelude.{cost, at_page, State, is_live, child_of, protect_refusal, fork_refusal, after_protect, after_fork, fork-cost}
-use Prelude.{may_protect, Cause, View, plan_of, plan_at, step_of, step_at, goes_on, same_stops, Plan, Size, Access}
-use Prelude.{Read, Write, answer, answer_of, after, next, completes, refused_or, planned_or, judged_of, plan_of_call}
-use Prelude.{plan_of_event, refused_plan, charge_in, charge_after, tested, spawned, Call, Event, Reply, arith}
-use Rattle.process_table.specs.TestAnswers.{first_cause, number_unless, child_unless, map_answer, protect_answer}
-use Rattle.process_table.specs.TestAnswers.{offer_answer, spawn_answer, fork_answer}
+use Prelude.{◌≡◌, ℕ, Bool, true, false, refl, ap, sym, subst, ◌∙◌, Option, Some, None, if◌then◌else◌, Result, Ok, Err, cost, at_page, State, is_live, child_of, protect_refusal, fork_refusal, after_protect, after_fork, fork-cost, may_protect, Cause, View, plan_of, plan_at, step_of, step_at, goes_on, same_stops, Plan, Size, Access, Read, Write, answer, answer_of, after, next, completes, refused_or, planned_or, judged_of, plan_of_call, plan_of_event, refused_plan, charge_in, charge_after, tested, spawned, Call, Event, Reply, arith, first_cause, number_unless, child_unless, map_answer, protect_answer, offer_answer, spawn_answer, fork_answer}
 use Rattle.address_space.proofs.costs.Totals.{cost-protected_of}
 use Rattle.process_table.specs.declared.causes.Cause.TheVariants as cause
 use Rattle.fault_handler.specs.declared.plans.Plan.TheVariants as plan

@@ -1,12 +1,6 @@
 -- What a family that keeps within itself has, whatever others do, and what its members' events make of it.
 use Rattle.kernel_calls.proofs.Prelude
-use Prelude.{◌≡◌, ◌≢◌, ℕ, ◌&&◌, ◌||◌, ◌==◌, not, Bool, true, false, cond, refl, sym, ap, subst, ◌∙◌, Option, Some, None}
-use Prelude.{is_some, unwrap_or, arith, inl, inr, if◌then◌else◌, ◌⊎◌, option_map, same, get-insert, get-retain_keys}
-use Prelude.{some_value, Slot, Cell, at_page, joined, Book, Member, is_child, given, quota_of, number_of_children}
-use Prelude.{OfferKey, offer_order, offer_key, State, is_live, IsWellFormed, retained, parents_in, Standing, flags_of}
-use Prelude.{shown_of, is_child_of, HaveTheSame, Sees, LooksSame, found, members_after, keeps_within, KeepsWithin}
-use Prelude.{IsAsBefore, IsFamily, answer, after, next, Call, Event, eqb-true, eq-eqb, and_parts}
-use Rattle.process_table.proofs.Sizes.{len-retain}
+use Prelude.{◌≡◌, ◌≢◌, ℕ, ◌&&◌, ◌||◌, ◌==◌, not, Bool, true, false, cond, refl, sym, ap, subst, ◌∙◌, Option, Some, None, is_some, unwrap_or, arith, inl, inr, if◌then◌else◌, ◌⊎◌, option_map, same, get-insert, get-retain_keys, some_value, Slot, Cell, at_page, joined, Book, Member, is_child, given, quota_of, number_of_children, OfferKey, offer_order, offer_key, State, is_live, IsWellFormed, retained, parents_in, Standing, flags_of, shown_of, is_child_of, HaveTheSame, Sees, LooksSame, found, members_after, keeps_within, KeepsWithin, IsAsBefore, IsFamily, answer, after, next, Call, Event, eqb-true, eq-eqb, and_parts, len-retain}
 use Rattle.kernel_calls.proofs.Births.{place_of, child_dead, maker_of, children_are_their_makers, no_offer_by}
 use Rattle.kernel_calls.proofs.Confined.{next_confined, one_leaves}
 use Rattle.kernel_calls.proofs.Decided.{next-stays, next-goes}

@@ -1,8 +1,6 @@
 -- Pending offers stay, or end by somebody's event.
 use Rattle.kernel_calls.proofs.Prelude
-use Prelude.{◌≡◌, ℕ, ◌==◌, Bool, true, refl, sym, ap, ◌∙◌, Some, arith, inl, inr, ◌⊎◌, get-insert, get-retain_keys}
-use Prelude.{same_cases, get-remove_other, at_page, OfferKey, offer_order, offer_key, State, after_unmap, after_exit}
-use Prelude.{may_offer, Settles, IsLeave, OffersStay, answer_of, after, completes, Call, Event, eqb-true}
+use Prelude.{◌≡◌, ℕ, ◌==◌, Bool, true, refl, sym, ap, ◌∙◌, Some, arith, inl, inr, ◌⊎◌, get-insert, get-retain_keys, same_cases, get-remove_other, at_page, OfferKey, offer_order, offer_key, State, after_unmap, after_exit, may_offer, Settles, IsLeave, OffersStay, answer_of, after, completes, Call, Event, eqb-true}
 use Rattle.kernel_calls.proofs.Decided.{by_next}
 use Rattle.kernel_calls.proofs.Runs.{not-refused}
 use Rattle.page_words.specs.FiniteMap as map

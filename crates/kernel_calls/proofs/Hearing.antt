@@ -1,9 +1,6 @@
 -- Members of a set that make the same calls in two runs get the same replies, if outsiders use no channel.
 use Rattle.kernel_calls.proofs.Prelude
-use Prelude.{◌≡◌, ℕ, ◌&&◌, Bool, true, false, List, [], ◌∷◌, refl, sym, ap, subst, ◌∙◌, arith, if◌then◌else◌, State}
-use Prelude.{is_live, IsWellFormed, LooksSame, found, members_after, members_at_end, IsQuiet, Along, Heard, heard}
-use Prelude.{AskAlike, MembersHearTheSame, HaveTheSame, KeepsWithin, IsFamily, FamiliesHearTheirOwn, exchanges, answer}
-use Prelude.{next, end_of, Event, and_parts}
+use Prelude.{◌≡◌, ℕ, ◌&&◌, Bool, true, false, List, [], ◌∷◌, refl, sym, ap, subst, ◌∙◌, arith, if◌then◌else◌, State, is_live, IsWellFormed, LooksSame, found, members_after, members_at_end, IsQuiet, Along, Heard, heard, AskAlike, MembersHearTheSame, HaveTheSame, KeepsWithin, IsFamily, FamiliesHearTheirOwn, exchanges, answer, next, end_of, Event, and_parts}
 use Rattle.kernel_calls.proofs.Outsiders.{outsiders_unseen}
 use Rattle.kernel_calls.proofs.Standings.{live_in}
 use Rattle.kernel_calls.proofs.Runs.{kept-next}

@@ -1,6 +1,6 @@
 -- Which pages calls leave lazy.
-use Rattle.kernel_calls.proofs.Prelude.{◌≡◌, ℕ, Bool, true, arith, Result, Ok, IsOk, Pid, is_lazy_at, at_page}
-use Rattle.kernel_calls.proofs.Prelude.{memory_of, View, Cause, done_told, child_told, Event, Reply}
+use Rattle.kernel_calls.proofs.Prelude
+use Prelude.{◌≡◌, ℕ, Bool, true, arith, Result, Ok, IsOk, Pid, is_lazy_at, at_page, memory_of, View, Cause, done_told, child_told, Event, Reply}
 use Rattle.kernel_calls.specs.Lazy.{LeavesLazy}
 use Rattle.kernel_calls.specs.declared.calls.Call.TheVariants as call
 use Rattle.kernel_calls.specs.declared.calls.Reply.TheVariants as reply

@@ -1,12 +1,6 @@
 -- What an event leaves of all that processors may keep.
 use Rattle.kernel_calls.proofs.Prelude
-use Prelude.{◌≡◌, ◌<◌, ◌^◌, ℕ, Bool, true, false, List, [], ◌∷◌, refl, ap, sym, ◌∙◌, subst, arith, Option, Some, None}
-use Prelude.{is_some, eq-eqb, if◌then◌else◌, page_number, slot_number, start_number, same-true, ne_eqb, Read, Write}
-use Prelude.{table_at, Slot, Cell, at_page, slot_at, FramesStay, none_goes}
-use Prelude.{memory_of, State, View, IsWellFormed, IsCore, gone_by, answer, after, next, completes, TablesMap, TablesStay}
-use Prelude.{is_ended, ended_by, FlagsStay, Ends, Translation, IsGiven, Kept, IsRead, AreRead, ends_in_region}
-use Prelude.{is_invalidated, left_by, Keeps, change, walk, Keeping, nothing, onward, KeptAreGiven, KeptThroughRuns}
-use Prelude.{Call, Event, Ended, stays_most}
+use Prelude.{◌≡◌, ◌<◌, ◌^◌, ℕ, Bool, true, false, List, [], ◌∷◌, refl, ap, sym, ◌∙◌, subst, arith, Option, Some, None, is_some, eq-eqb, if◌then◌else◌, page_number, slot_number, start_number, same-true, ne_eqb, Read, Write, table_at, Slot, Cell, at_page, slot_at, FramesStay, none_goes, memory_of, State, View, IsWellFormed, IsCore, gone_by, answer, after, next, completes, TablesMap, TablesStay, is_ended, ended_by, FlagsStay, Ends, Translation, IsGiven, Kept, IsRead, AreRead, ends_in_region, is_invalidated, left_by, Keeps, change, walk, Keeping, nothing, onward, KeptAreGiven, KeptThroughRuns, Call, Event, Ended, stays_most}
 use Rattle.kernel_calls.proofs.Decided.{next-stays, next-goes}
 use Rattle.kernel_calls.proofs.Ends.{ends_no_more, without_gone}
 use Rattle.kernel_calls.proofs.Linked.{directories_stay, tables_stay, tables_map}

@@ -1,29 +1,13 @@
 -- What processors leave of a core's memory is a core's.
 use Rattle.kernel_calls.proofs.Prelude
-use Prelude.{◌≡◌, ℕ, ◌+◌, true, false, List, length, refl, sym, ap, subst, ◌∙◌, Some, is_some, if◌then◌else◌, some_value}
-use Prelude.{byte_count, touched, slot_number, Read, Write, directory_at, finds_live, at_page, slot_at, Spaces}
-use Prelude.{all_accessed, all_stored, bytes_of, with_touched-same, each_byte, FramesStay, none_goes, stays_most}
-use Prelude.{quota_of, State, container_of, View, memory_of, IsWellFormed, after_load, after_store, after, next}
-use Prelude.{completes, takes_no_frame, plan_of_call, plan_of_event, finds_call, finds_event, reply_found, Call, Event}
-use Prelude.{IsCore, Ends, Ended, ServesCall, IsStore, StoresMarked, Directory, arith, Bool, Option, None, option_and_then}
-use Prelude.{page_number, second_page, takes_stores, answer, if_lazy, of_call, of_pages, ended_by, IfSome}
-use Rattle.kernel_calls.specs.Kept.{bytes_kept}
-use Rattle.kernel_calls.specs.Walked.{bytes_accessed}
-use Rattle.kernel_calls.specs.Processors.{IsLeft, with_bytes, WalksLeaveCores, StoresLeaveCores, MarksLeaveCores}
-use Rattle.kernel_calls.specs.Processors.{WalksTakeNoFrame, WalksKeepContainers}
-use Rattle.phys_memory.specs.Bytes.{word_at, word_place}
+use Prelude.{◌≡◌, ℕ, ◌+◌, true, false, List, length, refl, sym, ap, subst, ◌∙◌, Some, is_some, if◌then◌else◌, some_value, byte_count, touched, slot_number, Read, Write, directory_at, finds_live, at_page, slot_at, Spaces, all_accessed, all_stored, bytes_of, with_touched-same, each_byte, FramesStay, none_goes, stays_most, quota_of, State, container_of, View, memory_of, IsWellFormed, after_load, after_store, after, next, completes, takes_no_frame, plan_of_call, plan_of_event, finds_call, finds_event, reply_found, Call, Event, IsCore, Ends, Ended, ServesCall, IsStore, StoresMarked, Directory, arith, Bool, Option, None, option_and_then, page_number, second_page, takes_stores, answer, if_lazy, of_call, of_pages, ended_by, IfSome, bytes_kept, bytes_accessed, IsLeft, WalksLeaveCores, StoresLeaveCores, MarksLeaveCores, WalksTakeNoFrame, WalksKeepContainers, word_at, word_place, with_walked, walked_word, is_marked, IsSpaces, frames_stay, image_stands, load_walked, store_walked, store_kept}
+use Rattle.kernel_calls.specs.Processors.{with_bytes}
 use Rattle.phys_memory.proofs.Words.{length-with_word}
-use Rattle.address_space.specs.ByWalk.{with_walked, walked_word}
-use Rattle.address_space.specs.Kept.{is_marked}
 use Rattle.address_space.specs.Changes.{Touched}
-use Rattle.address_space.specs.Sound.{IsSpaces}
 use Rattle.address_space.specs.Image as memory
-use Rattle.address_space.proofs.standing.FramesStand.{frames_stay}
-use Rattle.address_space.proofs.standing.Standing.{image_stands}
 use Rattle.address_space.proofs.steps.DirWords.{dir_word_walked}
 use Rattle.address_space.proofs.steps.Steps.{inside}
 use Rattle.address_space.proofs.steps.Touches.{spaces_touched}
-use Rattle.address_space.proofs.steps.WalkedPages.{load_walked, store_walked, store_kept}
 use Rattle.process_table.proofs.ImageStanding as states
 use Rattle.process_table.proofs.Keeping.{container-access}
 use Rattle.kernel_calls.proofs.CoreMemory.{live_is, root_quota, spaces_is, spaces}

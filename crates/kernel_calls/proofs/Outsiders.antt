@@ -1,11 +1,6 @@
 -- The event of an outsider through no channel leaves what the members of a set see.
 use Rattle.kernel_calls.proofs.Prelude
-use Prelude.{◌≡◌, ◌≢◌, ℕ, ◌||◌, Bool, true, false, refl, sym, ap, subst, ◌∙◌, Option, Some, None, is_some, unwrap_or}
-use Prelude.{inl, inr, arith, ◌⊎◌, option_map, ext_get_or, same_set, some_value, no_value, same_cases, Slot, slot_order}
-use Prelude.{Cell, is_of, at_page, slot_at, given, number_of_children, given-none, number-none, OfferKey, offer_key}
-use Prelude.{State, is_live, IsWellFormed, no_page, parents_in, flags_of, shown_of, shown_at, flags_at, shares}
-use Prelude.{is_child_of, is_offered, IsJoin, IsLeave, IsStoreInto, Settles, Sees, LooksSame, IsUnseen, IsQuietCall}
-use Prelude.{OutsidersUnseen, answer, next, completes, Call, Event, eqb-true, or-true, or_parts}
+use Prelude.{◌≡◌, ◌≢◌, ℕ, ◌||◌, Bool, true, false, refl, sym, ap, subst, ◌∙◌, Option, Some, None, is_some, unwrap_or, inl, inr, arith, ◌⊎◌, option_map, ext_get_or, same_set, some_value, no_value, same_cases, Slot, slot_order, Cell, is_of, at_page, slot_at, given, number_of_children, given-none, number-none, OfferKey, offer_key, State, is_live, IsWellFormed, no_page, parents_in, flags_of, shown_of, shown_at, flags_at, shares, is_child_of, is_offered, IsJoin, IsLeave, IsStoreInto, Settles, Sees, LooksSame, IsUnseen, IsQuietCall, OutsidersUnseen, answer, next, completes, Call, Event, eqb-true, or-true, or_parts}
 use Rattle.kernel_calls.proofs.Births.{maker_of, places_stay}
 use Rattle.kernel_calls.proofs.Confined.{shares_by, back}
 use Rattle.kernel_calls.proofs.Consent.{sharing_by_consent, offers_by_offerer}

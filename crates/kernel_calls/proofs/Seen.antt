@@ -1,8 +1,6 @@
 -- What is left of offers, and of a process that exits.
 use Rattle.kernel_calls.proofs.Prelude
-use Prelude.{◌≡◌, ℕ, Bool, true, arith, get-retain_keys, some_value}
-use Prelude.{given, number_of_children, number-remove, OfferKey, Offers, State, is_live}
-use Rattle.process_table.proofs.Apart.{given_none}
+use Prelude.{◌≡◌, ℕ, Bool, true, arith, get-retain_keys, some_value, given, number_of_children, number-remove, OfferKey, Offers, State, is_live, given_none}
 use Rattle.page_words.specs.FiniteMap as map
 
 -- offers that are kept or dropped by their keys

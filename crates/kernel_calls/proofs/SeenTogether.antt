@@ -1,20 +1,10 @@
 -- What the event of a member does to what all members see depends on what they see alone.
 use Rattle.kernel_calls.proofs.Prelude
-use Prelude.{◌≡◌, ◌≢◌, ℕ, ◌+◌, ◌&&◌, ◌||◌, ◌==◌, not, Bool, true, false, cond, refl, sym, ap, subst, ◌∙◌, Option, Some}
-use Prelude.{None, is_some, unwrap_or, arith, inl, inr, ◌⊎◌, option_map, cases_eq, ne_eqb, and_parts, same, nat_order}
-use Prelude.{get-insert, no_value, same_cases, Slot, Cell, Spaces, is_of, at_page, copied, copied-own, copied-other}
-use Prelude.{Member, is_child, given, number_of_children, next_number, given-insert, given-none, number-insert}
-use Prelude.{number-none, OfferKey, offer_order, offer_key, State, is_live, child_of, accept_refusal, spawn_refusal}
-use Prelude.{fork_refusal, after_unmap, after_offer, after_withdraw, after_accept, after_spawn, after_fork, after_exit}
-use Prelude.{IsWellFormed, lone, child_free, fork_free, no_page, parents_in, may_accept, Flags, flags_of, Shown}
-use Prelude.{shown_of, shares, is_offered, is_child_of, Sees, LooksSame, found, members_after, MembersSeeTheSame}
-use Prelude.{answer, answer_of, after, next, completes, Call, Event, eqb-true, eq-eqb, or-true}
-use Rattle.kernel_calls.proofs.Births.{with_child, own_seen, no_offer_by, no_offer_to, AreLone, none_lone, copy_lone}
-use Rattle.kernel_calls.proofs.Births.{copy_flags, copy_shown}
+use Prelude.{◌≡◌, ◌≢◌, ℕ, ◌+◌, ◌&&◌, ◌||◌, ◌==◌, not, Bool, true, false, cond, refl, sym, ap, subst, ◌∙◌, Option, Some, None, is_some, unwrap_or, arith, inl, inr, ◌⊎◌, option_map, cases_eq, ne_eqb, and_parts, same, nat_order, get-insert, no_value, same_cases, Slot, Cell, Spaces, is_of, at_page, copied, copied-own, copied-other, Member, is_child, given, number_of_children, next_number, given-insert, given-none, number-insert, number-none, OfferKey, offer_order, offer_key, State, is_live, child_of, accept_refusal, spawn_refusal, fork_refusal, after_unmap, after_offer, after_withdraw, after_accept, after_spawn, after_fork, after_exit, IsWellFormed, lone, child_free, fork_free, no_page, parents_in, may_accept, Flags, flags_of, Shown, shown_of, shares, is_offered, is_child_of, Sees, LooksSame, found, members_after, MembersSeeTheSame, answer, answer_of, after, next, completes, Call, Event, eqb-true, eq-eqb, or-true, AreOne}
+use Rattle.kernel_calls.proofs.Births.{with_child, own_seen, no_offer_by, no_offer_to, AreLone, none_lone, copy_lone, copy_flags, copy_shown}
 use Rattle.kernel_calls.proofs.Confined.{shared_live}
 use Rattle.kernel_calls.proofs.Decided.{next-stays, next-goes}
 use Rattle.kernel_calls.proofs.Runs.{not-refused}
-use Rattle.kernel_calls.specs.Authority.{AreOne}
 use Rattle.kernel_calls.proofs.Seen.{kept_key}
 use Rattle.kernel_calls.proofs.Standings.{live_in, quota_in, given_in, children_in}
 use Rattle.kernel_calls.proofs.Stays.{makes_child, next_live}

@@ -1,7 +1,6 @@
 -- A call that would complete still completes in a run, after events of others.
-use Rattle.kernel_calls.proofs.Prelude.{◌≡◌, ℕ, zero, suc, ◌+◌, List, [], ◌∷◌, ◌++◌, take, drop, sym, ap, ◌∙◌, arith}
-use Rattle.kernel_calls.proofs.Prelude.{Some, inl, inr, State, IsWellFormed, IsServed, answer, answers, end_of}
-use Rattle.kernel_calls.proofs.Prelude.{completes, Event}
+use Rattle.kernel_calls.proofs.Prelude
+use Prelude.{◌≡◌, ℕ, zero, suc, ◌+◌, List, [], ◌∷◌, ◌++◌, take, drop, sym, ap, ◌∙◌, arith, Some, inl, inr, State, IsWellFormed, IsServed, answer, answers, end_of, completes, Event}
 use Rattle.kernel_calls.proofs.Availability.{runs_never_refuse}
 use Rattle.kernel_calls.proofs.Isolated.{answer_at}
 use Rattle.kernel_calls.proofs.Runs.{end_of-append, kept-run}

@@ -1,5 +1,6 @@
 -- The parts of how a process stands.
-use Rattle.kernel_calls.proofs.Prelude.{ℕ, Bool, Standing}
+use Rattle.kernel_calls.proofs.Prelude
+use Prelude.{ℕ, Bool, Standing}
 
 abbrev pub live_in : Standing → Bool
 live_in x = x.live

@@ -1,16 +1,6 @@
 -- What stays of a page, whichever process has it, while it is mapped.
 use Rattle.kernel_calls.proofs.Prelude
-use Prelude.{◌≡◌, ◌≢◌, ℕ, ◌+◌, ◌||◌, Bool, true, false, List, [], ◌∷◌, refl, sym, ap, ◌∙◌, Option, Some, None, is_some}
-use Prelude.{unwrap_or, inl, inr, arith, ◌⊎◌, if◌then◌else◌, slice_index, option_map, ne_eqb, same_Some, offset_number}
-use Prelude.{byte_count, touched, Size, same, nat_order, Set, same-true, get-insert, get-map_values, contains-retain}
-use Prelude.{some_value, no_value, same_cases, same_apart, get-remove_other, Slot, slot_order, Cell, Spaces, fresh}
-use Prelude.{cell_or_fresh, with_bytes, write_at, bytes_of, without, is_slot, is_of, at_page, slot_at, accessed, stored}
-use Prelude.{with_page, with_pages, all_accessed, all_stored, copied, copied-other, left, get-without, offer_key, State}
-use Prelude.{is_live, child_of, accept_refusal, fork_refusal, map_refusal, offered, after_load, after_store, after_map}
-use Prelude.{after_unmap, after_protect, after_offer, after_withdraw, after_accept, after_spawn, after_fork, after_exit}
-use Prelude.{IsWellFormed, child_free, live_differ, get-inserted, get-inserted_other, may_fork, may_accept, may_map}
-use Prelude.{giver_mapped, shares, is_offered, IsStoreInto, IsLeave, SharingStays, answer_of, after, next, completes}
-use Prelude.{Call, Event, eqb-true}
+use Prelude.{◌≡◌, ◌≢◌, ℕ, ◌+◌, ◌||◌, Bool, true, false, List, [], ◌∷◌, refl, sym, ap, ◌∙◌, Option, Some, None, is_some, unwrap_or, inl, inr, arith, ◌⊎◌, if◌then◌else◌, slice_index, option_map, ne_eqb, same_Some, offset_number, byte_count, touched, Size, same, nat_order, Set, same-true, get-insert, get-map_values, contains-retain, some_value, no_value, same_cases, same_apart, get-remove_other, Slot, slot_order, Cell, Spaces, fresh, cell_or_fresh, with_bytes, write_at, bytes_of, without, is_slot, is_of, at_page, slot_at, accessed, stored, with_page, with_pages, all_accessed, all_stored, copied, copied-other, left, get-without, offer_key, State, is_live, child_of, accept_refusal, fork_refusal, map_refusal, offered, after_load, after_store, after_map, after_unmap, after_protect, after_offer, after_withdraw, after_accept, after_spawn, after_fork, after_exit, IsWellFormed, child_free, live_differ, get-inserted, get-inserted_other, may_fork, may_accept, may_map, giver_mapped, shares, is_offered, IsStoreInto, IsLeave, SharingStays, answer_of, after, next, completes, Call, Event, eqb-true}
 use Rattle.kernel_calls.proofs.Decided.{by_next, next-stays, next-goes}
 use Rattle.kernel_calls.proofs.Runs.{not-refused}
 use Rattle.kernel_calls.proofs.UntouchedSlots.{store_bytes, Untouched}

@@ -1,20 +1,9 @@
 -- Spaces that look the same to a set of processes.
 use Rattle.kernel_calls.proofs.Prelude
-use Prelude.{◌≡◌, ◌≢◌, ℕ, ◌+◌, ◌&&◌, ◌||◌, not, Bool, true, false, cond, List, [], ◌∷◌, length, filter, refl, sym, ap}
-use Prelude.{◌∙◌, Option, Some, None, is_some, unwrap_or, arith, inl, inr, ◌⊎◌, if◌then◌else◌, option_map, same_Some}
-use Prelude.{page_number, offset_number, same, Set, get-map_values, contains-insert, contains-retain, same_set}
-use Prelude.{is_some-map, same_cases, Slot, slot_order, Cell, Spaces, fresh, cell_or_fresh, with_bytes, with_holders}
-use Prelude.{set_bytes, set_holders, write_at, without, at_page, slot_at, accessed, stored, with_page, with_pages}
-use Prelude.{all_accessed, all_stored, joined, left, get-without, get-inserted, get-inserted_other, Flags, flags_of}
-use Prelude.{Shown, shown_of, subst, ◌==◌, eqb-true, some_value, get-insert, get-remove, nat_order, Size, is_of, Member}
-use Prelude.{is_child, quota_of, given, number_of_children, given-remove, number-remove, OfferKey, Offers, offer_key}
-use Prelude.{State, is_live, exit_refusal, after_load, after_store, after_map, after_unmap, after_protect, after_offer}
-use Prelude.{after_withdraw, after_accept, after_exit, answer_of, after, completes, Call}
-use Rattle.kernel_calls.specs.Authority.{AreOne}
+use Prelude.{◌≡◌, ◌≢◌, ℕ, ◌+◌, ◌&&◌, ◌||◌, not, Bool, true, false, cond, List, [], ◌∷◌, length, filter, refl, sym, ap, ◌∙◌, Option, Some, None, is_some, unwrap_or, arith, inl, inr, ◌⊎◌, if◌then◌else◌, option_map, same_Some, page_number, offset_number, same, Set, get-map_values, contains-insert, contains-retain, same_set, is_some-map, same_cases, Slot, slot_order, Cell, Spaces, fresh, cell_or_fresh, with_bytes, with_holders, set_bytes, set_holders, write_at, without, at_page, slot_at, accessed, stored, with_page, with_pages, all_accessed, all_stored, joined, left, get-without, get-inserted, get-inserted_other, Flags, flags_of, Shown, shown_of, subst, ◌==◌, eqb-true, some_value, get-insert, get-remove, nat_order, Size, is_of, Member, is_child, quota_of, given, number_of_children, given-remove, number-remove, OfferKey, Offers, offer_key, State, is_live, exit_refusal, after_load, after_store, after_map, after_unmap, after_protect, after_offer, after_withdraw, after_accept, after_exit, answer_of, after, completes, Call, AreOne, len-insert}
 use Rattle.kernel_calls.proofs.Seen.{kept_offers, exit_children, exit_given}
 use Rattle.kernel_calls.proofs.Standings.{live_in}
 use Rattle.kernel_calls.proofs.Stays.{makes_child}
-use Rattle.page_words.proofs.MapLemmas.{len-insert}
 use Rattle.page_words.specs.FiniteMap as map
 use Rattle.page_words.specs.FiniteSet as set
 use Rattle.kernel_calls.specs.declared.calls.Call.TheVariants as call

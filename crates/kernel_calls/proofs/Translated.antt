@@ -1,15 +1,6 @@
 -- Which walks find the same frame after an event.
 use Rattle.kernel_calls.proofs.Prelude
-use Prelude.{◌≡◌, ◌<◌, ◌^◌, ℕ, Bool, true, false, not, ◌&&◌, ◌||◌, ◌==◌, refl, ap, sym, ◌∙◌, inl, inr, Option, Some}
-use Prelude.{None, is_some, arith, eqb-true, eq-eqb, ◌⊎◌, if◌then◌else◌, MatchBool, Ok, option_map, option_and_then}
-use Prelude.{page_number, slot_number, index_number, second_page, Size, same-true, same_itself, frame_number, Access}
-use Prelude.{Read, Write, walk_of, is_write, not_allowed, directory_at, word_of, named_by, present_word, page_word}
-use Prelude.{is_lazy_at, takes_stores, SlotStands, Slot, slot_order, Cell, at_page, slot_at, is_slot, way_of}
-use Prelude.{FramesStay, of_lazy, FindsBytes, WalkEndsBy, way_parts}
-use Prelude.{memory_of, State, is_mapped, View, IsWellFormed, IsCore, goes_on, plan_at, step_at, takes_no_frame, lazy_second}
-use Prelude.{lazy_touched, ready, answer, answer_of, next, completes, plan_of_call, plan_of_event, may_unmap}
-use Prelude.{finds_event, is_ended, is_all_of, if_lazy, of_pages, of_call, ended_by}
-use Prelude.{TranslationsStay, FindsFrame, EndsFound, SlotsStay, gone_of_call, gone_by, Call, Event}
+use Prelude.{◌≡◌, ◌<◌, ◌^◌, ℕ, Bool, true, false, not, ◌&&◌, ◌||◌, ◌==◌, refl, ap, sym, ◌∙◌, inl, inr, Option, Some, None, is_some, arith, eqb-true, eq-eqb, ◌⊎◌, if◌then◌else◌, MatchBool, Ok, option_map, option_and_then, page_number, slot_number, index_number, second_page, Size, same-true, same_itself, frame_number, Access, Read, Write, walk_of, is_write, not_allowed, directory_at, word_of, named_by, present_word, page_word, is_lazy_at, takes_stores, SlotStands, Slot, slot_order, Cell, at_page, slot_at, is_slot, way_of, FramesStay, of_lazy, FindsBytes, WalkEndsBy, way_parts, memory_of, State, is_mapped, View, IsWellFormed, IsCore, goes_on, plan_at, step_at, takes_no_frame, lazy_second, lazy_touched, ready, answer, answer_of, next, completes, plan_of_call, plan_of_event, may_unmap, finds_event, is_ended, is_all_of, if_lazy, of_pages, of_call, ended_by, TranslationsStay, FindsFrame, EndsFound, SlotsStay, gone_of_call, gone_by, Call, Event}
 use Rattle.kernel_calls.proofs.CoreMemory.{walks_of, ways_of}
 use Rattle.kernel_calls.proofs.Decided.{goes-event, next-stays, next-goes}
 use Rattle.kernel_calls.proofs.Flags.{IsFlag, has, own, right_is_flag, Spared, keeps_call}

@@ -1,10 +1,6 @@
 -- A call that one function tests and carries out: its reply, and the state after it, are the definition's.
-use Rattle.kernel_calls.proofs.Prelude.{◌≡◌, ◌∙◌, ℕ, true, false, refl, ap, sym, subst, Option, is_err, Err, arith}
-use Rattle.kernel_calls.proofs.Prelude.{Result, Ok, IsOk, IsErr, Pid, Slot, FramesStay, Gone, stays_more, stays_same}
-use Rattle.kernel_calls.proofs.Prelude.{memory_of, View, Cause, done_told, child_told, gone_of_call, gone_by, answer}
-use Rattle.kernel_calls.proofs.Prelude.{answer_of, after, completes, refused_or, Call, Event, Reply}
-use Rattle.process_table.specs.TestAnswers.{first_cause, done_unless, number_unless, child_unless}
-use Rattle.kernel_calls.specs.Replied.{IsReplied}
+use Rattle.kernel_calls.proofs.Prelude
+use Prelude.{◌≡◌, ◌∙◌, ℕ, true, false, refl, ap, sym, subst, Option, is_err, Err, arith, Result, Ok, IsOk, IsErr, Pid, Slot, FramesStay, Gone, stays_more, stays_same, memory_of, View, Cause, done_told, child_told, gone_of_call, gone_by, answer, answer_of, after, completes, refused_or, Call, Event, Reply, first_cause, done_unless, number_unless, child_unless, IsReplied}
 use Rattle.kernel_calls.proofs.Decided.{next-stays, next-goes, done_by}
 use Rattle.kernel_calls.specs.declared.calls.Reply.TheVariants as reply
 

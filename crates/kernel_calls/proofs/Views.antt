@@ -1,12 +1,6 @@
 -- A process's replies depend on what it has, except for the offers to it.
 use Rattle.kernel_calls.proofs.Prelude
-use Prelude.{◌≡◌, ℕ, ◌-◌, ◌&&◌, ◌||◌, ◌==◌, not, Bool, true, false, cond, [], ◌∷◌, refl, sym, ap, ◌∙◌, Some, None}
-use Prelude.{is_some, unwrap_or, arith, if◌then◌else◌, nat_lt, nat_le, is_user_page, touched, Size, same_map}
-use Prelude.{get-retain_keys, is_some-map, Slot, cost, cost_of, pages_of, cell_or_fresh, access_need, is_of, at_page}
-use Prelude.{same_pages, given, quota_of, number_of_children, next_number, OfferKey, offer_key, pending, Access, Read}
-use Prelude.{Write, extra_page, extra_touched, State, is_live, is_mapped, extra_cost, overdrawn, room, child_of}
-use Prelude.{protect_refusal, loaded, plan_of, Flags, flags_of, flags_at, Shown, shown_of, shown_at, shares, is_offered}
-use Prelude.{HaveTheSame, found, answer, answer_of, refused_or, planned_or, Call, Event, Reply, eqb-true, eq-eqb}
+use Prelude.{◌≡◌, ℕ, ◌-◌, ◌&&◌, ◌||◌, ◌==◌, not, Bool, true, false, cond, [], ◌∷◌, refl, sym, ap, ◌∙◌, Some, None, is_some, unwrap_or, arith, if◌then◌else◌, nat_lt, nat_le, is_user_page, touched, Size, same_map, get-retain_keys, is_some-map, Slot, cost, cost_of, pages_of, cell_or_fresh, access_need, is_of, at_page, same_pages, given, quota_of, number_of_children, next_number, OfferKey, offer_key, pending, Access, Read, Write, extra_page, extra_touched, State, is_live, is_mapped, extra_cost, overdrawn, room, child_of, protect_refusal, loaded, plan_of, Flags, flags_of, flags_at, Shown, shown_of, shown_at, shares, is_offered, HaveTheSame, found, answer, answer_of, refused_or, planned_or, Call, Event, Reply, eqb-true, eq-eqb}
 use Rattle.kernel_calls.proofs.Standings.{live_in, quota_in, given_in, children_in}
 use Rattle.page_words.specs.FiniteMap as map
 use Rattle.process_table.specs.declared.causes.Cause.TheVariants as cause

@@ -1,10 +1,6 @@
 -- What a count says of the numbers that pass, where one of them is known.
-use Rattle.page_map.proofs.Prelude.{◌≡◌, ◌≢◌, ℕ, zero, suc, ◌+◌, ◌*◌, ◌<◌, ◌≤◌, Bool, true, false, List, length, refl}
-use Rattle.page_map.proofs.Prelude.{ap, sym, ◌∙◌, arith, inl, inr, Some, is_some, cases_eq}
-use Rattle.page_map.proofs.Prelude.{slot_number, index_number, IsUserPage, is_present, frame_number, frame_bytes}
-use Rattle.page_map.proofs.Prelude.{word_in, Frames, dir_word, table_of, entry_at, IsPageMap, TablesApart, counted}
-use Rattle.page_map.proofs.Prelude.{count_range}
-use Rattle.page_map.specs.Entries.{IsLastEntry, HasOtherEntry}
+use Rattle.page_map.proofs.Prelude
+use Prelude.{◌≡◌, ◌≢◌, ℕ, zero, suc, ◌+◌, ◌*◌, ◌<◌, ◌≤◌, Bool, true, false, List, length, refl, ap, sym, ◌∙◌, arith, inl, inr, Some, is_some, cases_eq, slot_number, index_number, IsUserPage, is_present, frame_number, frame_bytes, word_in, Frames, dir_word, table_of, entry_at, IsPageMap, TablesApart, counted, count_range, IsLastEntry, HasOtherEntry}
 use Rattle.page_map.proofs.PageLemmas.{count-table, mapped_in_table, unmapped_without_table}
 use Rattle.page_map.proofs.MapSteps.{with_word_at, word_own, word_other}
 use Rattle.page_map.proofs.MapChanges.{table_there, user_slot}

@@ -1,13 +1,7 @@
 -- Proofs of the laws of a page map.
-use Rattle.page_map.proofs.Prelude.{◌≡◌, ◌≢◌, ℕ, ◌+◌, ◌*◌, ◌<◌, ◌≤◌, true, false, List, length, replicate, refl, ap}
-use Rattle.page_map.proofs.Prelude.{◌∙◌, arith, inl, inr, Some, None, option_and_then, page_number, slot_number}
-use Rattle.page_map.proofs.Prelude.{index_number, frame_number, is_present, NamesTable, NamesPage, same_map}
-use Rattle.page_map.proofs.Prelude.{frame_bytes, word_at, word_in, word_place, Access, Frames, dir_word, word_table}
-use Rattle.page_map.proofs.Prelude.{table_of, entry_from, word_entry, entry_at, IsFreshTable}
+use Rattle.page_map.proofs.Prelude
+use Prelude.{◌≡◌, ◌≢◌, ℕ, ◌+◌, ◌*◌, ◌<◌, ◌≤◌, true, false, List, length, replicate, refl, ap, ◌∙◌, arith, inl, inr, Some, None, option_and_then, page_number, slot_number, index_number, frame_number, is_present, NamesTable, NamesPage, same_map, frame_bytes, word_at, word_in, word_place, Access, Frames, dir_word, word_table, table_of, entry_from, word_entry, entry_at, IsFreshTable, length-frame, word_in-frame, word_in-zeros, walk_of, is_outside, not_present, BlankFramesAreMaps, BlankFramesMapNothing, WalksReadEntries, end_at_entry}
 use Rattle.std.proofs.lemmas.Bool.Decides.{nat_tests}
-use Rattle.phys_memory.proofs.Frames.{length-frame, word_in-frame, word_in-zeros}
-use Rattle.table_walk.specs.Walk.{walk_of, is_outside, not_present}
-use Rattle.page_map.specs.Laws.{BlankFramesAreMaps, BlankFramesMapNothing, WalksReadEntries, end_at_entry}
 use Rattle.page_map.proofs.PageLemmas.{get-entries_user, get-entries_other, user_cases}
 use Rattle.page_map.proofs.MapChanges.{table_there, present_entry}
 use Rattle.page_map.proofs.MapSteps.{some_not_none}

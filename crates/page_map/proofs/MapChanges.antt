@@ -1,12 +1,6 @@
 -- What each change of a page map leaves: its entries, that it stays one, and every foreign frame.
 use Rattle.page_map.proofs.Prelude
-use Prelude.{◌≡◌, ◌≢◌, ℕ, ◌+◌, ◌*◌, ◌^◌, ◌<◌, ◌≤◌, true, false, List, length, replicate, refl, ap, sym, ◌∙◌, subst}
-use Prelude.{arith, inl, inr, Option, Some, None, ◌⊎◌, if◌then◌else◌, option_and_then, cases_eq, length-replicate}
-use Prelude.{slot_number, index_number, IsUserPage, frame_number, is_present, IsKernelDirWord}
-use Prelude.{frame_bytes, word_in, with_word_in, with_frame, with_frame-same, with_frame-other, word_in-zeros}
-use Prelude.{PageEntry, Frames, dir_word, word_table, table_of, word_entry, entry_from, entry_at, entry_word, link_word}
-use Prelude.{IsPageMap, IsForeign, IsFreshTable, IsKernelEntry, TablesApart, entries_of}
-use Rattle.page_map.specs.Entries.{with_entry, with_table, IsCleared}
+use Prelude.{◌≡◌, ◌≢◌, ℕ, ◌+◌, ◌*◌, ◌^◌, ◌<◌, ◌≤◌, true, false, List, length, replicate, refl, ap, sym, ◌∙◌, subst, arith, inl, inr, Option, Some, None, ◌⊎◌, if◌then◌else◌, option_and_then, cases_eq, length-replicate, slot_number, index_number, IsUserPage, frame_number, is_present, IsKernelDirWord, frame_bytes, word_in, with_word_in, with_frame, with_frame-same, with_frame-other, word_in-zeros, PageEntry, Frames, dir_word, word_table, table_of, word_entry, entry_from, entry_at, entry_word, link_word, IsPageMap, IsForeign, IsFreshTable, IsKernelEntry, TablesApart, entries_of, with_entry, with_table, IsCleared}
 use Rattle.page_map.proofs.WordLaws.{entry_word-lt, entry_word-names, word_entry-entry_word, link_word-lt, link_word-names, word_table-link_word}
 use Rattle.page_map.proofs.PageLemmas.{entries-same, entries-insert, entries-remove}
 use Rattle.page_map.proofs.MapSteps.{map_of_tables, with_word_at, with_dir_word, table_kept, entry_own, entry_other, tables-written, table_own, table_other, entry_elsewhere, tables-unlinked, table_foreign, tables-foreign, dir_word_own, dir_word_other, dir_long}

@@ -1,11 +1,7 @@
 -- What a word written into a table or into the directory leaves of the entries, and that the page map
 -- stays one.
-use Rattle.page_map.proofs.Prelude.{◌≡◌, ◌≢◌, ℕ, ◌^◌, ◌<◌, List, length, refl, ap, sym, ◌∙◌, subst, arith, inl, inr}
-use Rattle.page_map.proofs.Prelude.{Option, Some, None, option_and_then, cases_eq, slot_number, index_number}
-use Rattle.page_map.proofs.Prelude.{IsKernelDirWord, IsKernelTableWord, frame_bytes, word_in, with_word_in, with_frame}
-use Rattle.page_map.proofs.Prelude.{with_frame-same, with_frame-other, Frames, dir_word, word_table, table_of}
-use Rattle.page_map.proofs.Prelude.{word_entry, entry_at, TablesApart, IsPageMap, IsForeign}
-use Rattle.phys_memory.proofs.Frames.{word_in_same, word_in_other, length-with_word_in}
+use Rattle.page_map.proofs.Prelude
+use Prelude.{◌≡◌, ◌≢◌, ℕ, ◌^◌, ◌<◌, List, length, refl, ap, sym, ◌∙◌, subst, arith, inl, inr, Option, Some, None, option_and_then, cases_eq, slot_number, index_number, IsKernelDirWord, IsKernelTableWord, frame_bytes, word_in, with_word_in, with_frame, with_frame-same, with_frame-other, Frames, dir_word, word_table, table_of, word_entry, entry_at, TablesApart, IsPageMap, IsForeign, word_in_same, word_in_other, length-with_word_in}
 
 pub map_of_tables : (bytes : List ℕ) (n : ℕ) (m : Frames) (d : ℕ) → TablesApart n m d → frame_bytes bytes ≡ m → length bytes ≡ n → IsPageMap bytes d
 map_of_tables bytes n m d T frames size = subst (λ (k : ℕ × Frames). TablesApart k.0 k.1 d) (sym (λ i. (size i, frames i))) T

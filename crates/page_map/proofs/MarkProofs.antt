@@ -1,21 +1,11 @@
 -- A mark on a page map touches one entry.
-use Rattle.page_map.proofs.Prelude.{◌≡◌, ◌≢◌, ℕ, ◌+◌, ◌*◌, ◌^◌, ◌<◌, ◌≤◌, true, false, List, length, refl, ap}
-use Rattle.page_map.proofs.Prelude.{sym, ◌∙◌, subst, arith, inl, inr, Option, Some, None, ◌⊎◌, not, ◌&&◌}
-use Rattle.page_map.proofs.Prelude.{option_and_then, or_lt, cases_eq, IsUserPage, page_number, slot_number}
-use Rattle.page_map.proofs.Prelude.{index_number, with_flag, frame_number, is_writable, is_accessed, is_dirty, has_may}
-use Rattle.page_map.proofs.Prelude.{is_lazy, is_granted, NamesTable, NamesPage, IsKernelDirWord, IsKernelTableWord}
-use Rattle.page_map.proofs.Prelude.{frame_bytes, word_at, with_word, word_place, word_in, with_word_in, word_in-frame}
-use Rattle.page_map.proofs.Prelude.{frames-with_word, with_frame-other, Access, PageEntry, Frames, dir_word, word_table}
-use Rattle.page_map.proofs.Prelude.{table_of, entry_from, word_entry, entry_at, IsPageMap, TablesApart, entries_of}
-use Rattle.std.proofs.Common.{◌/◌}
-use Rattle.page_words.proofs.Flags.{set_flag_other, set_flag_frame, flag-with_flag_same}
+use Rattle.page_map.proofs.Prelude
+use Prelude.{◌≡◌, ◌≢◌, ℕ, ◌+◌, ◌*◌, ◌^◌, ◌<◌, ◌≤◌, true, false, List, length, refl, ap, sym, ◌∙◌, subst, arith, inl, inr, Option, Some, None, ◌⊎◌, not, ◌&&◌, option_and_then, or_lt, cases_eq, IsUserPage, page_number, slot_number, index_number, with_flag, frame_number, is_writable, is_accessed, is_dirty, has_may, is_lazy, is_granted, NamesTable, NamesPage, IsKernelDirWord, IsKernelTableWord, frame_bytes, word_at, with_word, word_place, word_in, with_word_in, word_in-frame, frames-with_word, with_frame-other, Access, PageEntry, Frames, dir_word, word_table, table_of, entry_from, word_entry, entry_at, IsPageMap, TablesApart, entries_of, ◌/◌, set_flag_other, set_flag_frame, flag-with_flag_same, walk_of, table_word, touched_entry, with_touched_words, TouchesEntry, MarksTouchEntries}
 use Rattle.phys_memory.proofs.Words.{length-with_word}
 use Rattle.table_walk.specs.declared.Access.TheVariants.{Read, Write}
 use Rattle.table_walk.specs.Marks.{accessed_word, touched_word, marked, CanBeMarked}
 use Rattle.table_walk.proofs.Leads.{ok_value, walked}
 use Rattle.table_walk.proofs.MarkLemmas.{marks_change_two_words, touched_lt}
-use Rattle.table_walk.specs.Walk.{walk_of, table_word}
-use Rattle.page_map.specs.Laws.{touched_entry, with_touched_words, TouchesEntry, MarksTouchEntries}
 use Rattle.page_map.proofs.PageLemmas.{entries-same, entries-insert}
 use Rattle.page_map.proofs.MapSteps.{map_of_tables, with_word_at, with_dir_word, entry_own, entry_other, tables-written, table_own, table_other, dir_word_own, dir_word_other, dir_long}
 use Rattle.page_map.proofs.MapChanges.{user_slot, present_entry, found_word}

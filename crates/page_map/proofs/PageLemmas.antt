@@ -1,16 +1,7 @@
 -- What the finite map of a directory answers, when two are equal, and how many pages one has.
-use Rattle.page_map.proofs.Prelude.{◌≡◌, ◌≢◌, ℕ, zero, suc, ◌+◌, ◌-◌, ◌*◌, ◌/◌, ◌<◌, ◌≤◌, Bool, true, false, refl, ap, sym}
-use Rattle.page_map.proofs.Prelude.{◌∙◌, arith, inl, inr, Option, Some, None, is_some, option_and_then, IsUserPage}
-use Rattle.page_map.proofs.Prelude.{slot_number, index_number, PageEntry, is_present, word_in, Frames}
-use Rattle.page_map.proofs.Prelude.{word_entry, table_of, entry_at}
-use Rattle.std.proofs.Common.{cond, ◌||◌}
-use Rattle.std.specs.Prelude.{max, ◌⊎◌}
+use Rattle.page_map.proofs.Prelude
+use Prelude.{◌≡◌, ◌≢◌, ℕ, zero, suc, ◌+◌, ◌-◌, ◌*◌, ◌/◌, ◌<◌, ◌≤◌, Bool, true, false, refl, ap, sym, ◌∙◌, arith, inl, inr, Option, Some, None, is_some, option_and_then, IsUserPage, slot_number, index_number, PageEntry, is_present, word_in, Frames, word_entry, table_of, entry_at, cond, ◌||◌, max, ◌⊎◌, cases_lt, Map, nat_order, same, get-insert, len-insert, get-collect, same_map, same_cases, get-remove, user_pages, entries_of, is_mapped, counted, count_range}
 use Rattle.std.specs.List.{list_any, range_with_len}
-use Rattle.std.proofs.lemmas.Bool.{cases_lt}
-use Rattle.page_words.specs.FiniteMap.{Map, nat_order, same}
-use Rattle.page_words.proofs.MapLemmas.{get-insert, len-insert, get-collect, same_map}
-use Rattle.page_words.proofs.SetLemmas.{same_cases, get-remove}
-use Rattle.page_map.specs.Pages.{user_pages, entries_of, is_mapped, counted, count_range}
 use mir.Val.{bool_byte}
 use Rattle.page_words.specs.FiniteMap as map
 

@@ -1,7 +1,7 @@
 -- A word of memory read and written, by frames.
-use Rattle.std.proofs.Common.{◌≡◌, ◌≢◌, ℕ, ◌+◌, ◌*◌, ◌<◌, ◌≤◌, List, length, replicate, ap, ◌∙◌, arith}
-use Rattle.phys_memory.specs.Bytes.{word_at, with_word, frame_bytes, word_in, with_word_in, with_frame}
-use Rattle.phys_memory.proofs.Frames.{word_in-frame, frames-with_word, with_frame-other}
+use Rattle.page_map.proofs.Prelude
+use Prelude.{◌≡◌, ◌≢◌, ℕ, ◌+◌, ◌*◌, ◌<◌, ◌≤◌, List, length, replicate, ap, ◌∙◌, arith, word_in, with_word_in, with_frame, word_in-frame, frames-with_word, with_frame-other}
+use Rattle.phys_memory.specs.Bytes.{word_at, with_word, frame_bytes}
 
 place : (frame index : ℕ) → 4096 * frame + index * 4 ≡ 4096 * frame + 4 * index
 place frame index = omega arith

@@ -1,14 +1,8 @@
 -- What the words that are written say.
-use Rattle.std.proofs.Common.{◌≡◌, ◌≢◌, ℕ, ◌-◌, ◌^◌, ◌<◌, ◌≤◌, Bool, true, false, refl, ap, sym, ◌∙◌, subst, arith, inl, inr}
-use Rattle.std.specs.Prelude.{Some, not, ◌&&◌}
-use Rattle.std.proofs.lemmas.Nat.{or_lt, and_le_l}
+use Rattle.page_map.proofs.Prelude
+use Prelude.{◌≡◌, ◌≢◌, ℕ, ◌-◌, ◌^◌, ◌<◌, ◌≤◌, Bool, true, false, refl, ap, sym, ◌∙◌, subst, arith, inl, inr, not, ◌&&◌, or_lt, and_le_l, flag, with_flag, word_with_frame, frame_number, is_present, is_writable, is_accessed, is_dirty, has_may, is_lazy, is_granted, NamesPage, NamesTable, flag-with_flag_same, flag-with_flag_other, flag-with_frame, frame-with_flag, frame-with_frame, same_from_fields, same_cases, nat_order, PageEntry, entry_from, lets_writes, walked_word, entry_word, IsKernelEntry, link_word, word_table, word_entry}
+use Rattle.std.specs.Prelude.{Some}
 use Rattle.std.proofs.Math.Pow.{pow-lt}
-use Rattle.page_words.specs.Words.{flag, with_flag, word_with_frame, frame_number, is_present, is_writable, is_accessed, is_dirty, has_may, is_lazy, is_granted, NamesPage, NamesTable}
-use Rattle.page_words.proofs.Flags.{flag-with_flag_same, flag-with_flag_other, flag-with_frame, frame-with_flag, frame-with_frame, same_from_fields}
-use Rattle.page_words.proofs.SetLemmas.{same_cases}
-use Rattle.page_words.specs.FiniteMap.{nat_order}
-use Rattle.page_map.specs.declared.PageEntry.{PageEntry}
-use Rattle.page_map.specs.Entries.{entry_from, lets_writes, walked_word, entry_word, IsKernelEntry, link_word, word_table, word_entry}
 
 -- a flag that was set before another one still reads
 kept : (w k j : ℕ) (b c : Bool) → k < 32 → j < 32 → j ≢ k → flag w j ≡ c → flag (with_flag w k b) j ≡ c

@@ -1,17 +1,12 @@
 -- What memory and the book together represent: the image of a view is sound, and represents one state.
 use Rattle.process_table.proofs.Prelude
-use Prelude.{◌≡◌, ℕ, ◌+◌, ◌<◌, ◌≤◌, Bool, true, cond, List, [], ◌∷◌, length, refl, sym, ap, subst, ◌∙◌}
-use Prelude.{Option, Some, is_some, sum_by, arith, unwrap_or, ◌*◌, filter, nat_lt}
-use Prelude.{option_map, range_with_len, nat_tests, sum_by-cons, slice_get_within, slot_number, index_number, Slot}
-use Prelude.{Cell, Spaces, pages_of, regions_of, cost, at_page, table_at, page_word}
-use Prelude.{directory_of, contains-pages_of, Member, is_child, given, quota_of, State, is_live, View, Account}
-use Prelude.{as_account, account_of, memory_of, IsCharge, quota_from, IsSoundImage, StandsFor, is_some-map, some_value}
-use Prelude.{same_map, Table, region_member, region_there, stands_for_one}
-use Rattle.process_table.specs.Image.{image_of, StandsForOne}
+use Prelude.{◌≡◌, ℕ, ◌+◌, ◌<◌, ◌≤◌, Bool, true, cond, List, [], ◌∷◌, length, refl, sym, ap, subst, ◌∙◌, Option, Some, is_some, sum_by, arith, unwrap_or, ◌*◌, filter, nat_lt, option_map, range_with_len, sum_by-cons, slice_get_within, slot_number, index_number, Slot, Cell, Spaces, pages_of, regions_of, cost, at_page, table_at, page_word, directory_of, contains-pages_of, Member, is_child, given, quota_of, State, is_live, View, Account, as_account, account_of, memory_of, IsCharge, quota_from, IsSoundImage, StandsFor, is_some-map, some_value, same_map, Table, region_member, region_there, stands_for_one, StandsForOne}
+use Rattle.process_table.specs.Image.{image_of}
 use Rattle.process_table.proofs.Ranges.{found, sum-same, sum-range}
 use Rattle.page_words.specs.FiniteMap as map
 use Rattle.page_words.specs.FiniteSet as set
 use Rattle.address_space.specs.Image as memory
+use Rattle.std.proofs.lemmas.Bool.Decides.{nat_tests}
 
 -- ---- What a process is charged for
 

@@ -1,15 +1,8 @@
 -- The containers that are made of accounts.
-use Rattle.quota_tree.proofs.Prelude.{◌≡◌, ℕ, ◌+◌, ◌<◌, ◌≤◌, cond, List, [], ◌∷◌, length, length-set, drop, get_or}
-use Rattle.quota_tree.proofs.Prelude.{refl, sym, ap, subst, ◌∙◌, arith, inl, inr, Option, Some, None, unwrap_or}
-use Rattle.quota_tree.proofs.Prelude.{option_map, same_map, Container, container_in, Book, is_child, number_of_children}
-use Rattle.quota_tree.proofs.Prelude.{collected_from, collected}
-use Rattle.quota_tree.specs.Accounts.{member_in, book_in, containers_in, account_at, as_container, counts_child, Agree}
-use Rattle.std.specs.Prelude.{slice_get, slice_set, slice_index_or}
-use Rattle.std.proofs.lemmas.Bool.{cases_eq, cases_lt}
-use Rattle.std.proofs.lemmas.List.{drop_all, get_or_past, get_or-set_same, get_or-set_other}
-use Rattle.std.proofs.lemmas.Option.{slice_get-get_or, get_or_from_slice_get}
+use Rattle.quota_tree.proofs.Prelude
+use Prelude.{◌≡◌, ℕ, ◌+◌, ◌<◌, ◌≤◌, cond, List, [], ◌∷◌, length, length-set, drop, get_or, refl, sym, ap, subst, ◌∙◌, arith, inl, inr, Option, Some, None, unwrap_or, option_map, same_map, Container, container_in, Book, is_child, number_of_children, collected_from, collected, member_in, book_in, containers_in, account_at, counts_child, Agree, slice_get, slice_set, slice_index_or, cases_eq, cases_lt, drop_all, get_or_past, get_or-set_same, get_or-set_other, slice_get-get_or, get_or_from_slice_get, member_of, seen_as, IsBooked, HasRoot, IsQuotas}
+use Rattle.quota_tree.specs.Accounts.{as_container}
 use Rattle.quota_tree.specs.declared.accounts.Account.{Account}
-use Rattle.quota_tree.specs.Invariant.{member_of, seen_as, IsBooked, HasRoot, IsQuotas}
 use Rattle.quota_tree.proofs.CollectedLemmas.{get-before, get-collected}
 use Rattle.quota_tree.proofs.Sums.{number-insert}
 

@@ -1,9 +1,7 @@
 -- Who is a child, and what one entry of the book more or less leaves of the others.
-use Rattle.std.proofs.Common.{arith}
-use Rattle.quota_tree.proofs.Prelude.{◌≡◌, ◌≢◌, ℕ, ◌&&◌, ◌==◌, not, true, false, refl, ap, ◌∙◌}
-use Rattle.quota_tree.proofs.Prelude.{get-insert, same_cases, Book, Member, is_child, eq-eqb}
+use Rattle.quota_tree.proofs.Prelude
+use Prelude.{arith, ◌≡◌, ◌≢◌, ℕ, ◌&&◌, ◌==◌, not, true, false, refl, ap, ◌∙◌, get-insert, same_cases, Book, Member, is_child, eq-eqb, ne_eqb}
 use Rattle.std.proofs.Math.Bool.{and-false}
-use Rattle.std.proofs.lemmas.Bool.{ne_eqb}
 use Rattle.page_words.specs.FiniteMap as map
 
 -- a live process other than 0 is its parent's child

@@ -1,11 +1,6 @@
 -- What a close leaves.
-use Rattle.quota_tree.proofs.Prelude.{◌≡◌, ◌≢◌, ℕ, ◌+◌, ◌<◌, ◌≤◌, ◌⊎◌, inl, inr, true, false, List, length, get_or}
-use Rattle.quota_tree.proofs.Prelude.{is_some, sym, ap, ◌∙◌, Option, Some, None, arith, subst}
-use Rattle.quota_tree.proofs.Prelude.{length-set, slice_set, nat_order, Container, Book}
-use Rattle.quota_tree.proofs.Prelude.{is_child, given, number_of_children, collected, member_of, seen_as, IsBooked}
-use Rattle.quota_tree.proofs.Prelude.{IsQuotas, same_Some}
-use Rattle.page_words.proofs.SetLemmas.{same_cases, get-remove_other}
-use Rattle.quota_tree.specs.Containers.{after_close, giver_after_close}
+use Rattle.quota_tree.proofs.Prelude
+use Prelude.{◌≡◌, ◌≢◌, ℕ, ◌+◌, ◌<◌, ◌≤◌, ◌⊎◌, inl, inr, true, false, List, length, get_or, is_some, sym, ap, ◌∙◌, Option, Some, None, arith, subst, length-set, slice_set, nat_order, Container, Book, is_child, given, number_of_children, collected, member_of, seen_as, IsBooked, IsQuotas, same_Some, same_cases, get-remove_other, after_close, giver_after_close}
 use Rattle.quota_tree.proofs.CollectedLemmas.{get-collected, collected-set, collected-unset}
 use Rattle.quota_tree.proofs.Sums.{given-remove, number-remove}
 use Rattle.quota_tree.proofs.Views.{get-member}

@@ -1,11 +1,6 @@
 -- What the map of a list of options answers, and what a write into the list leaves of it.
-use Rattle.quota_tree.proofs.Prelude.{◌≡◌, ℕ, zero, suc, ◌+◌, ◌<◌, inl, inr, Bool, cond, List}
-use Rattle.quota_tree.proofs.Prelude.{[], ◌∷◌, length, replicate, get_or, refl, sym, ap, ◌∙◌, Option, Some, None, arith}
-use Rattle.quota_tree.proofs.Prelude.{position, slice_set, option_map, get_or-set_same, get_or-set_other}
-use Rattle.quota_tree.proofs.Prelude.{nat_order, collected_from, collected}
-use Rattle.std.specs.List.{find, range_with_len}
-use Rattle.page_words.proofs.MapLemmas.{get-insert, same_itself, same_map}
-use Rattle.page_words.proofs.SetLemmas.{get-remove, same_cases, same_apart}
+use Rattle.quota_tree.proofs.Prelude
+use Prelude.{◌≡◌, ℕ, zero, suc, ◌+◌, ◌<◌, inl, inr, Bool, cond, List, [], ◌∷◌, length, replicate, get_or, refl, sym, ap, ◌∙◌, Option, Some, None, arith, position, slice_set, option_map, get_or-set_same, get_or-set_other, nat_order, collected_from, collected, find, range_with_len, get-insert, same_itself, same_map, get-remove, same_cases, same_apart}
 use Rattle.page_words.specs.FiniteMap as map
 
 module _ {C X : Type 0} (f : C → X) where

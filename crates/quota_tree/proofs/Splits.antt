@@ -1,12 +1,6 @@
 -- What a split answers, and what it leaves.
-use Rattle.quota_tree.proofs.Prelude.{◌≡◌, ◌≢◌, ℕ, ◌+◌, ◌-◌, ◌<◌, ◌≤◌, ◌⊎◌, inl, inr, Bool, true, false, cond, not}
-use Rattle.quota_tree.proofs.Prelude.{◌==◌, List, length, get_or, is_some, refl, sym, ap, ◌∙◌, Option, Some, None}
-use Rattle.quota_tree.proofs.Prelude.{arith, subst, length-set, option_map, nat_tests, Container, Book, is_child}
-use Rattle.quota_tree.proofs.Prelude.{given, number_of_children, next_number, collected, Containers, room_of}
-use Rattle.quota_tree.proofs.Prelude.{opened_container, charged_with, with_used, split_answer, after_split, member_of}
-use Rattle.quota_tree.proofs.Prelude.{seen_as, IsBooked, IsQuotas, same_Some}
-use Rattle.quota_tree.specs.Containers.{giver_after_split, fitting}
-use Rattle.std.specs.Prelude.{slice_set, position, Ok, Err}
+use Rattle.quota_tree.proofs.Prelude
+use Prelude.{◌≡◌, ◌≢◌, ℕ, ◌+◌, ◌-◌, ◌<◌, ◌≤◌, ◌⊎◌, inl, inr, Bool, true, false, cond, not, ◌==◌, List, length, get_or, is_some, refl, sym, ap, ◌∙◌, Option, Some, None, arith, subst, length-set, option_map, Container, Book, is_child, given, number_of_children, next_number, collected, Containers, room_of, opened_container, charged_with, with_used, split_answer, after_split, member_of, seen_as, IsBooked, IsQuotas, same_Some, giver_after_split, fitting, slice_set, position, Ok, Err}
 use Rattle.quota_tree.specs.declared.QuotaFault.TheVariants.{BadQuota}
 use Rattle.quota_tree.proofs.CollectedLemmas.{get-collected, collected-set}
 use Rattle.quota_tree.proofs.Sums.{given-insert, number-insert, given-none, number-none, number-given}
@@ -14,6 +8,7 @@ use Rattle.quota_tree.proofs.Views.{live-container, parents_live, each_quota, ro
 use Rattle.quota_tree.proofs.BookFacts.{child_yes, child_no, contains_key-insert, get-insert_other}
 use Rattle.quota_tree.proofs.Writes.{after_set, insert_same, insert_twice, book-set, live_and_absent, only_if}
 use Rattle.page_words.specs.FiniteMap as map
+use Rattle.std.proofs.lemmas.Bool.Decides.{nat_tests}
 
 -- ---- What a split answers
 

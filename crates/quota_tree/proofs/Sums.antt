@@ -1,16 +1,13 @@
 -- Sums over the book: what one member more or less leaves of them, and that all processes together use
 -- at most the root's quota.
-use Rattle.std.proofs.Common.{◌≡◌, ℕ, ◌+◌, ◌≤◌, length, Bool, true, false, cond, not, ◌&&◌, ◌==◌, T, List, [], ◌∷◌, refl, sym, ap, subst, ◌∙◌, Some, None, filter, sum_by, arith}
+use Rattle.quota_tree.proofs.Prelude
+use Prelude.{◌≡◌, ℕ, ◌+◌, ◌≤◌, length, Bool, true, false, cond, not, ◌&&◌, ◌==◌, T, List, [], ◌∷◌, refl, sym, ap, subst, ◌∙◌, Some, None, filter, sum_by, arith, Member, Book, is_child, given, number_of_children, eqb-true, eq-eqb, same_Some, get-removed, put_back}
 use Rattle.std.specs.declared.cmp.Ordering.{Ordering}
 use Rattle.std.specs.declared.cmp.Ordering.TheVariants.{Less, Equal, Greater}
 use Rattle.std.specs.Ordering.{nat_cmp, is_lt, is_eq}
 use Rattle.std.specs.Cmp.{unsigned_tied}
 use Rattle.std.specs.FinMap.Entries.{find, below_all, is_sorted, put, by_order}
 use Rattle.std.proofs.lemmas.List.Sums.{sum_by-cons}
-use Rattle.quota_tree.specs.Book.{Member, Book, is_child, given, number_of_children}
-use borrow.Author.Tests.{eqb-true, eq-eqb}
-use Rattle.std.proofs.lemmas.Option.{same_Some}
-use Rattle.page_words.proofs.SetLemmas.{get-removed, put_back}
 use Rattle.page_words.specs.FiniteMap as map
 
 first_of : (a b : Bool) → T (a && b) → T a

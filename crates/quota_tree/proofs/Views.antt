@@ -1,13 +1,6 @@
 -- What containers are seen as, what holds of every process, and what they keep where they open.
-use Rattle.quota_tree.proofs.Prelude.{◌≡◌, ◌≢◌, ℕ, zero, suc, ◌+◌, ◌-◌, ◌<◌, ◌≤◌, true, false, not, List, ◌∷◌}
-use Rattle.quota_tree.proofs.Prelude.{length, replicate, get_or, is_some, refl, sym, ap, ◌∙◌, Option, Some, None}
-use Rattle.quota_tree.proofs.Prelude.{unwrap_or, arith, find, range_with_len, option_map, cases_lt}
-use Rattle.quota_tree.proofs.Prelude.{Container, Member, given, quota_of, next_number, collected}
-use Rattle.quota_tree.proofs.Prelude.{IsLive, used_of, room_of, total_used, opened_container, container_of, member_of}
-use Rattle.quota_tree.proofs.Prelude.{seen_as, IsBooked, IsQuotas, same_Some}
-use Rattle.quota_tree.specs.Containers.{as_container, opening}
-use Rattle.std.specs.Prelude.{position, IfSome}
-use Rattle.std.proofs.lemmas.List.{get_or_past, length-replicate}
+use Rattle.quota_tree.proofs.Prelude
+use Prelude.{◌≡◌, ◌≢◌, ℕ, zero, suc, ◌+◌, ◌-◌, ◌<◌, ◌≤◌, true, false, not, List, ◌∷◌, length, replicate, get_or, is_some, refl, sym, ap, ◌∙◌, Option, Some, None, unwrap_or, arith, find, range_with_len, option_map, cases_lt, Container, Member, given, quota_of, next_number, collected, IsLive, used_of, room_of, total_used, opened_container, container_of, member_of, seen_as, IsBooked, IsQuotas, same_Some, as_container, opening, position, IfSome, get_or_past, length-replicate}
 use Rattle.std.proofs.lemmas.List.Quantifiers.{position-Some}
 use Rattle.quota_tree.proofs.CollectedLemmas.{get-collected, collected_from-replicate, find-position}
 use Rattle.quota_tree.proofs.Sums.{Parents, costs_within}

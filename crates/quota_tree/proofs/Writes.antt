@@ -1,10 +1,6 @@
 -- What a write of one container leaves of the others, and a charge of the book.
-use Rattle.std.proofs.Common.{arith}
-use Rattle.quota_tree.proofs.Prelude.{◌≡◌, ◌≢◌, ℕ, ◌<◌, ◌⊎◌, inl, inr, Bool, true, false, cond, List, length, get_or}
-use Rattle.quota_tree.proofs.Prelude.{is_some, refl, sym, ap, ◌∙◌, Option, Some, None, subst, length-set, slice_set}
-use Rattle.quota_tree.proofs.Prelude.{get_or-set_same, get_or-set_other, Map, nat_order, same, get-insert, same_map}
-use Rattle.quota_tree.proofs.Prelude.{same_cases, Container, Book, collected, with_used, member_of, seen_as, IsBooked}
-use Rattle.quota_tree.proofs.Prelude.{IsQuotas, same_Some}
+use Rattle.quota_tree.proofs.Prelude
+use Prelude.{arith, ◌≡◌, ◌≢◌, ℕ, ◌<◌, ◌⊎◌, inl, inr, Bool, true, false, cond, List, length, get_or, is_some, refl, sym, ap, ◌∙◌, Option, Some, None, subst, length-set, slice_set, get_or-set_same, get_or-set_other, Map, nat_order, same, get-insert, same_map, same_cases, Container, Book, collected, with_used, member_of, seen_as, IsBooked, IsQuotas, same_Some}
 use Rattle.quota_tree.proofs.CollectedLemmas.{collected-set}
 use Rattle.quota_tree.proofs.Views.{get-member}
 use Rattle.page_words.specs.FiniteMap as map

@@ -1,54 +1,13 @@
 -- Accesses by what a processor keeps of an earlier memory, where the pages of that are still on their frames.
-use Rattle.std.proofs.Common.{◌≡◌, ℕ, ◌+◌, ◌*◌, ◌<◌, ◌≤◌, ◌^◌, Bool, true, false, List, length, refl, ap, sym, ◌∙◌, subst, arith, Option, Some, None, unwrap_or, is_some, eqb-true}
-use Rattle.std.specs.Prelude.{◌&&◌, not, if◌then◌else◌, MatchBool, slice_get, slice_index}
-use Rattle.std.specs.Option.{option_map, option_and_then}
-use Rattle.std.proofs.lemmas.Option.{slice_get_within}
-use Rattle.page_words.specs.Addresses.{page_number, offset_number, slot_number, index_number, start_number, byte_count, EachTouched}
-use Rattle.page_words.specs.declared.addresses.Size.{Size}
-use Rattle.kernel_calls.proofs.CoreMemory.{ways_of}
-use Rattle.kernel_calls.proofs.WalkedReplies.{goes_frameless, told_planned}
+use Rattle.shootdowns.proofs.Prelude
+use Prelude.{◌≡◌, ℕ, ◌+◌, ◌*◌, ◌<◌, ◌≤◌, ◌^◌, Bool, true, false, List, length, refl, ap, sym, ◌∙◌, subst, arith, Option, Some, None, unwrap_or, is_some, eqb-true, ◌&&◌, not, if◌then◌else◌, MatchBool, slice_get, slice_index, option_map, option_and_then, slice_get_within, page_number, offset_number, slot_number, index_number, start_number, byte_count, EachTouched, Size, ways_of, goes_frameless, told_planned, frame_number, is_lazy, frame_bytes, byte-frame, Role, Reserved, Page, Access, Read, Write, table_at, word_of, present_word, page_word, page_frame, is_lazy_at, takes_stores, SlotStands, CellStands, own_frame, kept_place, number_at, Slot, Cell, Spaces, at_page, slot_at, byte_at, value_of, bytes_of, cell_or_fresh, fresh, all_stored, way_of, IsThere, with_touched-same, way_parts, way_whole, from_map, from_then, owned, own_is, each_byte, same_each, memory_of, State, is_live, is_mapped, View, IsWellFormed, touched_user, plan_of, plan_at, takes_no_frame, each_page, walk_completes, Serves, ServesCall, ServesEvent, reply_kept, bytes_kept, answer, answer_of, after, next, completes, IsCore, Call, Event, goes-call, next-goes, small_page, live, leads, Touched, loaded_same, walk_takes, lives}
 use Rattle.page_words.specs.FiniteMap as map
 use Rattle.page_words.specs.FiniteSet as set
-use Rattle.page_words.specs.Words.{frame_number, is_lazy}
-use Rattle.phys_memory.specs.Bytes.{frame_bytes}
-use Rattle.phys_memory.proofs.Frames.{byte-frame}
-use Rattle.alloc_table.specs.declared.Role.{Role}
-use Rattle.alloc_table.specs.declared.Role.TheVariants.{Reserved, Page}
-use Rattle.table_walk.specs.declared.Access.{Access}
-use Rattle.table_walk.specs.declared.Access.TheVariants.{Read, Write}
-use Rattle.address_space.specs.Image.{table_at, word_of, present_word, page_word, page_frame, is_lazy_at, takes_stores, SlotStands, CellStands}
-use Rattle.address_space.specs.ImageWords.{own_frame}
-use Rattle.address_space.specs.Kept.{kept_place, number_at}
-use Rattle.address_space.specs.Spaces.{Slot, Cell, Spaces, at_page, slot_at, byte_at, value_of, bytes_of, cell_or_fresh, fresh, all_stored}
-use Rattle.address_space.specs.Stays.{way_of}
-use Rattle.address_space.proofs.costs.MapFirst.{IsThere, with_touched-same}
-use Rattle.address_space.proofs.standing.FramesStand.{way_parts, way_whole}
-use Rattle.address_space.proofs.standing.Restored.{from_map, from_then}
-use Rattle.address_space.proofs.standing.TablesStand.{owned, own_is}
-use Rattle.address_space.proofs.steps.Bytes.{each_byte}
-use Rattle.address_space.proofs.steps.Finding.{same_each}
 use Rattle.process_table.specs.Calls.{loaded}
-use Rattle.process_table.specs.Image.{memory_of}
-use Rattle.process_table.specs.State.{State, is_live, is_mapped}
-use Rattle.process_table.specs.View.{View}
-use Rattle.process_table.specs.WellFormed.{IsWellFormed}
 use Rattle.process_table.specs.declared.causes.Cause.TheVariants as cause
-use Rattle.process_table.proofs.SharingLaws.{touched_user}
-use Rattle.fault_handler.specs.Plans.{plan_of, plan_at, takes_no_frame}
-use Rattle.fault_handler.proofs.Settled.{each_page}
-use Rattle.fault_handler.proofs.Walked.{walk_completes}
 use Rattle.kernel_calls.specs.Decisions.{plan_of_call}
-use Rattle.kernel_calls.specs.Kept.{Serves, ServesCall, ServesEvent, reply_kept, bytes_kept}
-use Rattle.kernel_calls.specs.Machine.{answer, answer_of, after, next, completes}
-use Rattle.kernel_calls.specs.Processors.{IsCore}
-use Rattle.kernel_calls.specs.declared.calls.Call.{Call}
 use Rattle.kernel_calls.specs.declared.calls.Call.TheVariants as call
-use Rattle.kernel_calls.specs.declared.calls.Event.{Event}
 use Rattle.kernel_calls.specs.declared.calls.Reply.TheVariants as reply
-use Rattle.kernel_calls.proofs.Decided.{goes-call, next-goes}
-use Rattle.kernel_calls.proofs.KeptAccesses.{small_page, live, leads, Touched, loaded_same}
-use Rattle.kernel_calls.proofs.Translated.{walk_takes}
-use Rattle.kernel_calls.proofs.WalkedReplies.{lives}
 use Rattle.shootdowns.proofs.Alike.{AlikeCell, Alike, with_state}
 use Rattle.shootdowns.proofs.Filled.{fill, filled_state, get_filled}
 use Rattle.shootdowns.proofs.Stored.{Held, length-written, all_put, frames_beside}

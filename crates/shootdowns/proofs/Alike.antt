@@ -1,12 +1,7 @@
 -- States alike but for the bytes and the flags of cells.
-use Rattle.std.proofs.Common.{◌≡◌, ℕ, true, List, [], ◌∷◌, refl, ap, sym, ◌∙◌, subst, Option, Some, None}
-use Rattle.std.specs.Option.{option_map}
+use Rattle.shootdowns.proofs.Prelude
+use Prelude.{◌≡◌, ℕ, true, List, [], ◌∷◌, refl, ap, sym, ◌∙◌, subst, Option, Some, None, option_map, same_map, Slot, Cell, Spaces, State, View, Kept, translation, directory_entry, IsRead, AreRead}
 use Rattle.page_words.specs.FiniteMap as map
-use Rattle.page_words.proofs.MapLemmas.{same_map}
-use Rattle.address_space.specs.Spaces.{Slot, Cell, Spaces}
-use Rattle.process_table.specs.State.{State}
-use Rattle.process_table.specs.View.{View}
-use Rattle.kernel_calls.specs.Translations.{Kept, translation, directory_entry, IsRead, AreRead}
 use Rattle.shootdowns.proofs.Filled.{fill, filled, filled_state, get_filled}
 
 pub record AlikeCell (c d : Cell) : Type 0 where

@@ -1,47 +1,15 @@
 -- Stores by what was kept before dirty was set, while an event that takes at most the right to write isn't in the order.
-use Rattle.std.proofs.Common.{◌≡◌, ◌≢◌, ℕ, Bool, arith, true, false, List, [], ◌∷◌, length, refl, ap, sym, ◌∙◌, subst, Option, Some, None, ◌+◌, ◌<◌, ◌≤◌, ◌^◌, unwrap_or, not}
-use Rattle.std.specs.Prelude.{is_some, ◌&&◌, nat_le, IfSome}
-use Rattle.std.specs.Option.{option_map}
-use Rattle.std.proofs.lemmas.Option.{slice_get_within}
-use Rattle.page_words.specs.Addresses.{slot_number, byte_count, EachTouched, page_number, index_number, second_page}
-use Rattle.page_words.proofs.MapLemmas.{same_map}
-use Rattle.page_words.specs.Words.{frame_number, with_flag, is_lazy, is_accessed}
-use Rattle.phys_memory.specs.Bytes.{frame_bytes, word_at, word_place, with_word}
-use Rattle.alloc_table.specs.declared.Role.{Role}
-use Rattle.alloc_table.specs.declared.Role.TheVariants.{Page, Reserved}
-use Rattle.address_space.specs.Image.{table_at, page_word, is_lazy_at, takes_stores}
-use Rattle.address_space.specs.Spaces.{Slot, Cell, Spaces, slot_order, at_page, fresh}
-use Rattle.process_table.specs.Image.{memory_of}
-use Rattle.process_table.specs.State.{State, is_live, is_mapped}
-use Rattle.process_table.specs.View.{View}
-use Rattle.process_table.specs.WellFormed.{IsWellFormed}
-use Rattle.kernel_calls.specs.Kept.{ServesEvent, bytes_kept, Serves, ServesCall, reply_kept}
-use Rattle.kernel_calls.specs.Machine.{answer, next, answer_of, after, completes}
-use Rattle.kernel_calls.specs.Processors.{IsCore, Processors, AllAreRead}
-use Rattle.kernel_calls.specs.Translations.{Kept, AreRead, IsGiven}
-use Rattle.kernel_calls.specs.declared.calls.Call.{Call}
-use Rattle.kernel_calls.specs.declared.calls.Event.{Event}
-use Rattle.kernel_calls.specs.declared.calls.Reply.{Reply}
-use Rattle.kernel_calls.specs.declared.translations.Ended.{Ended}
-use Rattle.kernel_calls.proofs.MixedRuns.{read_at}
-use Rattle.kernel_calls.proofs.Runs.{kept-next}
-use Rattle.kernel_calls.proofs.WalkedReplies.{goes_frameless, told_planned}
-use Rattle.shootdowns.specs.Windows.{only_takes, Acknowledged, usable, under_way, takes_right, LetsWrite, LetStore, IsStaleClean, with_dirty, all_dirty}
+use Rattle.shootdowns.proofs.Prelude
+use Prelude.{◌≡◌, ◌≢◌, ℕ, Bool, arith, true, false, List, [], ◌∷◌, length, refl, ap, sym, ◌∙◌, subst, Option, Some, None, ◌+◌, ◌<◌, ◌≤◌, ◌^◌, unwrap_or, ◌&&◌, nat_le, IfSome, option_map, slice_get_within, slot_number, byte_count, EachTouched, page_number, index_number, second_page, same_map, frame_number, with_flag, is_lazy, is_accessed, frame_bytes, word_at, word_place, with_word, Role, Page, Reserved, table_at, page_word, is_lazy_at, takes_stores, Slot, Cell, Spaces, slot_order, at_page, fresh, memory_of, State, is_live, is_mapped, View, IsWellFormed, ServesEvent, bytes_kept, Serves, ServesCall, reply_kept, answer, next, answer_of, after, completes, IsCore, Processors, AllAreRead, Kept, AreRead, IsGiven, Call, Event, Reply, Ended, read_at, kept-next, goes_frameless, told_planned, only_takes, Acknowledged, usable, under_way, takes_right, LetsWrite, LetStore, IsStaleClean, with_dirty, all_dirty, Size, same, Write, touched_user, plan_at, takes_no_frame, each_page, walk_completes, goes-call, next-goes}
+use Rattle.std.proofs.Common.{not}
+use Rattle.std.specs.Prelude.{is_some}
 use Rattle.shootdowns.proofs.Accesses.{frame_at, word_mapped, table_of_word, lazy_zero, role_served, frame_served, takes_served, served_live, frame_is}
 use Rattle.shootdowns.proofs.Alike.{Alike, with_state, FlagsGrow, flags_read, alike_then}
 use Rattle.shootdowns.proofs.Filled.{fill, filled_state, get_filled}
 use Rattle.shootdowns.proofs.Onward.{stands_at}
 use Rattle.shootdowns.proofs.Turned.{Grows, Has}
-use Rattle.page_words.specs.declared.addresses.Size.{Size}
-use Rattle.page_words.specs.FiniteMap.{same}
 use Rattle.page_words.proofs.Accesses.{some_bytes}
 use Rattle.std.proofs.lemmas.Bool.Decides.{nat_tests}
-use Rattle.table_walk.specs.declared.Access.TheVariants.{Write}
-use Rattle.process_table.proofs.SharingLaws.{touched_user}
-use Rattle.fault_handler.specs.Plans.{plan_at, takes_no_frame}
-use Rattle.fault_handler.proofs.Settled.{each_page}
-use Rattle.fault_handler.proofs.Walked.{walk_completes}
-use Rattle.kernel_calls.proofs.Decided.{goes-call, next-goes}
 use Rattle.shootdowns.proofs.DirtyCells.{dirt, dirt_bytes, dirty_in, dirty_at, right_taken, get_dirty, grows_dirty, well_dirty, answer_dirty, next_dirty, after_store_dirty, HasDirty, own_dirty, still_dirty, right_keeps}
 use Rattle.shootdowns.proofs.Dirtied.{frame_apart, other_frame, dirtied}
 use Rattle.shootdowns.proofs.Remade.{Remade, remade, names_before, linked_before, all_same}

@@ -1,29 +1,9 @@
 -- Memory in which dirty was set in the word of a page that isn't lazy.
-use Rattle.std.proofs.Common.{◌≡◌, ◌≢◌, ℕ, ◌<◌, ◌≤◌, ◌^◌, Bool, true, false, List, length, refl, ap, sym, ◌∙◌, arith, inl, inr, Option, Some, None}
-use Rattle.std.proofs.lemmas.Bool.{cases_eq}
-use Rattle.std.proofs.lemmas.Option.{slice_get_within}
-use Rattle.std.specs.Prelude.{◌⊎◌, ◌&&◌, if◌then◌else◌, nat_lt, slice_get}
-use Rattle.std.specs.Option.{option_and_then, option_map}
-use Rattle.page_words.specs.Addresses.{slot_number, index_number}
+use Rattle.shootdowns.proofs.Prelude
+use Prelude.{◌≡◌, ◌≢◌, ℕ, ◌<◌, ◌≤◌, ◌^◌, Bool, true, false, List, length, refl, ap, sym, ◌∙◌, arith, inl, inr, Option, Some, None, cases_eq, slice_get_within, ◌⊎◌, ◌&&◌, if◌then◌else◌, nat_lt, slice_get, option_and_then, option_map, slot_number, index_number, same, with_flag, frame_number, is_present, is_accessed, is_lazy, same_itself, same_or_not, same-true, frame_bytes, word_at, word_in, word_place, with_word, with_word_in, with_frame, IsInside, word_in-frame, frames-with_word, with_frame-same, with_frame-other, length-frame, word_in_same, word_in_other, length-with_word, Role, Reserved, Directory, Table, Page, directory_at, table_at, word_of, present_word, page_word, own_frame, Slot, slot_order, Cell, at_page, own_is, memory_of, State, View, IsWellFormed, IsCore}
 use Rattle.page_words.specs.FiniteMap as map
-use Rattle.page_words.specs.FiniteMap.{same}
-use Rattle.page_words.specs.Words.{with_flag, frame_number, is_present, is_accessed, is_lazy}
-use Rattle.page_words.proofs.MapLemmas.{same_itself, same_or_not, same-true}
-use Rattle.phys_memory.specs.Bytes.{frame_bytes, word_at, word_in, word_place, with_word, with_word_in, with_frame, IsInside}
-use Rattle.phys_memory.proofs.Frames.{word_in-frame, frames-with_word, with_frame-same, with_frame-other, length-frame, word_in_same, word_in_other}
-use Rattle.phys_memory.proofs.Words.{length-with_word}
-use Rattle.alloc_table.specs.declared.Role.{Role}
-use Rattle.alloc_table.specs.declared.Role.TheVariants.{Reserved, Directory, Table, Page}
 use Rattle.address_space.specs.Image as memory
-use Rattle.address_space.specs.Image.{directory_at, table_at, word_of, present_word, page_word}
-use Rattle.address_space.specs.ImageWords.{own_frame}
-use Rattle.address_space.specs.Spaces.{Slot, slot_order, Cell, at_page}
-use Rattle.address_space.proofs.standing.TablesStand.{own_is}
-use Rattle.process_table.specs.Image.{memory_of}
-use Rattle.process_table.specs.State.{State}
-use Rattle.process_table.specs.View.{View}
-use Rattle.process_table.specs.WellFormed.{IsWellFormed}
-use Rattle.kernel_calls.specs.Processors.{IsCore, with_bytes}
+use Rattle.kernel_calls.specs.Processors.{with_bytes}
 use Rattle.shootdowns.proofs.Accesses.{lazy_zero, frame_at, frame_is, word_mapped}
 use Rattle.shootdowns.proofs.DirtyCells.{dirt, dirt_bytes}
 use Rattle.shootdowns.proofs.Filled.{fill}

@@ -1,27 +1,10 @@
 -- Dirty set in a slot's cell: what it leaves of a state, of an event that takes the right to write, and of a store.
-use Rattle.std.proofs.Common.{◌≡◌, ℕ, zero, suc, ◌+◌, ◌/◌, ◌%◌, ◌<◌, Bool, true, false, cond, List, [], ◌∷◌, refl, ap, sym, ◌∙◌, subst, arith, inl, inr, Option, Some, None, unwrap_or, is_some}
-use Rattle.std.specs.Prelude.{◌⊎◌, if◌then◌else◌}
-use Rattle.std.specs.Option.{option_map}
-use Rattle.page_words.specs.Addresses.{offset_number, byte_count, EachTouched}
-use Rattle.page_words.specs.declared.addresses.Size.{Size}
+use Rattle.shootdowns.proofs.Prelude
+use Prelude.{◌≡◌, ℕ, zero, suc, ◌+◌, ◌/◌, ◌%◌, ◌<◌, Bool, true, false, cond, List, [], ◌∷◌, refl, ap, sym, ◌∙◌, subst, arith, inl, inr, Option, Some, None, unwrap_or, is_some, ◌⊎◌, if◌then◌else◌, option_map, offset_number, byte_count, EachTouched, Size, same, same_map, same_itself, same_or_not, get-insert, get-map_values, Slot, slot_order, Cell, Spaces, at_page, slot_at, cell_or_fresh, fresh, with_bytes, set_bytes, write_at, stored, all_stored, bytes_of, protected, IsThere, with_touched-same, each_byte, State, IsWellFormed, get-inserted, each_page, answer, answer_of, after, next, completes, Call, Event, next-stays, next-goes, only_takes, takes_right}
 use Rattle.page_words.specs.FiniteMap as map
-use Rattle.page_words.specs.FiniteMap.{same}
 use Rattle.page_words.specs.FiniteSet as set
-use Rattle.page_words.proofs.MapLemmas.{same_map, same_itself, same_or_not, get-insert, get-map_values}
-use Rattle.address_space.specs.Spaces.{Slot, slot_order, Cell, Spaces, at_page, slot_at, cell_or_fresh, fresh, with_bytes, set_bytes, write_at, stored, all_stored, bytes_of, protected}
-use Rattle.address_space.proofs.costs.MapFirst.{IsThere, with_touched-same}
-use Rattle.address_space.proofs.steps.Bytes.{each_byte}
-use Rattle.process_table.specs.State.{State}
-use Rattle.process_table.specs.WellFormed.{IsWellFormed}
-use Rattle.process_table.proofs.CellLaws.{get-inserted}
 use Rattle.process_table.proofs.SpaceLaws.{well_formed-flags}
-use Rattle.fault_handler.proofs.Settled.{each_page}
-use Rattle.kernel_calls.specs.Machine.{answer, answer_of, after, next, completes}
-use Rattle.kernel_calls.specs.declared.calls.Call.{Call}
 use Rattle.kernel_calls.specs.declared.calls.Call.TheVariants as call
-use Rattle.kernel_calls.specs.declared.calls.Event.{Event}
-use Rattle.kernel_calls.proofs.Decided.{next-stays, next-goes}
-use Rattle.shootdowns.specs.Windows.{only_takes, takes_right}
 use Rattle.shootdowns.proofs.Alike.{AlikeCell, same_cell}
 use Rattle.shootdowns.proofs.Filled.{protects_mapped, completed}
 use Rattle.shootdowns.proofs.Turned.{Grows, Has, has_then, grows_stored, bytes_grow, stores_turn, answer_alike}

@@ -1,26 +1,12 @@
 -- A state with the bytes of frames in its cells: events that only take away leave these as they are, and a store
 -- changes one frame's.
-use Rattle.std.proofs.Common.{◌≡◌, ℕ, Bool, true, false, cond, List, refl, ap, sym, ◌∙◌, inl, inr, Option, Some, None, unwrap_or}
-use Rattle.std.specs.Prelude.{◌⊎◌, not, if◌then◌else◌, is_some}
-use Rattle.std.specs.Option.{option_map}
-use Rattle.page_words.specs.Addresses.{is_user_page}
+use Rattle.shootdowns.proofs.Prelude
+use Prelude.{◌≡◌, ℕ, Bool, true, false, cond, List, refl, ap, sym, ◌∙◌, inl, inr, Option, Some, None, unwrap_or, ◌⊎◌, not, if◌then◌else◌, option_map, is_user_page, same, same_map, same_or_not, get-insert, get-map_values, is_some-map, frame_bytes, Slot, slot_order, Cell, Spaces, at_page, cell_or_fresh, fresh, with_bytes, protected, without, is_slot, is_of, State, is_live, is_mapped, answer, answer_of, after, next, completes, refused_or, Call, Event, Reply, fewer, get_gone, next-stays, next-goes, only_takes}
+use Rattle.std.specs.Prelude.{is_some}
 use Rattle.page_words.specs.FiniteMap as map
-use Rattle.page_words.specs.FiniteMap.{same}
-use Rattle.page_words.proofs.MapLemmas.{same_map, same_or_not, get-insert, get-map_values}
-use Rattle.page_words.proofs.OptionLemmas.{is_some-map}
-use Rattle.phys_memory.specs.Bytes.{frame_bytes}
-use Rattle.address_space.specs.Spaces.{Slot, slot_order, Cell, Spaces, at_page, cell_or_fresh, fresh, with_bytes, protected, without, is_slot, is_of}
-use Rattle.process_table.specs.State.{State, is_live, is_mapped}
 use Rattle.process_table.specs.declared.causes.Cause.TheVariants as cause
-use Rattle.kernel_calls.specs.Machine.{answer, answer_of, after, next, completes, refused_or}
-use Rattle.kernel_calls.specs.declared.calls.Call.{Call}
 use Rattle.kernel_calls.specs.declared.calls.Call.TheVariants as call
-use Rattle.kernel_calls.specs.declared.calls.Event.{Event}
-use Rattle.kernel_calls.specs.declared.calls.Reply.{Reply}
 use Rattle.kernel_calls.specs.declared.calls.Reply.TheVariants as reply
-use Rattle.kernel_calls.proofs.CommutingGone.{fewer, get_gone}
-use Rattle.kernel_calls.proofs.Decided.{next-stays, next-goes}
-use Rattle.shootdowns.specs.Windows.{only_takes}
 
 -- each cell has the bytes of its slot's frame
 abbrev pub fill : (Slot → ℕ) → List ℕ → Slot → Cell → Cell

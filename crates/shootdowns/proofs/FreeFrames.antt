@@ -1,39 +1,15 @@
 -- What a processor does by its walk writes no free frame.
-use Rattle.std.proofs.Common.{◌≡◌, ◌≢◌, ℕ, zero, suc, ◌+◌, ◌*◌, ◌/◌, ◌%◌, ◌<◌, ◌^◌, true, List, length, refl, ap, sym, ◌∙◌, subst, arith, Option, Some, None}
+use Rattle.shootdowns.proofs.Prelude
+use Prelude.{◌≡◌, ◌≢◌, ℕ, zero, suc, ◌+◌, ◌*◌, ◌/◌, ◌%◌, ◌<◌, ◌^◌, true, List, length, refl, ap, sym, ◌∙◌, subst, arith, Option, Some, None, IsOk, slice_get, slice_set, option_map, page_number, slot_number, index_number, offset_number, start_number, second_page, byte_count, frame_number, frame_bytes, word_at, word_place, with_word, IsInside, with_word_in, frames-with_word, frames-with_byte, with_frame-other, word_in-frame, length-with_word, Role, Free, Directory, Table, Access, Read, Write, walk_of, dir_place, dir_word, table_place, byte_place, finds, after_walked_store, Image, image_from, bytes_of, at_page, directory_of, table_in, found_at, found_each, found_fits, found, get_user, memory_of, View, IsCore, IsWalked, finds_call, bytes_accessed, Call, Event, Reply, spaces}
 use Rattle.std.proofs.Math.ListN.{length-set}
-use Rattle.std.specs.Prelude.{IsOk, slice_get, slice_set}
-use Rattle.std.specs.Option.{option_map, unwrap_or}
-use Rattle.page_words.specs.Addresses.{page_number, slot_number, index_number, offset_number, start_number, second_page, byte_count}
-use Rattle.page_words.specs.Words.{frame_number}
-use Rattle.phys_memory.specs.Bytes.{frame_bytes, word_at, word_place, with_word, IsInside, with_word_in}
-use Rattle.phys_memory.proofs.Frames.{frames-with_word, frames-with_byte, with_frame-other, word_in-frame}
-use Rattle.phys_memory.proofs.Words.{length-with_word}
-use Rattle.alloc_table.specs.declared.Role.{Role}
-use Rattle.alloc_table.specs.declared.Role.TheVariants.{Free, Directory, Table}
-use Rattle.table_walk.specs.declared.Access.{Access}
-use Rattle.table_walk.specs.declared.Access.TheVariants.{Read, Write}
+use Rattle.std.specs.Option.{unwrap_or}
 use Rattle.table_walk.specs.Marks.{marked, accessed_word, touched_word, CanBeMarked}
-use Rattle.table_walk.specs.Walk.{walk_of, dir_place, dir_word, table_place}
 use Rattle.table_walk.proofs.MarkLemmas.{marks_keep_walks, marks_change_two_words}
-use Rattle.address_space.specs.ByWalk.{byte_place, finds, after_walked_store}
-use Rattle.address_space.specs.Image.{Image, image_from}
 use Rattle.address_space.specs.Sound.{IsSound, HoldsPage}
-use Rattle.address_space.specs.Spaces.{bytes_of, at_page}
-use Rattle.address_space.specs.View.{directory_of, table_in}
-use Rattle.address_space.proofs.steps.Finding.{found_at, found_each, found_fits}
 use Rattle.address_space.proofs.steps.Steps.{inside, live_small, table_by_word}
-use Rattle.address_space.proofs.steps.Stores.{found, get_user}
 use Rattle.address_space.proofs.steps.WalkedPages.{finds_first, finds_second}
 use Rattle.address_space.proofs.steps.WalkSteps.{FoundEntry, found_entry, found_inside, named_frame, byte_written, load_marked}
-use Rattle.process_table.specs.Image.{memory_of}
-use Rattle.process_table.specs.View.{View}
-use Rattle.kernel_calls.specs.Processors.{IsCore, IsWalked}
-use Rattle.kernel_calls.specs.Walked.{finds_call, bytes_accessed}
-use Rattle.kernel_calls.specs.declared.calls.Call.{Call}
 use Rattle.kernel_calls.specs.declared.calls.Call.TheVariants as call
-use Rattle.kernel_calls.specs.declared.calls.Event.{Event}
-use Rattle.kernel_calls.specs.declared.calls.Reply.{Reply}
-use Rattle.kernel_calls.proofs.CoreMemory.{spaces}
 
 -- no byte of a free frame is written
 abbrev pub LeavesFree : View → View → Type 0

@@ -1,23 +1,8 @@
 -- A mapped page of a core: what a walk finds there, and what a processor may keep of it.
-use Rattle.std.proofs.Common.{◌≡◌, ℕ, ◌<◌, ◌^◌, true, false, ap, sym, ◌∙◌, arith, Bool, Option, Some, unwrap_or, Ok, refl}
-use Rattle.std.specs.Option.{option_map}
-use Rattle.page_words.specs.Addresses.{page_number}
+use Rattle.shootdowns.proofs.Prelude
+use Prelude.{◌≡◌, ℕ, ◌<◌, ◌^◌, true, false, ap, sym, ◌∙◌, arith, Bool, Option, Some, unwrap_or, refl, option_map, page_number, frame_number, is_lazy, is_dirty, Access, Read, Write, walk_of, directory_at, page_word, is_lazy_at, Slot, Cell, at_page, way_of, way_parts, memory_of, View, IsCore, IsGiven, ways_of, has, walk_finds}
+use Rattle.std.proofs.Common.{Ok}
 use Rattle.page_words.specs.FiniteMap as map
-use Rattle.page_words.specs.Words.{frame_number, is_lazy, is_dirty}
-use Rattle.table_walk.specs.declared.Access.{Access}
-use Rattle.table_walk.specs.declared.Access.TheVariants.{Read, Write}
-use Rattle.table_walk.specs.Walk.{walk_of}
-use Rattle.address_space.specs.Image.{directory_at, page_word, is_lazy_at}
-use Rattle.address_space.specs.Spaces.{Slot, Cell, at_page}
-use Rattle.address_space.specs.Stays.{way_of}
-use Rattle.address_space.proofs.standing.FramesStand.{way_parts}
-use Rattle.process_table.specs.Image.{memory_of}
-use Rattle.process_table.specs.View.{View}
-use Rattle.kernel_calls.specs.Processors.{IsCore}
-use Rattle.kernel_calls.specs.Translations.{IsGiven}
-use Rattle.kernel_calls.proofs.CoreMemory.{ways_of}
-use Rattle.kernel_calls.proofs.Flags.{has}
-use Rattle.kernel_calls.proofs.Translated.{walk_finds}
 use Rattle.shootdowns.proofs.Accesses.{word_mapped, way_at}
 use Rattle.shootdowns.proofs.Onward.{stands_at}
 

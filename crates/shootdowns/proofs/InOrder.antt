@@ -1,34 +1,8 @@
 -- Steps of windows are events in an order.
-use Rattle.std.proofs.Common.{◌≡◌, ◌≢◌, ℕ, arith, true, false, List, [], ◌∷◌, ◌++◌, length, refl, ap, sym, ◌∙◌, subst, Option, Some, None}
-use Rattle.std.specs.Prelude.{◌⊎◌, ◌*◌, is_some, slice_get}
-use Rattle.std.specs.Option.{option_map}
-use Rattle.std.proofs.lemmas.Option.{slice_get_within}
-use Rattle.page_words.specs.Addresses.{slot_number}
-use Rattle.page_words.proofs.MapLemmas.{same_map}
-use Rattle.page_words.specs.Words.{frame_number}
-use Rattle.phys_memory.specs.Bytes.{frame_bytes, word_at, word_place, with_word_in}
-use Rattle.phys_memory.proofs.Frames.{frames-with_word, with_frame-other}
-use Rattle.alloc_table.specs.declared.Role.{Role}
-use Rattle.alloc_table.specs.declared.Role.TheVariants.{Free, Directory, Page}
-use Rattle.address_space.specs.ByWalk.{walked_word}
-use Rattle.address_space.specs.Image.{page_word}
-use Rattle.address_space.specs.View.{directory_of}
-use Rattle.address_space.specs.Spaces.{Slot, Cell, Spaces, with_bytes}
-use Rattle.process_table.specs.Image.{memory_of}
-use Rattle.process_table.specs.State.{State}
-use Rattle.process_table.specs.View.{View}
-use Rattle.process_table.specs.WellFormed.{IsWellFormed}
-use Rattle.kernel_calls.specs.Machine.{answers, next, end_of}
-use Rattle.kernel_calls.specs.Processors.{IsCore, Processors, with_kept, AllAreRead, AreAmong, IsWalked, IsMarked}
-use Rattle.kernel_calls.specs.Translations.{Kept, IsRead, AreRead, Ends, ended_by, left_by}
-use Rattle.kernel_calls.specs.declared.calls.Event.{Event}
-use Rattle.kernel_calls.specs.declared.calls.Reply.{Reply}
-use Rattle.kernel_calls.specs.declared.translations.Ended.{Ended}
-use Rattle.kernel_calls.proofs.Leaving.{left_read}
-use Rattle.kernel_calls.proofs.LeftByProcessors.{walks_leave_cores, marks_leave_cores}
-use Rattle.kernel_calls.proofs.MixedRuns.{among_read, read_with, one}
-use Rattle.kernel_calls.proofs.Runs.{kept-next}
-use Rattle.shootdowns.specs.Windows.{only_takes, Acknowledged, nobody, usable, Moment, acknowledged, ended_in, settled, under_way, Step, begun, loaded, stored, walked, marked, ordered, usual, refilled, forgotten, invalidated, told, Steps, none, first, memory_in, state_of, Stands, ShootdownsMakeEvents, stored_clean}
+use Rattle.shootdowns.proofs.Prelude
+use Prelude.{◌≡◌, ◌≢◌, ℕ, arith, true, false, List, [], ◌∷◌, ◌++◌, length, refl, ap, sym, ◌∙◌, subst, Option, Some, None, ◌⊎◌, slice_get, option_map, slice_get_within, slot_number, same_map, frame_number, frame_bytes, word_at, word_place, with_word_in, frames-with_word, with_frame-other, Role, Free, Directory, Page, walked_word, page_word, directory_of, Slot, Cell, Spaces, with_bytes, memory_of, State, View, IsWellFormed, answers, next, end_of, IsCore, Processors, with_kept, AllAreRead, AreAmong, IsWalked, IsMarked, Kept, IsRead, AreRead, Ends, ended_by, left_by, Event, Reply, Ended, left_read, walks_leave_cores, marks_leave_cores, among_read, read_with, one, kept-next, only_takes, Acknowledged, nobody, usable, Moment, acknowledged, ended_in, settled, under_way, Step, begun, loaded, walked, marked, ordered, usual, refilled, forgotten, invalidated, told, Steps, none, first, memory_in, state_of, Stands, ShootdownsMakeEvents, stored_clean}
+use Rattle.std.specs.Prelude.{◌*◌, is_some}
+use Rattle.shootdowns.specs.Windows.{stored}
 use Rattle.shootdowns.proofs.Accesses.{frame_at}
 use Rattle.shootdowns.proofs.Alike.{Alike, with_state, FlagsGrow, flags_read, alike_same, alike_then}
 use Rattle.shootdowns.proofs.Filled.{fill, get_filled}

@@ -1,14 +1,7 @@
 -- What processors keep apart from what was ended.
-use Rattle.std.proofs.Common.{◌≡◌, ℕ, zero, suc, Bool, true, false, ◌==◌, eq-eqb, List, [], ◌∷◌, refl, ap, sym, ◌∙◌, subst, inl, inr, Some}
-use Rattle.std.proofs.lemmas.Bool.{cases_eq, ne_eqb}
-use Rattle.std.specs.Prelude.{◌⊎◌, if◌then◌else◌, slice_get}
-use Rattle.process_table.specs.View.{View}
-use Rattle.kernel_calls.specs.Processors.{Processors, with_kept, AllAreRead, AreAmong}
-use Rattle.kernel_calls.specs.Translations.{Kept, translation, directory_entry, IsRead, AreRead, is_invalidated, left_by}
-use Rattle.kernel_calls.specs.declared.translations.Ended.{Ended}
+use Rattle.shootdowns.proofs.Prelude
+use Prelude.{◌≡◌, ℕ, zero, suc, Bool, true, false, ◌==◌, eq-eqb, List, [], ◌∷◌, refl, ap, sym, ◌∙◌, subst, inl, inr, Some, cases_eq, ne_eqb, ◌⊎◌, if◌then◌else◌, slice_get, View, Processors, with_kept, AllAreRead, AreAmong, Kept, translation, directory_entry, IsRead, AreRead, is_invalidated, left_by, Ended, read_at, among_read, Acknowledged, with_one, usable, KeepsNone}
 use Rattle.kernel_calls.specs.declared.translations.Ended.TheVariants as end
-use Rattle.kernel_calls.proofs.MixedRuns.{read_at, among_read}
-use Rattle.shootdowns.specs.Windows.{Acknowledged, with_one, usable, KeepsNone}
 
 none_there : (n : ℕ) (k : Kept) → slice_get {X = Kept} [] n ≡ Some k → ⊥
 none_there zero k h = cc

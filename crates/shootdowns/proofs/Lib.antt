@@ -9,6 +9,7 @@ pub mod Given
 pub mod InOrder
 pub mod Kept
 pub mod Onward
+pub mod Prelude
 pub mod Refilled
 pub mod Remade
 pub mod Rewritten

@@ -1,38 +1,9 @@
 -- Memory after an access by a walk, while an event that only takes away isn't in the order.
-use Rattle.std.proofs.Common.{◌≡◌, ℕ, ◌<◌, ◌^◌, Bool, true, false, refl, ap, sym, ◌∙◌, subst, arith, inl, inr, Option, Some, None, is_some}
-use Rattle.std.specs.Prelude.{◌⊎◌, if◌then◌else◌, MatchBool, Ok, slice_get}
-use Rattle.std.specs.Option.{option_map, option_and_then}
-use Rattle.std.proofs.lemmas.Option.{slice_get_within}
-use Rattle.page_words.specs.Addresses.{page_number, start_number}
+use Rattle.shootdowns.proofs.Prelude
+use Prelude.{◌≡◌, ℕ, ◌<◌, ◌^◌, Bool, true, false, refl, ap, sym, ◌∙◌, subst, arith, inl, inr, Option, Some, None, is_some, ◌⊎◌, if◌then◌else◌, MatchBool, Ok, slice_get, option_map, option_and_then, slice_get_within, page_number, start_number, frame_number, is_lazy, some_value, frame_bytes, Role, Reserved, Free, Page, Read, walk_of, directory_at, table_at, page_word, page_frame, is_lazy_at, CellStands, own_frame, Slot, Cell, at_page, slot_at, way_of, WalkEndsBy, way_parts, from_then, owned, own_is, memory_of, State, View, IsWellFormed, next, IsCore, Ends, WalkGives, Event, walks_of, ways_of, tables_map, only_takes}
 use Rattle.page_words.specs.FiniteMap as map
 use Rattle.page_words.specs.FiniteSet as set
-use Rattle.page_words.specs.Words.{frame_number, is_lazy}
-use Rattle.page_words.proofs.OptionLemmas.{some_value}
-use Rattle.phys_memory.specs.Bytes.{frame_bytes}
-use Rattle.alloc_table.specs.declared.Role.{Role}
-use Rattle.alloc_table.specs.declared.Role.TheVariants.{Reserved, Free, Page}
-use Rattle.table_walk.specs.declared.Access.TheVariants.{Read}
-use Rattle.table_walk.specs.Walk.{walk_of}
-use Rattle.address_space.specs.Image.{directory_at, table_at, page_word, page_frame, is_lazy_at, CellStands}
-use Rattle.address_space.specs.ImageWords.{own_frame}
-use Rattle.address_space.specs.Spaces.{Slot, Cell, at_page, slot_at}
-use Rattle.address_space.specs.Stays.{way_of}
-use Rattle.address_space.specs.Walks.{WalkEndsBy}
-use Rattle.address_space.proofs.standing.FramesStand.{way_parts}
-use Rattle.address_space.proofs.standing.Restored.{from_then}
-use Rattle.address_space.proofs.standing.TablesStand.{owned, own_is}
-use Rattle.process_table.specs.Image.{memory_of}
-use Rattle.process_table.specs.State.{State}
-use Rattle.process_table.specs.View.{View}
-use Rattle.process_table.specs.WellFormed.{IsWellFormed}
-use Rattle.kernel_calls.specs.Machine.{next}
-use Rattle.kernel_calls.specs.Processors.{IsCore}
-use Rattle.kernel_calls.specs.Translations.{Ends, WalkGives}
-use Rattle.kernel_calls.specs.declared.calls.Event.{Event}
 use Rattle.kernel_calls.specs.declared.translations.Ended.TheVariants as end
-use Rattle.kernel_calls.proofs.CoreMemory.{walks_of, ways_of}
-use Rattle.kernel_calls.proofs.Linked.{tables_map}
-use Rattle.shootdowns.specs.Windows.{only_takes}
 use Rattle.shootdowns.proofs.Accesses.{frame_at, frame_is, word_mapped, way_at, table_of_word, lazy_zero}
 use Rattle.shootdowns.proofs.Alike.{AlikeCell, Alike}
 use Rattle.shootdowns.proofs.Filled.{filled_state, get_filled}

@@ -1,28 +1,7 @@
 -- What a walk reads while an event that only takes away isn't in the order, was read before the event.
-use Rattle.std.proofs.Common.{◌≡◌, ℕ, ◌<◌, ◌^◌, true, false, ap, sym, ◌∙◌, subst, Option, Some, None, unwrap_or}
-use Rattle.std.specs.Prelude.{◌&&◌, not, MatchBool, Ok}
-use Rattle.page_words.specs.Addresses.{page_number}
+use Rattle.shootdowns.proofs.Prelude
+use Prelude.{◌≡◌, ℕ, ◌<◌, ◌^◌, true, false, ap, sym, ◌∙◌, subst, Option, Some, None, unwrap_or, ◌&&◌, not, MatchBool, Ok, page_number, frame_number, Access, Read, Write, walk_of, not_allowed, directory_at, table_at, page_word, is_lazy_at, takes_stores, Slot, Cell, at_page, slot_at, cell_or_fresh, fresh, way_of, WalkEndsBy, FindsBytes, lacks_right, way_parts, from_map, memory_of, State, View, next, IsCore, Kept, Translation, IsGiven, translation, directory_entry, IsRead, Event, walks_of, ways_of, walk_takes, only_takes}
 use Rattle.page_words.specs.FiniteMap as map
-use Rattle.page_words.specs.Words.{frame_number}
-use Rattle.table_walk.specs.declared.Access.{Access}
-use Rattle.table_walk.specs.declared.Access.TheVariants.{Read, Write}
-use Rattle.table_walk.specs.Walk.{walk_of, not_allowed}
-use Rattle.address_space.specs.Image.{directory_at, table_at, page_word, is_lazy_at, takes_stores}
-use Rattle.address_space.specs.Spaces.{Slot, Cell, at_page, slot_at, cell_or_fresh, fresh}
-use Rattle.address_space.specs.Stays.{way_of}
-use Rattle.address_space.specs.Walks.{WalkEndsBy, FindsBytes, lacks_right}
-use Rattle.address_space.proofs.standing.FramesStand.{way_parts}
-use Rattle.address_space.proofs.standing.Restored.{from_map}
-use Rattle.process_table.specs.Image.{memory_of}
-use Rattle.process_table.specs.State.{State}
-use Rattle.process_table.specs.View.{View}
-use Rattle.kernel_calls.specs.Machine.{next}
-use Rattle.kernel_calls.specs.Processors.{IsCore}
-use Rattle.kernel_calls.specs.Translations.{Kept, Translation, IsGiven, translation, directory_entry, IsRead}
-use Rattle.kernel_calls.specs.declared.calls.Event.{Event}
-use Rattle.kernel_calls.proofs.CoreMemory.{walks_of, ways_of}
-use Rattle.kernel_calls.proofs.Translated.{walk_takes}
-use Rattle.shootdowns.specs.Windows.{only_takes}
 use Rattle.shootdowns.proofs.Accesses.{frame_at, frame_is, word_mapped, both, real_by}
 use Rattle.shootdowns.proofs.Alike.{AlikeCell, Alike, with_state}
 use Rattle.shootdowns.proofs.Untouched.{Was, was}

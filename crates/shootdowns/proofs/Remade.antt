@@ -1,38 +1,15 @@
 -- Memory in which bytes of pages and of free frames were written, or dirty was set in words of pages that aren't lazy: it
 -- is a core's, whose cells have those bytes, and dirty there.
-use Rattle.std.proofs.Common.{◌≡◌, ◌≤◌, ◌≢◌, ℕ, ◌+◌, ◌*◌, ◌<◌, ◌^◌, Bool, true, false, List, [], ◌∷◌, length, refl, ap, sym, ◌∙◌, subst, arith, inr, Option, Some, None}
-use Rattle.std.specs.Prelude.{◌↔◌, ◌&&◌, not, if◌then◌else◌, nat_lt, IsTrue, MatchBool, is_some, slice_get, sum_by, Ok}
-use Rattle.std.specs.Option.{option_and_then, option_map, unwrap_or}
+use Rattle.shootdowns.proofs.Prelude
+use Prelude.{◌≡◌, ◌≤◌, ◌≢◌, ℕ, ◌+◌, ◌*◌, ◌<◌, ◌^◌, Bool, true, false, List, [], ◌∷◌, length, refl, ap, sym, ◌∙◌, subst, arith, inr, Option, Some, None, ◌↔◌, ◌&&◌, not, if◌then◌else◌, nat_lt, IsTrue, MatchBool, slice_get, sum_by, Ok, option_and_then, option_map, slot_number, index_number, nat_order, flag, with_flag, frame_number, is_present, is_accessed, is_lazy, IsKernelDirWord, NamesPage, flag-with_flag_same, set_flag_other, set_flag_frame, is_some-map, frame_bytes, word_in, Table, Access, Read, Write, walk_of, directory_at, table_at, word_of, named_by, present_word, page_word, page_frame, is_lazy_at, IsCount, SlotStands, CellStands, is_lazy_word, own_frame, IsTableWord, Slot, slot_order, Cell, slot_at, at_page, way_of, from_map, IsSoundImage, Account, IsCharge, image_of, memory_of, account_of, quota_from, State, View, IsWellFormed, Member, given, IsCore, Kept, translation, directory_entry, IsRead, AreRead, ways_of, has, walk_takes, walk_finds, has_right}
+use Rattle.std.specs.Prelude.{is_some}
+use Rattle.std.specs.Option.{unwrap_or}
 use Rattle.std.specs.List.{range_with_len}
-use Rattle.page_words.specs.Addresses.{slot_number, index_number}
 use Rattle.page_words.specs.FiniteMap as map
-use Rattle.page_words.specs.FiniteMap.{nat_order}
 use Rattle.page_words.specs.FiniteSet as set
-use Rattle.page_words.specs.Words.{flag, with_flag, frame_number, is_present, is_accessed, is_lazy, IsKernelDirWord, NamesPage}
-use Rattle.page_words.proofs.Flags.{flag-with_flag_same, set_flag_other, set_flag_frame}
-use Rattle.page_words.proofs.OptionLemmas.{is_some-map}
-use Rattle.phys_memory.specs.Bytes.{frame_bytes, word_in}
-use Rattle.alloc_table.specs.declared.Role.TheVariants.{Table}
-use Rattle.table_walk.specs.declared.Access.{Access}
-use Rattle.table_walk.specs.declared.Access.TheVariants.{Read, Write}
-use Rattle.table_walk.specs.Walk.{walk_of}
 use Rattle.address_space.specs.Image as memory
-use Rattle.address_space.specs.Image.{directory_at, table_at, word_of, named_by, present_word, page_word, page_frame, is_lazy_at, IsCount, SlotStands, CellStands}
-use Rattle.address_space.specs.ImageWords.{is_lazy_word, own_frame, IsTableWord}
-use Rattle.address_space.specs.Spaces.{Slot, slot_order, Cell, slot_at, at_page}
-use Rattle.address_space.specs.Stays.{way_of}
 use Rattle.address_space.proofs.costs.AccessCosts.{cost-same}
-use Rattle.address_space.proofs.standing.Restored.{from_map}
-use Rattle.process_table.specs.Image.{IsSoundImage, Account, IsCharge, image_of, memory_of, account_of, quota_from}
-use Rattle.process_table.specs.State.{State}
-use Rattle.process_table.specs.View.{View}
-use Rattle.process_table.specs.WellFormed.{IsWellFormed}
-use Rattle.quota_tree.specs.Book.{Member, given}
-use Rattle.kernel_calls.specs.Processors.{IsCore, with_bytes}
-use Rattle.kernel_calls.specs.Translations.{Kept, translation, directory_entry, IsRead, AreRead}
-use Rattle.kernel_calls.proofs.CoreMemory.{ways_of}
-use Rattle.kernel_calls.proofs.Flags.{has}
-use Rattle.kernel_calls.proofs.Translated.{walk_takes, walk_finds, has_right}
+use Rattle.kernel_calls.specs.Processors.{with_bytes}
 use Rattle.kernel_calls.proofs.Writings.{word_at_slot}
 use Rattle.shootdowns.proofs.DirtyCells.{dirt, dirt_alike, dirt_flags, dirt_accessed}
 use Rattle.shootdowns.proofs.Filled.{fill}

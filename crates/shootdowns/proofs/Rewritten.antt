@@ -1,20 +1,7 @@
 -- Memory in which bytes of pages and of free frames were written.
-use Rattle.std.proofs.Common.{◌≡◌, ℕ, Bool, true, false, List, length, refl, ap, arith, Some}
-use Rattle.std.specs.Prelude.{slice_get}
-use Rattle.std.specs.Option.{option_map}
-use Rattle.page_words.specs.Addresses.{slot_number, index_number}
+use Rattle.shootdowns.proofs.Prelude
+use Prelude.{◌≡◌, ℕ, Bool, true, false, List, length, refl, ap, arith, Some, slice_get, option_map, slot_number, index_number, frame_number, frame_bytes, word_in, Role, Reserved, Free, Directory, Table, Page, page_word, Slot, memory_of, State, View, IsWellFormed, IsCore}
 use Rattle.page_words.specs.FiniteMap as map
-use Rattle.page_words.specs.Words.{frame_number}
-use Rattle.phys_memory.specs.Bytes.{frame_bytes, word_in}
-use Rattle.alloc_table.specs.declared.Role.{Role}
-use Rattle.alloc_table.specs.declared.Role.TheVariants.{Reserved, Free, Directory, Table, Page}
-use Rattle.address_space.specs.Image.{page_word}
-use Rattle.address_space.specs.Spaces.{Slot}
-use Rattle.process_table.specs.Image.{memory_of}
-use Rattle.process_table.specs.State.{State}
-use Rattle.process_table.specs.View.{View}
-use Rattle.process_table.specs.WellFormed.{IsWellFormed}
-use Rattle.kernel_calls.specs.Processors.{IsCore}
 use Rattle.shootdowns.proofs.Filled.{fill}
 use Rattle.shootdowns.proofs.Remade.{Remade}
 

@@ -1,19 +1,10 @@
 -- What others may do in the window of each call.
-use Rattle.std.proofs.Common.{◌≡◌, Bool, true, false, [], ◌∷◌, refl, ap, ◌∙◌}
-use Rattle.std.specs.Prelude.{if◌then◌else◌}
-use Rattle.kernel_calls.specs.Machine.{answer, next, completes}
-use Rattle.kernel_calls.specs.Processors.{Processors}
-use Rattle.kernel_calls.specs.Translations.{ended_by, of_call}
-use Rattle.kernel_calls.specs.declared.calls.Call.{Call}
+use Rattle.shootdowns.proofs.Prelude
+use Prelude.{◌≡◌, Bool, true, false, [], ◌∷◌, refl, ap, ◌∙◌, if◌then◌else◌, answer, next, completes, Processors, ended_by, of_call, Call, Event, Reply, Ended, State, nobody, settled, CleanStoresComeFirst, StaleStoresComeFirst, StaleLoadsComeFirst, WalksComeFirst, OthersAreRead, may_end, OthersEndNothing}
 use Rattle.kernel_calls.specs.declared.calls.Call.TheVariants as call
-use Rattle.kernel_calls.specs.declared.calls.Event.{Event}
-use Rattle.kernel_calls.specs.declared.calls.Reply.{Reply}
-use Rattle.kernel_calls.specs.declared.translations.Ended.{Ended}
 use Rattle.kernel_calls.specs.declared.translations.Ended.TheVariants as end
-use Rattle.process_table.specs.State.{State}
 use Rattle.shootdowns.proofs.InOrder.{shootdowns_make_events}
 use Rattle.shootdowns.specs.Windows as window
-use Rattle.shootdowns.specs.Windows.{nobody, settled, CleanStoresComeFirst, StaleStoresComeFirst, StaleLoadsComeFirst, WalksComeFirst, OthersAreRead, may_end, OthersEndNothing}
 
 -- an access that is made behind an event comes before it in the order
 both_told : (s : State) (e a : Event) (r q : Reply) → (q ∷ r ∷ []) ≡ (answer s a ∷ answer (next s a) e ∷ []) → (q ≡ answer s a) × (r ≡ answer (next s a) e)

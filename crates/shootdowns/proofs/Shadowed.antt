@@ -1,45 +1,14 @@
 -- Uses of what was kept come after an event that gives lazy pages frames and leaves their zeros.
-use Rattle.std.proofs.Common.{◌≡◌, ◌≢◌, ℕ, Bool, true, false, List, [], ◌∷◌, ◌+◌, refl, ap, sym, ◌∙◌, arith, inl, inr, Option, Some, None, subst, unwrap_or, is_some}
-use Rattle.std.specs.Prelude.{◌⊎◌, if◌then◌else◌, slice_get, slice_index}
+use Rattle.shootdowns.proofs.Prelude
+use Prelude.{◌≡◌, ◌≢◌, ℕ, Bool, true, false, List, [], ◌∷◌, ◌+◌, refl, ap, sym, ◌∙◌, arith, inl, inr, Option, Some, None, subst, unwrap_or, is_some, ◌⊎◌, if◌then◌else◌, slice_get, slice_index, page_number, offset_number, byte_count, EachTouched, Size, frame_bytes, byte-frame, Read, Write, directory_at, is_lazy_at, kept_place, number_at, Slot, Cell, at_page, slot_at, fresh, byte_at, value_of, each_byte, same_each, memory_of, State, is_live, is_mapped, View, touched_user, plan_of, plan_at, each_page, walk_completes, Serves, ServesCall, ServesEvent, IsLoad, IsStore, reply_kept, answer, answer_of, answers, after, next, completes, end_of, IsCore, IsLeft, Processors, AllAreRead, IsLoaded, LetsThrough, LetCall, Translation, translation, IsGiven, Ends, AreRead, ended_by, is_ended, Call, Event, Reply, Ended, goes-call, next-goes, Touched, loaded_same, live, kept_find, kept_reply, stores_leave_cores, left_read, read_at, answered, goes_frameless, told_planned, IsStale, Uses, ComeAfter, UsesComeAfterZeros}
 use Rattle.page_words.specs.FiniteMap as map
 use Rattle.page_words.specs.FiniteSet as set
-use Rattle.page_words.specs.Addresses.{page_number, offset_number, byte_count, EachTouched}
-use Rattle.page_words.specs.declared.addresses.Size.{Size}
-use Rattle.phys_memory.specs.Bytes.{frame_bytes}
-use Rattle.phys_memory.proofs.Frames.{byte-frame}
-use Rattle.table_walk.specs.declared.Access.TheVariants.{Read, Write}
-use Rattle.address_space.specs.Image.{directory_at, is_lazy_at}
-use Rattle.address_space.specs.Kept.{kept_place, number_at}
-use Rattle.address_space.specs.Spaces.{Slot, Cell, at_page, slot_at, fresh, byte_at, value_of}
-use Rattle.address_space.proofs.steps.Bytes.{each_byte}
-use Rattle.address_space.proofs.steps.Finding.{same_each}
 use Rattle.process_table.specs.Calls as calls
-use Rattle.process_table.specs.Image.{memory_of}
-use Rattle.process_table.specs.State.{State, is_live, is_mapped}
-use Rattle.process_table.specs.View.{View}
-use Rattle.process_table.proofs.SharingLaws.{touched_user}
-use Rattle.fault_handler.specs.Plans.{plan_of, plan_at}
-use Rattle.fault_handler.proofs.Settled.{each_page}
-use Rattle.fault_handler.proofs.Walked.{walk_completes}
-use Rattle.kernel_calls.specs.Kept.{Serves, ServesCall, ServesEvent, IsLoad, IsStore, reply_kept}
-use Rattle.kernel_calls.specs.Machine.{answer, answer_of, answers, after, next, completes, end_of}
-use Rattle.kernel_calls.specs.Processors.{IsCore, IsLeft, Processors, AllAreRead, IsLoaded, LetsThrough, LetCall, with_bytes}
-use Rattle.kernel_calls.specs.Translations.{Translation, translation, IsGiven, Ends, AreRead, ended_by, is_ended}
-use Rattle.kernel_calls.specs.declared.calls.Call.{Call}
+use Rattle.kernel_calls.specs.Processors.{with_bytes}
 use Rattle.kernel_calls.specs.declared.calls.Call.TheVariants as call
-use Rattle.kernel_calls.specs.declared.calls.Event.{Event}
-use Rattle.kernel_calls.specs.declared.calls.Reply.{Reply}
 use Rattle.kernel_calls.specs.declared.calls.Reply.TheVariants as reply
-use Rattle.kernel_calls.specs.declared.translations.Ended.{Ended}
 use Rattle.kernel_calls.specs.declared.translations.Ended.TheVariants as end
-use Rattle.kernel_calls.proofs.Decided.{goes-call, next-goes}
-use Rattle.kernel_calls.proofs.KeptAccesses.{Touched, loaded_same, live, kept_find, kept_reply}
-use Rattle.kernel_calls.proofs.LeftByProcessors.{stores_leave_cores}
-use Rattle.kernel_calls.proofs.Leaving.{left_read}
-use Rattle.kernel_calls.proofs.MixedRuns.{read_at}
-use Rattle.kernel_calls.proofs.WalkedReplies.{answered, goes_frameless, told_planned}
-use Rattle.shootdowns.specs.Windows.{IsStale}
-use Rattle.shootdowns.specs.Shadows.{Uses, none, loaded, stored, ComeAfter, UsesComeAfterZeros}
+use Rattle.shootdowns.specs.Shadows.{none, loaded, stored}
 use Rattle.shootdowns.proofs.Accesses.{on_frame, lazy_zero, takes_served}
 use Rattle.shootdowns.proofs.Alike.{alike_same}
 use Rattle.shootdowns.proofs.Taking.{cell_bytes}

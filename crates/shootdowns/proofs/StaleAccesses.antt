@@ -1,28 +1,6 @@
 -- Accesses by what is kept of the memory before an event that only takes away.
-use Rattle.std.proofs.Common.{◌≡◌, ℕ, true, false, List, [], ◌∷◌, length, refl, ap, sym, ◌∙◌, inl, inr, Option, Some, None}
-use Rattle.std.specs.Prelude.{◌⊎◌, slice_get}
-use Rattle.std.specs.Option.{option_map}
-use Rattle.phys_memory.specs.Bytes.{frame_bytes}
-use Rattle.alloc_table.specs.declared.Role.{Role}
-use Rattle.alloc_table.specs.declared.Role.TheVariants.{Free, Page}
-use Rattle.address_space.specs.Image.{page_word}
-use Rattle.address_space.specs.Spaces.{Slot, Cell}
-use Rattle.page_words.specs.Words.{frame_number}
-use Rattle.process_table.specs.Image.{memory_of}
-use Rattle.process_table.specs.State.{State}
-use Rattle.process_table.specs.View.{View}
-use Rattle.process_table.specs.WellFormed.{IsWellFormed}
-use Rattle.kernel_calls.specs.Kept.{ServesEvent, bytes_kept, IsLoad, reply_kept}
-use Rattle.kernel_calls.specs.Machine.{answer, next}
-use Rattle.kernel_calls.specs.Processors.{IsCore, Processors, IsLoaded}
-use Rattle.kernel_calls.specs.Translations.{Kept, AreRead}
-use Rattle.kernel_calls.specs.declared.calls.Call.{Call}
-use Rattle.kernel_calls.specs.declared.calls.Event.{Event}
-use Rattle.kernel_calls.specs.declared.calls.Reply.{Reply}
-use Rattle.kernel_calls.specs.declared.translations.Ended.{Ended}
-use Rattle.kernel_calls.proofs.MixedRuns.{serves_call}
-use Rattle.kernel_calls.proofs.Runs.{kept-next}
-use Rattle.shootdowns.specs.Windows.{only_takes, Acknowledged, usable, under_way, IsStale}
+use Rattle.shootdowns.proofs.Prelude
+use Prelude.{◌≡◌, ℕ, true, false, List, [], ◌∷◌, length, refl, ap, sym, ◌∙◌, inl, inr, Option, Some, None, ◌⊎◌, slice_get, option_map, frame_bytes, Role, Free, Page, page_word, Slot, Cell, frame_number, memory_of, State, View, IsWellFormed, ServesEvent, bytes_kept, IsLoad, reply_kept, answer, next, IsCore, Processors, IsLoaded, Kept, AreRead, Call, Event, Reply, Ended, serves_call, kept-next, only_takes, Acknowledged, usable, under_way, IsStale}
 use Rattle.shootdowns.proofs.Accesses.{frame_at, kept_answer, kept_next, kept_beside, kept_long}
 use Rattle.shootdowns.proofs.Alike.{Alike, with_state, FlagsGrow, flags_read, alike_then, alike_filled, again}
 use Rattle.shootdowns.proofs.Filled.{fill, filled_state, get_filled, answer_filled, next_filled}

@@ -1,20 +1,6 @@
 -- What stands at each moment of a window, and what a step makes of what comes after it.
-use Rattle.std.proofs.Common.{◌≡◌, ℕ, true, List, [], ◌∷◌, ◌++◌, length, ap, Some}
-use Rattle.std.specs.Prelude.{◌⊎◌, slice_get}
-use Rattle.page_words.specs.Words.{frame_number}
-use Rattle.alloc_table.specs.declared.Role.TheVariants.{Free, Page}
-use Rattle.address_space.specs.Image.{directory_at, table_at, page_word}
-use Rattle.address_space.specs.Spaces.{Slot}
-use Rattle.process_table.specs.Image.{memory_of}
-use Rattle.process_table.specs.State.{State}
-use Rattle.process_table.specs.View.{View}
-use Rattle.process_table.specs.WellFormed.{IsWellFormed}
-use Rattle.kernel_calls.specs.Machine.{answer, answers, next, end_of}
-use Rattle.kernel_calls.specs.Processors.{IsCore, Processors, AllAreRead}
-use Rattle.kernel_calls.specs.declared.calls.Event.{Event}
-use Rattle.kernel_calls.specs.declared.calls.Reply.{Reply}
-use Rattle.kernel_calls.specs.declared.translations.Ended.{Ended}
-use Rattle.shootdowns.specs.Windows.{only_takes, Acknowledged, Moment, settled, under_way, state_of, Stands}
+use Rattle.shootdowns.proofs.Prelude
+use Prelude.{◌≡◌, ℕ, true, List, [], ◌∷◌, ◌++◌, length, ap, Some, ◌⊎◌, slice_get, frame_number, Free, Page, directory_at, table_at, page_word, Slot, memory_of, State, View, IsWellFormed, answer, answers, next, end_of, IsCore, Processors, AllAreRead, Event, Reply, Ended, only_takes, Acknowledged, Moment, settled, under_way, state_of, Stands}
 use Rattle.shootdowns.proofs.Accesses.{frame_at}
 use Rattle.shootdowns.proofs.Alike.{Alike, with_state}
 use Rattle.shootdowns.proofs.Filled.{filled_state}

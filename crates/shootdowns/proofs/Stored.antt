@@ -1,17 +1,8 @@
 -- Stores into the frames of pages, on cells that have these frames' bytes.
-use Rattle.std.proofs.Common.{◌≡◌, ◌≢◌, ℕ, zero, suc, ◌+◌, ◌*◌, ◌/◌, ◌%◌, ◌<◌, ◌≤◌, Bool, true, false, cond, List, [], ◌∷◌, length, length-set, refl, ap, sym, ◌∙◌, subst, arith, inl, inr, Option, Some, None, unwrap_or}
-use Rattle.std.specs.Prelude.{◌⊎◌, if◌then◌else◌, slice_set}
-use Rattle.std.specs.Option.{option_map}
-use Rattle.page_words.specs.Addresses.{page_number, offset_number}
+use Rattle.shootdowns.proofs.Prelude
+use Prelude.{◌≡◌, ◌≢◌, ℕ, zero, suc, ◌+◌, ◌*◌, ◌/◌, ◌%◌, ◌<◌, ◌≤◌, Bool, true, false, cond, List, [], ◌∷◌, length, length-set, refl, ap, sym, ◌∙◌, subst, arith, inl, inr, Option, Some, None, unwrap_or, ◌⊎◌, if◌then◌else◌, slice_set, option_map, page_number, offset_number, same, same_map, same_or_not, get-insert, get-map_values, frame_bytes, IsInside, with_frame, frames-with_byte, with_frame-same, with_frame-other, length-frame, kept_place, written_at, Slot, slot_order, Cell, Spaces, at_page, cell_or_fresh, fresh, with_bytes, set_bytes, write_at, stored, all_stored, bytes_of, byte_is_write}
 use Rattle.page_words.specs.FiniteMap as map
-use Rattle.page_words.specs.FiniteMap.{same}
 use Rattle.page_words.specs.FiniteSet as set
-use Rattle.page_words.proofs.MapLemmas.{same_map, same_or_not, get-insert, get-map_values}
-use Rattle.phys_memory.specs.Bytes.{frame_bytes, IsInside, with_frame}
-use Rattle.phys_memory.proofs.Frames.{frames-with_byte, with_frame-same, with_frame-other, length-frame}
-use Rattle.address_space.specs.Kept.{kept_place, written_at}
-use Rattle.address_space.specs.Spaces.{Slot, slot_order, Cell, Spaces, at_page, cell_or_fresh, fresh, with_bytes, set_bytes, write_at, stored, all_stored, bytes_of}
-use Rattle.address_space.proofs.steps.Stores.{byte_is_write}
 use Rattle.shootdowns.proofs.Filled.{fill, filled, get_filled}
 
 -- memory keeps its length

@@ -1,16 +1,10 @@
 -- Accesses of mapped pages, and slots that go or lose a right, in either order.
-use Rattle.std.proofs.Common.{◌≡◌, ◌≢◌, ℕ, Bool, true, false, not, cond, ◌&&◌, List, refl, ap, sym, ◌∙◌, subst, inl, inr, Option, Some, None, unwrap_or}
-use Rattle.std.specs.Prelude.{◌⊎◌, if◌then◌else◌}
-use Rattle.std.specs.Option.{option_map}
+use Rattle.shootdowns.proofs.Prelude
+use Prelude.{◌≡◌, ◌≢◌, ℕ, Bool, true, false, cond, List, refl, ap, sym, ◌∙◌, subst, inl, inr, Option, Some, None, unwrap_or, ◌⊎◌, if◌then◌else◌, option_map, same, Set, same_map, same_or_not, same_itself, get-insert, get-map_values, contains-retain, Slot, slot_order, Cell, Spaces, cell_or_fresh, fresh, with_bytes, set_bytes, write_at, stored, accessed, protected, without, get-inserted, get-inserted_other, fewer, get_gone, bytes_gone}
+use Rattle.std.proofs.Common.{not, ◌&&◌}
 use Rattle.page_words.specs.FiniteMap as map
-use Rattle.page_words.specs.FiniteMap.{same}
 use Rattle.page_words.specs.FiniteSet as set
-use Rattle.page_words.specs.FiniteSet.{Set}
-use Rattle.page_words.proofs.MapLemmas.{same_map, same_or_not, same_itself, get-insert, get-map_values, contains-retain}
-use Rattle.address_space.specs.Spaces.{Slot, slot_order, Cell, Spaces, cell_or_fresh, fresh, with_bytes, set_bytes, write_at, stored, accessed, protected, without}
-use Rattle.process_table.proofs.CellLaws.{get-inserted, get-inserted_other}
 use Rattle.kernel_calls.proofs.Commuting.{two_slots}
-use Rattle.kernel_calls.proofs.CommutingGone.{fewer, get_gone, bytes_gone}
 
 -- what stands at a slot that stays
 pub get_staying : (S : Spaces) (gone : Slot → Bool) (b : Slot) → gone b ≡ false → map.get (without S gone) b ≡ option_map (fewer gone) (map.get S b)

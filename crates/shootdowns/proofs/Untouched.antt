@@ -1,25 +1,10 @@
 -- What an access leaves of the bytes of slots that it doesn't touch, and what an event that only takes away leaves.
-use Rattle.std.proofs.Common.{◌≡◌, ◌≢◌, ℕ, zero, suc, ◌+◌, ◌/◌, ◌%◌, ◌<◌, Bool, true, false, not, cond, List, [], ◌∷◌, refl, ap, sym, ◌∙◌, subst, arith, inl, inr, Option, Some, None, unwrap_or, is_some}
-use Rattle.std.specs.Prelude.{◌⊎◌, if◌then◌else◌, IfSome}
-use Rattle.std.specs.Option.{option_map}
-use Rattle.page_words.specs.Addresses.{page_number, offset_number, page_and, second_page, byte_count, touched, EachTouched}
+use Rattle.shootdowns.proofs.Prelude
+use Prelude.{◌≡◌, ◌≢◌, ℕ, zero, suc, ◌+◌, ◌/◌, ◌%◌, ◌<◌, Bool, true, false, cond, List, [], ◌∷◌, refl, ap, sym, ◌∙◌, subst, arith, inl, inr, Option, Some, None, unwrap_or, is_some, ◌⊎◌, if◌then◌else◌, IfSome, option_map, page_number, offset_number, page_and, second_page, byte_count, touched, EachTouched, same, same_or_not, get-insert, get-map_values, some_value, Slot, slot_order, Cell, Spaces, at_page, slot_at, cell_or_fresh, fresh, with_bytes, set_bytes, write_at, stored, all_stored, bytes_of, accessed, all_accessed, protected, without, is_slot, is_of, IsThere, with_touched-same, each_byte, State, each_page, answer, answer_of, after, next, completes, Call, Event, fewer, get_gone, next-stays, next-goes, only_takes}
+use Rattle.std.proofs.Common.{not}
 use Rattle.page_words.specs.FiniteMap as map
-use Rattle.page_words.specs.FiniteMap.{same}
 use Rattle.page_words.specs.FiniteSet as set
-use Rattle.page_words.proofs.MapLemmas.{same_or_not, get-insert, get-map_values}
-use Rattle.page_words.proofs.OptionLemmas.{some_value}
-use Rattle.address_space.specs.Spaces.{Slot, slot_order, Cell, Spaces, at_page, slot_at, cell_or_fresh, fresh, with_bytes, set_bytes, write_at, stored, all_stored, bytes_of, accessed, all_accessed, protected, without, is_slot, is_of}
-use Rattle.address_space.proofs.costs.MapFirst.{IsThere, with_touched-same}
-use Rattle.address_space.proofs.steps.Bytes.{each_byte}
-use Rattle.process_table.specs.State.{State}
-use Rattle.fault_handler.proofs.Settled.{each_page}
-use Rattle.kernel_calls.specs.Machine.{answer, answer_of, after, next, completes}
-use Rattle.kernel_calls.specs.declared.calls.Call.{Call}
 use Rattle.kernel_calls.specs.declared.calls.Call.TheVariants as call
-use Rattle.kernel_calls.specs.declared.calls.Event.{Event}
-use Rattle.kernel_calls.proofs.CommutingGone.{fewer, get_gone}
-use Rattle.kernel_calls.proofs.Decided.{next-stays, next-goes}
-use Rattle.shootdowns.specs.Windows.{only_takes}
 use Rattle.shootdowns.proofs.Filled.{protects_mapped, completed}
 use Rattle.shootdowns.proofs.Turned.{Grows, has_then, grows_accessed, grows_stored}
 

@@ -1,41 +1,13 @@
 -- An access by a walk, while an event that only takes away isn't in the order.
-use Rattle.std.proofs.Common.{◌≡◌, ℕ, ◌+◌, Bool, true, false, List, refl, ap, sym, ◌∙◌, subst, Option, Some, unwrap_or, is_some}
-use Rattle.std.specs.Prelude.{◌&&◌, not, if◌then◌else◌, slice_index}
-use Rattle.page_words.specs.Addresses.{page_number, offset_number, byte_count}
-use Rattle.page_words.specs.declared.addresses.Size.{Size}
+use Rattle.shootdowns.proofs.Prelude
+use Prelude.{◌≡◌, ℕ, ◌+◌, Bool, true, false, List, refl, ap, sym, ◌∙◌, subst, Option, Some, unwrap_or, is_some, ◌&&◌, not, if◌then◌else◌, slice_index, page_number, offset_number, byte_count, Size, some_value, Access, Read, Write, finds_at, finds, directory_at, is_lazy_at, takes_stores, Slot, Cell, at_page, slot_at, byte_at, value_of, cell_or_fresh, fresh, each_byte, same_each, memory_of, State, is_live, is_mapped, View, IsWellFormed, touched_user, plan_of, plan_at, takes_no_frame, each_page, walk_completes, answer, answer_of, next, completes, IsCore, finds_call, finds_event, reply_found, Call, Event, goes-call, next-goes, kept-next, answered, each_found, page_mapped, page_takes, only_takes, goes_frameless, told_planned}
 use Rattle.page_words.specs.FiniteMap as map
 use Rattle.page_words.specs.FiniteSet as set
-use Rattle.page_words.proofs.OptionLemmas.{some_value}
-use Rattle.table_walk.specs.declared.Access.{Access}
-use Rattle.table_walk.specs.declared.Access.TheVariants.{Read, Write}
-use Rattle.address_space.specs.ByWalk.{finds_at, finds}
-use Rattle.address_space.specs.Image.{directory_at, is_lazy_at, takes_stores}
-use Rattle.address_space.specs.Spaces.{Slot, Cell, at_page, slot_at, byte_at, value_of, cell_or_fresh, fresh}
-use Rattle.address_space.proofs.steps.Bytes.{each_byte}
-use Rattle.address_space.proofs.steps.Finding.{same_each}
 use Rattle.process_table.specs.Calls.{loaded}
-use Rattle.process_table.specs.Image.{memory_of}
-use Rattle.process_table.specs.State.{State, is_live, is_mapped}
-use Rattle.process_table.specs.View.{View}
-use Rattle.process_table.specs.WellFormed.{IsWellFormed}
 use Rattle.process_table.specs.declared.causes.Cause.TheVariants as cause
-use Rattle.process_table.proofs.SharingLaws.{touched_user}
-use Rattle.fault_handler.specs.Plans.{plan_of, plan_at, takes_no_frame}
-use Rattle.fault_handler.proofs.Settled.{each_page}
-use Rattle.fault_handler.proofs.Walked.{walk_completes}
-use Rattle.kernel_calls.specs.Machine.{answer, answer_of, next, completes}
-use Rattle.kernel_calls.specs.Processors.{IsCore}
-use Rattle.kernel_calls.specs.Walked.{finds_call, finds_event, reply_found}
-use Rattle.kernel_calls.specs.declared.calls.Call.{Call}
 use Rattle.kernel_calls.specs.declared.calls.Call.TheVariants as call
-use Rattle.kernel_calls.specs.declared.calls.Event.{Event}
 use Rattle.kernel_calls.specs.declared.calls.Reply.TheVariants as reply
-use Rattle.kernel_calls.proofs.Decided.{goes-call, next-goes}
-use Rattle.kernel_calls.proofs.Runs.{kept-next}
-use Rattle.kernel_calls.proofs.WalkedReplies.{answered, each_found, page_mapped, page_takes}
-use Rattle.shootdowns.specs.Windows.{only_takes}
 use Rattle.shootdowns.proofs.Accesses.{both}
-use Rattle.kernel_calls.proofs.WalkedReplies.{goes_frameless, told_planned}
 use Rattle.shootdowns.proofs.Turned.{Pages, StaysMapped, Mapped, mapped_before, mapped_after}
 use Rattle.shootdowns.proofs.Taking.{left_next}
 use Rattle.shootdowns.proofs.Untouched.{was, Beside, Besides, after_beside}

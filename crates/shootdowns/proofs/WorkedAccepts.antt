@@ -1,31 +1,9 @@
 -- The load of the worked Accept.
-use Rattle.std.proofs.Common.{◌≡◌, ◌==◌, ℕ, Bool, true, false, [], ◌∷◌, refl, ap, sym, ◌∙◌, subst, arith, Some, is_some}
-use Rattle.std.specs.Prelude.{if◌then◌else◌}
-use Rattle.std.specs.Option.{option_map}
+use Rattle.shootdowns.proofs.Prelude
+use Prelude.{◌≡◌, ◌==◌, ℕ, Bool, true, false, [], ◌∷◌, refl, ap, sym, ◌∙◌, subst, arith, Some, is_some, if◌then◌else◌, option_map, some_value, Read, is_lazy_at, Cell, at_page, FramesStay, memory_of, State, open_with, View, gone_by, gone_of_call, reply_kept, LeavesLazy, answer, completes, next, AllAreRead, IsCore, IsLoaded, Processors, with_kept, AreRead, IsRead, Kept, translation, Ends, ended_by, is_invalidated, Event, Reply, Ended, ways_of, mapped_way, Uses, Begins, accept_it, load_it, map_it, none_kept, offer_it, spawn_it, WorkedZeros}
 use Rattle.page_words.specs.FiniteMap as map
-use Rattle.page_words.proofs.OptionLemmas.{some_value}
-use Rattle.table_walk.specs.declared.Access.TheVariants.{Read}
-use Rattle.address_space.specs.Image.{is_lazy_at}
-use Rattle.address_space.specs.Spaces.{Cell, at_page}
-use Rattle.address_space.specs.Stays.{FramesStay}
-use Rattle.process_table.specs.Image.{memory_of}
-use Rattle.process_table.specs.State.{State, open_with}
-use Rattle.process_table.specs.View.{View}
-use Rattle.kernel_calls.specs.Gone.{gone_by, gone_of_call}
-use Rattle.kernel_calls.specs.Kept.{reply_kept}
-use Rattle.kernel_calls.specs.Lazy.{LeavesLazy}
-use Rattle.kernel_calls.specs.Machine.{answer, completes, next}
-use Rattle.kernel_calls.specs.Processors.{AllAreRead, IsCore, IsLoaded, Processors, with_kept}
-use Rattle.kernel_calls.specs.Translations.{AreRead, IsRead, Kept, translation, Ends, ended_by, is_invalidated}
-use Rattle.kernel_calls.specs.declared.calls.Event.{Event}
-use Rattle.kernel_calls.specs.declared.calls.Reply.{Reply}
 use Rattle.kernel_calls.specs.declared.calls.Reply.TheVariants as reply
-use Rattle.kernel_calls.specs.declared.translations.Ended.{Ended}
-use Rattle.kernel_calls.proofs.CoreMemory.{ways_of}
-use Rattle.kernel_calls.proofs.Linked.{mapped_way}
-use Rattle.shootdowns.specs.Shadows.{Uses, loaded, none}
-use Rattle.shootdowns.specs.Windows.{Begins}
-use Rattle.shootdowns.specs.Worked.{accept_it, load_it, map_it, none_kept, offer_it, spawn_it, WorkedZeros}
+use Rattle.shootdowns.specs.Shadows.{loaded, none}
 use Rattle.shootdowns.proofs.Given.{found, given_directory, given_frame, given_live}
 use Rattle.shootdowns.proofs.Shadowed.{uses_come_after_zeros}
 

@@ -1,38 +1,12 @@
 -- The steps of the worked Protect.
-use Rattle.std.proofs.Common.{◌≡◌, ◌≢◌, ◌==◌, ℕ, ◌≤◌, ◌^◌, ◌&&◌, Bool, true, false, List, [], ◌∷◌, refl, ap, sym, ◌∙◌, subst, inr, zero, suc, arith, Some, is_some, length, unwrap_or}
-use Rattle.std.specs.Prelude.{◌⊎◌, if◌then◌else◌, slice_get, nat_lt}
-use Rattle.std.specs.Option.{option_map}
+use Rattle.shootdowns.proofs.Prelude
+use Prelude.{◌≡◌, ◌≢◌, ◌==◌, ℕ, ◌≤◌, ◌^◌, Bool, true, false, List, [], ◌∷◌, refl, ap, sym, ◌∙◌, subst, inr, zero, suc, arith, Some, is_some, length, unwrap_or, ◌⊎◌, if◌then◌else◌, slice_get, nat_lt, option_map, some_value, Read, walk_of, finds_at, is_lazy_at, Cell, at_page, FramesStay, none_goes, memory_of, State, open_with, View, gone_by, gone_of_call, bytes_kept, LeavesLazy, answer, completes, next, AllAreRead, IsCore, IsWalked, Processors, with_kept, AreRead, IsRead, Kept, translation, directory_entry, Ends, ended_by, is_invalidated, left_by, bytes_accessed, reply_found, Event, Reply, Ended, ways_of, next-stays, next-goes, nothing_ends, walks_leave_cores, mapped_way, Begins, IsStaleClean, KeepsNone, Steps, begun, walked, stored_clean, ordered, refilled, forgotten, invalidated, told, none, first, nobody, with_one, settled, under_way, all_dirty, first_store, fork_it, load_copy, store_copy, protect_it, ask_it, none_kept, WorkedProtect}
+use Rattle.std.proofs.Common.{◌&&◌}
 use Rattle.std.specs.Result.{is_ok}
 use Rattle.page_words.specs.FiniteMap as map
-use Rattle.page_words.proofs.OptionLemmas.{some_value}
-use Rattle.table_walk.specs.declared.Access.TheVariants.{Read}
-use Rattle.table_walk.specs.Walk.{walk_of}
-use Rattle.address_space.specs.ByWalk.{finds_at}
-use Rattle.address_space.specs.Image.{is_lazy_at}
-use Rattle.address_space.specs.Spaces.{Cell, at_page}
-use Rattle.address_space.specs.Stays.{FramesStay, none_goes}
-use Rattle.process_table.specs.Image.{memory_of}
-use Rattle.process_table.specs.State.{State, open_with}
-use Rattle.process_table.specs.View.{View}
-use Rattle.kernel_calls.specs.Gone.{gone_by, gone_of_call}
-use Rattle.kernel_calls.specs.Kept.{bytes_kept}
-use Rattle.kernel_calls.specs.Lazy.{LeavesLazy}
-use Rattle.kernel_calls.specs.Machine.{answer, completes, next}
-use Rattle.kernel_calls.specs.Processors.{AllAreRead, IsCore, IsWalked, Processors, with_kept, with_bytes}
-use Rattle.kernel_calls.specs.Translations.{AreRead, IsRead, Kept, translation, directory_entry, Ends, ended_by, is_invalidated, left_by}
-use Rattle.kernel_calls.specs.Walked.{bytes_accessed, reply_found}
-use Rattle.kernel_calls.specs.declared.calls.Event.{Event}
-use Rattle.kernel_calls.specs.declared.calls.Reply.{Reply}
+use Rattle.kernel_calls.specs.Processors.{with_bytes}
 use Rattle.kernel_calls.specs.declared.calls.Reply.TheVariants as reply
-use Rattle.kernel_calls.specs.declared.translations.Ended.{Ended}
 use Rattle.kernel_calls.specs.declared.translations.Ended.TheVariants as end
-use Rattle.kernel_calls.proofs.CoreMemory.{ways_of}
-use Rattle.kernel_calls.proofs.Decided.{next-stays, next-goes}
-use Rattle.kernel_calls.proofs.Leaving.{nothing_ends}
-use Rattle.kernel_calls.proofs.LeftByProcessors.{walks_leave_cores}
-use Rattle.kernel_calls.proofs.Linked.{mapped_way}
-use Rattle.shootdowns.specs.Windows.{Begins, IsStaleClean, KeepsNone, Steps, begun, walked, stored_clean, ordered, refilled, forgotten, invalidated, told, none, first, nobody, with_one, settled, under_way, all_dirty}
-use Rattle.shootdowns.specs.Worked.{first_store, fork_it, load_copy, store_copy, protect_it, ask_it, none_kept, WorkedProtect}
 use Rattle.shootdowns.proofs.Given.{dirty_real, given, given_directory, given_frame, given_live, found}
 use Rattle.shootdowns.proofs.InOrder.{shootdowns_make_events}
 

@@ -1,40 +1,12 @@
 -- The steps of the worked window.
-use Rattle.std.proofs.Common.{◌≡◌, ◌≢◌, ℕ, ◌+◌, ◌<◌, ◌≤◌, ◌^◌, Bool, true, false, List, [], ◌∷◌, length, refl, ap, sym, ◌∙◌, subst, arith, Some, None, is_some}
-use Rattle.std.specs.Prelude.{◌⊎◌, ◌&&◌, if◌then◌else◌, ◌==◌}
-use Rattle.std.specs.Option.{option_and_then, option_map}
-use Rattle.std.proofs.lemmas.Option.{slice_get_within}
-use Rattle.alloc_table.specs.declared.Role.TheVariants.{Directory, Table}
-use Rattle.page_words.specs.Addresses.{index_number, slot_number}
+use Rattle.shootdowns.proofs.Prelude
+use Prelude.{◌≡◌, ◌≢◌, ℕ, ◌+◌, ◌<◌, ◌≤◌, ◌^◌, Bool, true, false, List, [], ◌∷◌, length, refl, ap, sym, ◌∙◌, subst, arith, Some, None, is_some, ◌⊎◌, ◌&&◌, if◌then◌else◌, option_and_then, option_map, slice_get_within, Directory, Table, index_number, slot_number, flag, frame_number, is_present, with_flag, flag-with_flag_other, flag-with_flag_same, is_some-map, some_value, word_at, word_place, with_word, word_in-frame, length-with_word, word_at-with_word_same, Access, Read, Write, with_walked, directory_at, is_user_slot, named_by, present_word, table_at, word_of, Cell, at_page, FramesStay, LooseStay, from_then, memory_of, State, is_live, open_with, View, gone_by, reply_kept, bytes_kept, answer, answers, next, AllAreRead, IsCore, Processors, with_kept, LetsThrough, IsLoaded, IsMarked, AreRead, Kept, translation, Ends, ended_by, left_by, Event, Reply, Ended, Begins, IsStale, KeepsNone, Steps, begun, loaded, marked, ordered, refilled, invalidated, told, none, first, nobody, with_one, settled, under_way, first_store, second_store, unmap_it, load_it, store_it, none_kept, WorkedWindow}
+use Rattle.std.specs.Prelude.{◌==◌}
 use Rattle.page_words.specs.FiniteMap as map
-use Rattle.page_words.specs.Words.{flag, frame_number, is_present, with_flag}
-use Rattle.page_words.proofs.Flags.{flag-with_flag_other, flag-with_flag_same}
 use Rattle.address_space.proofs.Prelude.{with_flag_lt}
-use Rattle.page_words.proofs.OptionLemmas.{is_some-map, some_value}
-use Rattle.phys_memory.specs.Bytes.{word_at, word_place, with_word}
-use Rattle.phys_memory.proofs.Frames.{word_in-frame}
-use Rattle.phys_memory.proofs.Words.{length-with_word, word_at-with_word_same}
-use Rattle.table_walk.specs.declared.Access.{Access}
-use Rattle.table_walk.specs.declared.Access.TheVariants.{Read, Write}
-use Rattle.address_space.specs.ByWalk.{with_walked}
-use Rattle.address_space.specs.Image.{directory_at, is_user_slot, named_by, present_word, table_at, word_of}
-use Rattle.address_space.specs.Spaces.{Cell, at_page}
-use Rattle.address_space.specs.Stays.{FramesStay, LooseStay}
-use Rattle.address_space.proofs.standing.Restored.{from_then}
-use Rattle.process_table.specs.Image.{memory_of}
-use Rattle.process_table.specs.State.{State, is_live, open_with}
-use Rattle.process_table.specs.View.{View}
-use Rattle.kernel_calls.specs.Gone.{gone_by}
-use Rattle.kernel_calls.specs.Kept.{reply_kept, bytes_kept}
-use Rattle.kernel_calls.specs.Machine.{answer, answers, next}
-use Rattle.kernel_calls.specs.Processors.{AllAreRead, IsCore, Processors, with_kept, LetsThrough, IsLoaded, IsMarked}
-use Rattle.kernel_calls.specs.Translations.{AreRead, Kept, translation, Ends, ended_by, left_by}
-use Rattle.kernel_calls.specs.declared.calls.Event.{Event}
-use Rattle.kernel_calls.specs.declared.calls.Reply.{Reply}
 use Rattle.kernel_calls.specs.declared.calls.Reply.TheVariants as reply
-use Rattle.kernel_calls.specs.declared.translations.Ended.{Ended}
 use Rattle.kernel_calls.specs.declared.translations.Ended.TheVariants as end
-use Rattle.shootdowns.specs.Windows.{Begins, IsStale, KeepsNone, Steps, begun, loaded, stored, marked, ordered, refilled, invalidated, told, none, first, nobody, with_one, settled, under_way}
-use Rattle.shootdowns.specs.Worked.{first_store, second_store, unmap_it, load_it, store_it, none_kept, WorkedWindow}
+use Rattle.shootdowns.specs.Windows.{stored}
 use Rattle.shootdowns.proofs.Accesses.{word_mapped}
 use Rattle.shootdowns.proofs.Given.{dirty_real, given, given_frame}
 use Rattle.shootdowns.proofs.InOrder.{shootdowns_make_events}

@@ -1,42 +1,14 @@
 -- A lazy page that an event gives a frame has zeros afterwards, as before.
-use Rattle.std.proofs.Common.{◌≡◌, ◌≢◌, ℕ, zero, suc, ◌+◌, ◌<◌, Bool, true, false, cond, ◌||◌, List, [], ◌∷◌, refl, ap, sym, ◌∙◌, subst, arith, inl, inr, Option, Some, None, unwrap_or, is_some}
-use Rattle.std.specs.Prelude.{◌⊎◌, if◌then◌else◌, IfSome, slice_set}
-use Rattle.std.specs.Option.{option_map, option_and_then}
+use Rattle.shootdowns.proofs.Prelude
+use Prelude.{◌≡◌, ◌≢◌, ℕ, zero, suc, ◌+◌, ◌<◌, Bool, true, false, cond, ◌||◌, List, [], ◌∷◌, refl, ap, sym, ◌∙◌, subst, arith, inl, inr, Option, Some, None, unwrap_or, is_some, ◌⊎◌, if◌then◌else◌, IfSome, slice_set, option_map, option_and_then, page_number, offset_number, byte_count, second_page, EachTouched, Size, same, is_lazy, get-insert, get-map_values, contains-insert, same_or_not, some_value, frame_bytes, page_word, is_lazy_at, takes_stores, Slot, slot_order, Cell, Spaces, at_page, slot_at, zeros, fresh, with_bytes, with_holders, set_bytes, write_at, stored, all_stored, bytes_of, joined, is_slot, IsThere, with_touched-same, each_byte, byte_is_write, accept_refusal, after_store, offered, memory_of, State, View, each_page, answer, answer_of, after, next, completes, IsCore, ended_by, if_lazy, is_ended, of_call, of_pages, Call, Event, Reply, next-goes, not-refused, Begins, LeavesZeros}
 use Rattle.std.proofs.lemmas.List.{set-get_or, get_or-replicate}
-use Rattle.page_words.specs.Addresses.{page_number, offset_number, byte_count, second_page, EachTouched}
-use Rattle.page_words.specs.declared.addresses.Size.{Size}
 use Rattle.page_words.specs.FiniteMap as map
-use Rattle.page_words.specs.FiniteMap.{same}
 use Rattle.page_words.specs.FiniteSet as set
-use Rattle.page_words.specs.Words.{is_lazy}
-use Rattle.page_words.proofs.MapLemmas.{get-insert, get-map_values, contains-insert, same_or_not}
-use Rattle.page_words.proofs.OptionLemmas.{some_value}
-use Rattle.phys_memory.specs.Bytes.{frame_bytes}
-use Rattle.address_space.specs.Image.{page_word, is_lazy_at, takes_stores}
-use Rattle.address_space.specs.Spaces.{Slot, slot_order, Cell, Spaces, at_page, slot_at, zeros, fresh, with_bytes, with_holders, set_bytes, write_at, stored, all_stored, bytes_of, joined, is_slot}
-use Rattle.address_space.proofs.costs.MapFirst.{IsThere, with_touched-same}
-use Rattle.address_space.proofs.steps.Bytes.{each_byte}
-use Rattle.address_space.proofs.steps.Stores.{byte_is_write}
-use Rattle.process_table.specs.Calls.{accept_refusal, after_store, offered}
-use Rattle.process_table.specs.Image.{memory_of}
-use Rattle.process_table.specs.State.{State}
-use Rattle.process_table.specs.View.{View}
 use Rattle.process_table.proofs.Refusals.{may_accept}
-use Rattle.fault_handler.proofs.Settled.{each_page}
-use Rattle.kernel_calls.specs.Machine.{answer, answer_of, after, next, completes}
-use Rattle.kernel_calls.specs.Processors.{IsCore}
-use Rattle.kernel_calls.specs.Translations.{ended_by, if_lazy, is_ended, of_call, of_pages}
-use Rattle.kernel_calls.specs.declared.calls.Call.{Call}
 use Rattle.kernel_calls.specs.declared.calls.Call.TheVariants as call
-use Rattle.kernel_calls.specs.declared.calls.Event.{Event}
-use Rattle.kernel_calls.specs.declared.calls.Reply.{Reply}
 use Rattle.kernel_calls.specs.declared.calls.Reply.TheVariants as reply
 use Rattle.kernel_calls.specs.declared.translations.Ended.TheVariants as end
-use Rattle.kernel_calls.proofs.Decided.{next-goes}
-use Rattle.kernel_calls.proofs.Runs.{not-refused}
 use Rattle.kernel_calls.proofs.Untouched.{wider, widen, get_joined}
-use Rattle.shootdowns.specs.Windows.{Begins}
-use Rattle.shootdowns.specs.Shadows.{LeavesZeros}
 use Rattle.shootdowns.proofs.Accesses.{lazy_zero}
 use Rattle.shootdowns.proofs.Filled.{completed}
 use Rattle.shootdowns.proofs.Onward.{stands_at}

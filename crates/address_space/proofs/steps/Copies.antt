@@ -1,15 +1,6 @@
 -- What a copy of a page leaves, and then a copy of all pages of a process.
 use Rattle.address_space.proofs.Prelude
-use Prelude.{names, Entries, group_of, spaces_of, ◌≡◌, ◌≢◌, ℕ, ◌+◌, ◌<◌, ◌≤◌, true, false, cond, List, length, refl, ap}
-use Prelude.{sym, ◌∙◌, subst, arith, inl, inr, Option, Some, None, length-set, ◌==◌, unwrap_or, option_and_then}
-use Prelude.{option_map, ◌⊎◌, is_some, slice_get, if◌then◌else◌, slot_number, IsUserPage, frame_number, Map, get-insert}
-use Prelude.{same_itself, same_map, same_apart, some_value, frame_bytes, with_frame, with_frame_bytes, with_frame-same}
-use Prelude.{with_frame-other, length-frame, frames-with_frame_bytes, Role, Free, Page, IsTaken, weight-taken}
-use Prelude.{PageEntry, Frames, dir_word, table_of, entry_at, with_entry, is_lazy_entry, Slot, slot_order, Cell, Spaces}
-use Prelude.{cell_or_fresh, copy_of, copied, copied_at, cost, cost_of, fresh, pages_of, regions_of, at_page}
-use Prelude.{Directories, Roles, directory_of, table_in, entries_in, spaces_in, live_cost, total_cost, Tables, IsSound}
-use Prelude.{IsSpaces, InUseAt, TableGiven, IsEmptySpace, SlotCopied, PageCopied, CopiedBelow, PagesCopied, cases_eq}
-use Prelude.{cases_lt, ne_eqb, eq-eqb, nat_eq_equiv, none_goes}
+use Prelude.{names, Entries, group_of, spaces_of, ◌≡◌, ◌≢◌, ℕ, ◌+◌, ◌<◌, ◌≤◌, true, false, cond, List, length, refl, ap, sym, ◌∙◌, subst, arith, inl, inr, Option, Some, None, length-set, ◌==◌, unwrap_or, option_and_then, option_map, ◌⊎◌, is_some, slice_get, if◌then◌else◌, slot_number, IsUserPage, frame_number, Map, get-insert, same_itself, same_map, same_apart, some_value, frame_bytes, with_frame, with_frame_bytes, with_frame-same, with_frame-other, length-frame, frames-with_frame_bytes, Role, Free, Page, IsTaken, weight-taken, PageEntry, Frames, dir_word, table_of, entry_at, with_entry, is_lazy_entry, Slot, slot_order, Cell, Spaces, cell_or_fresh, copy_of, copied, copied_at, cost, cost_of, fresh, pages_of, regions_of, at_page, Directories, Roles, directory_of, table_in, entries_in, spaces_in, live_cost, total_cost, Tables, IsSound, IsSpaces, InUseAt, TableGiven, IsEmptySpace, SlotCopied, PageCopied, CopiedBelow, PagesCopied, cases_eq, cases_lt, ne_eqb, eq-eqb, nat_eq_equiv, none_goes}
 use Rattle.address_space.proofs.costs.Copied.{get-copied}
 use Rattle.address_space.proofs.costs.Costed.{Room, mapped}
 use Rattle.address_space.proofs.costs.Costs.{same_pages}
@@ -20,10 +11,8 @@ use Rattle.address_space.proofs.entries.Refinement.{get-spaces_of, lone_refines,
 use Rattle.address_space.proofs.entries.Readings.{mapped_read}
 use Rattle.address_space.proofs.entries.UserSlots.{in_user_slots}
 use Rattle.address_space.proofs.frames.FrameSteps.{loose-tables, loose-entries, tables-loose, tables-role, use_loose}
-use Rattle.address_space.proofs.frames.PageSteps.{same_bytes, pages-fresh, pages-lazy, lazy-more, lazy-real, no_free}
-use Rattle.address_space.proofs.frames.PageSteps.{unused}
-use Rattle.address_space.proofs.steps.Steps.{IsReady, entry_added, inside, live_small, none_before, role_own}
-use Rattle.address_space.proofs.steps.Steps.{role_other, free_loose, page_loose, holds_inside, MapStays, map_kept}
+use Rattle.address_space.proofs.frames.PageSteps.{same_bytes, pages-fresh, pages-lazy, lazy-more, lazy-real, no_free, unused}
+use Rattle.address_space.proofs.steps.Steps.{IsReady, entry_added, inside, live_small, none_before, role_own, role_other, free_loose, page_loose, holds_inside, MapStays, map_kept}
 use Rattle.address_space.proofs.steps.Stores.{get_user, entry_rules}
 use Rattle.address_space.proofs.steps.Departures.{no_cell_outside, no_cell_unmapped}
 use Rattle.address_space.proofs.steps.Openings.{empty_cost}

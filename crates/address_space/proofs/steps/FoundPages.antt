@@ -1,15 +1,6 @@
 -- A page that was found: what is known of it, and what an access through it leaves.
 use Rattle.address_space.proofs.Prelude
-use Prelude.{◌≡◌, ℕ, ◌+◌, ◌^◌, ◌<◌, ◌≤◌, Bool, true, false, List, length, refl, ap, sym, ◌∙◌, subst, arith, inl, inr}
-use Prelude.{Option, Some, None, replicate, is_some, slice_get, option_and_then, option_map, slot_number, index_number}
-use Prelude.{byte_count, IsUserPage, Size, frame_bytes, word_in, with_word_in, with_frame-same, word_in_same}
-use Prelude.{length-frame, PageEntry, Frames, dir_word, table_of, word_entry, entry_at, with_entry, entry_word}
-use Prelude.{is_lazy_entry, IsKernelEntry, entry_word-lt, word_entry-entry_word, Found, need, Slot, Spaces, Cell}
-use Prelude.{cell_or_fresh, bytes_of, stored, accessed, protected, at_page, FramesStay, none_goes, of_lazy, cell_of}
-use Prelude.{Directories, directory_of, entry_in, entries_in, spaces_in, PageFilled, EntryPut, Touched}
-use Prelude.{takes_stores_through, is_lazy_at, takes_stores, image_from, AreCountedSpaces, IsSound, Names, IsPageBelow}
-use Prelude.{free_frames, Free, Page, Table, shown, Role, length-replicate, lazy_found, found_by, found_in, LiesIn}
-use Prelude.{EntryIs, BytesStored, FrameGiven}
+use Prelude.{◌≡◌, ℕ, ◌+◌, ◌^◌, ◌<◌, ◌≤◌, Bool, true, false, List, length, refl, ap, sym, ◌∙◌, subst, arith, inl, inr, Option, Some, None, replicate, is_some, slice_get, option_and_then, option_map, slot_number, index_number, byte_count, IsUserPage, Size, frame_bytes, word_in, with_word_in, with_frame-same, word_in_same, length-frame, PageEntry, Frames, dir_word, table_of, word_entry, entry_at, with_entry, entry_word, is_lazy_entry, IsKernelEntry, entry_word-lt, word_entry-entry_word, Found, need, Slot, Spaces, Cell, cell_or_fresh, bytes_of, stored, accessed, protected, at_page, FramesStay, none_goes, of_lazy, cell_of, Directories, directory_of, entry_in, entries_in, spaces_in, PageFilled, EntryPut, Touched, takes_stores_through, is_lazy_at, takes_stores, image_from, AreCountedSpaces, IsSound, Names, IsPageBelow, free_frames, Free, Page, Table, shown, Role, length-replicate, lazy_found, found_by, found_in, LiesIn, EntryIs, BytesStored, FrameGiven}
 use Rattle.address_space.proofs.entries.EntrySteps.{tables_kept}
 use Rattle.address_space.specs.declared.Spaces.TheInside.{Inside as Inner}
 use Rattle.address_space.proofs.standing.FramesStand.{frames_stay}
@@ -22,13 +13,10 @@ use Rattle.address_space.proofs.frames.FewHolders.{count_few}
 use Rattle.address_space.proofs.costs.CostSteps.{need-one, need-two}
 use Rattle.address_space.specs.declared.Cell.{Cell as Shown}
 use Rattle.address_space.proofs.steps.Openings.{no_cell}
-use Rattle.address_space.proofs.steps.Steps.{page_map_of, live_small, table_by_word, map_kept, zeroed, inside}
-use Rattle.address_space.proofs.steps.Steps.{free_loose}
+use Rattle.address_space.proofs.steps.Steps.{page_map_of, live_small, table_by_word, map_kept, zeroed, inside, free_loose}
 use Rattle.address_space.proofs.steps.LazyFilling.{page_filled, room_to_fill}
 use Rattle.address_space.proofs.steps.CountSteps.{counts_kept, alike_taken}
-use Rattle.address_space.proofs.steps.Stores.{frame_written, length-write_at, named_entry, page_of_name, named_inside}
-use Rattle.address_space.proofs.steps.Stores.{entry_rules, cell_read, flags_set, marks_cleared, flagged_load}
-use Rattle.address_space.proofs.steps.Stores.{flagged_right, stored_place, page_stored, written_long}
+use Rattle.address_space.proofs.steps.Stores.{frame_written, length-write_at, named_entry, page_of_name, named_inside, entry_rules, cell_read, flags_set, marks_cleared, flagged_load, flagged_right, stored_place, page_stored, written_long}
 use Rattle.page_words.specs.FiniteMap as map
 
 -- what was found is the entry of the page's slot

@@ -1,21 +1,11 @@
 -- What a lazy page that got a frame of its own leaves.
 use Rattle.address_space.proofs.Prelude
-use Prelude.{EntriesStay, of_lazy, ◌≡◌, ◌≢◌, ℕ, ◌+◌, ◌^◌, ◌<◌, ◌≤◌, true, false, List, length, replicate, refl, ap, sym}
-use Prelude.{◌∙◌, subst, arith, inr, Option, Some, length-set, slice_get, option_and_then, length-replicate}
-use Prelude.{slot_number, frame_number, frame_bytes, with_frame, with_frame-same, with_frame-other, Role, Reserved}
-use Prelude.{Free, Table, Page, free_frames, frames_weight, IsTaken, weight-taken, PageEntry, Frames, dir_word}
-use Prelude.{table_of, entry_at, with_entry, entry_word, IsKernelEntry, entry_word-names, entry_word-lt}
-use Prelude.{entry_word-present, word_entry-entry_word, Slot, at_page, Entries, names, lazy_count, spaces_of}
-use Prelude.{holders_of, Directories, Roles, directory_of, table_in, entry_in, entries_in, spaces_in, total_cost}
-use Prelude.{Tables, Pages, IsSpaces, InUseAt, PageFilled, ne_eqb}
-use Rattle.address_space.proofs.steps.Steps.{sound_by, inside, live_small, table_by_word, role_own, role_other}
-use Rattle.address_space.proofs.steps.Steps.{free_loose, page_loose}
+use Prelude.{EntriesStay, of_lazy, ◌≡◌, ◌≢◌, ℕ, ◌+◌, ◌^◌, ◌<◌, ◌≤◌, true, false, List, length, replicate, refl, ap, sym, ◌∙◌, subst, arith, inr, Option, Some, length-set, slice_get, option_and_then, length-replicate, slot_number, frame_number, frame_bytes, with_frame, with_frame-same, with_frame-other, Role, Reserved, Free, Table, Page, free_frames, frames_weight, IsTaken, weight-taken, PageEntry, Frames, dir_word, table_of, entry_at, with_entry, entry_word, IsKernelEntry, entry_word-names, entry_word-lt, entry_word-present, word_entry-entry_word, Slot, at_page, Entries, names, lazy_count, spaces_of, holders_of, Directories, Roles, directory_of, table_in, entry_in, entries_in, spaces_in, total_cost, Tables, Pages, IsSpaces, InUseAt, PageFilled, ne_eqb}
+use Rattle.address_space.proofs.steps.Steps.{sound_by, inside, live_small, table_by_word, role_own, role_other, free_loose, page_loose}
 use Rattle.address_space.proofs.costs.Costed.{free_where_light}
-use Rattle.address_space.proofs.entries.EntrySteps.{entries-insert, entry_own, entry_other, tables-entry, tables_kept}
-use Rattle.address_space.proofs.entries.EntrySteps.{use_kept}
+use Rattle.address_space.proofs.entries.EntrySteps.{entries-insert, entry_own, entry_other, tables-entry, tables_kept, use_kept}
 use Rattle.address_space.proofs.frames.FrameSteps.{tables-role}
-use Rattle.address_space.proofs.frames.PageSteps.{same_bytes, pages-more, unused, unused_count, no_free, no_table}
-use Rattle.address_space.proofs.frames.PageSteps.{lazy-filled, lazy-fewer, holders-less}
+use Rattle.address_space.proofs.frames.PageSteps.{same_bytes, pages-more, unused, unused_count, no_free, no_table, lazy-filled, lazy-fewer, holders-less}
 use Rattle.address_space.proofs.entries.Refinement.{fill_refines}
 use Rattle.address_space.proofs.steps.Stores.{found, get_user, entry_rules, frame_written}
 use Rattle.address_space.proofs.entries.Staying.{stay_filled, places_by}

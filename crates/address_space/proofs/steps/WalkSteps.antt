@@ -1,31 +1,15 @@
 -- What a walk that finds a frame, its mark, and a byte written where it leads come to.
 use Rattle.address_space.proofs.Prelude
-use Prelude.{◌≡◌, ℕ, ◌+◌, ◌*◌, ◌%◌, ◌^◌, ◌<◌, ◌≤◌, Bool, true, false, not, List, [], ◌∷◌, length, refl, ap, sym}
-use Prelude.{◌∙◌, subst, arith, inl, inr, Option, Some, None, ◌&&◌, is_some, if◌then◌else◌, slice_get}
-use Prelude.{slice_set, IsOk, Result, Ok, Err, nat_le, option_and_then, is_ok, nat_tests, IsUserPage, page_number}
-use Prelude.{offset_number, slot_number, index_number, frame_number, is_present, NamesPage, IsKernelTableWord}
-use Prelude.{frame_bytes, word_at, word_place, with_word, word_in, with_word_in, with_frame, Role, Directory, Table}
-use Prelude.{Access, Read, Write, WalkEnd, Outside, PageEntry, Frames, dir_word, table_of, word_entry, entry_from}
-use Prelude.{entry_at, entry_word, with_entry, lets_writes, IsKernelEntry, walks_read_entries, user_cases, byte_place}
-use Prelude.{is_marked, and_parts, Slot, Spaces, Cell, cell_or_fresh, stored, write_at, at_page, slot_at}
-use Prelude.{Directories, Roles, directory_of, table_in, spaces_in, Tables, IsSound, Inside, Touched, none_goes}
-use Prelude.{table_words_by_fields, by_frame, frames-with_word, frames-with_byte, word_in-frame, walk_of}
-use Prelude.{table_word, is_write, is_outside, not_allowed, end_at_entry, touched_entry, entry_word-names, with_flag_lt}
-use Rattle.address_space.specs.Spaces.{accessed as accessed_in}
-use Rattle.page_map.proofs.WordLaws.{entry_from-entry_word}
+use Prelude.{◌≡◌, ℕ, ◌+◌, ◌*◌, ◌%◌, ◌^◌, ◌<◌, ◌≤◌, Bool, true, false, not, List, [], ◌∷◌, length, refl, ap, sym, ◌∙◌, subst, arith, inl, inr, Option, Some, None, ◌&&◌, is_some, if◌then◌else◌, slice_get, slice_set, IsOk, Result, Ok, Err, nat_le, option_and_then, is_ok, nat_tests, IsUserPage, page_number, offset_number, slot_number, index_number, frame_number, is_present, NamesPage, IsKernelTableWord, frame_bytes, word_at, word_place, with_word, word_in, with_word_in, with_frame, Role, Directory, Table, Access, Read, Write, WalkEnd, Outside, PageEntry, Frames, dir_word, table_of, word_entry, entry_from, entry_at, entry_word, with_entry, lets_writes, IsKernelEntry, walks_read_entries, user_cases, byte_place, is_marked, and_parts, Slot, Spaces, Cell, cell_or_fresh, stored, write_at, at_page, slot_at, Directories, Roles, directory_of, table_in, spaces_in, Tables, IsSound, Inside, Touched, none_goes, table_words_by_fields, by_frame, frames-with_word, frames-with_byte, word_in-frame, walk_of, table_word, is_write, is_outside, not_allowed, end_at_entry, touched_entry, entry_word-names, with_flag_lt, accessed as accessed_in, entry_from-entry_word, marked, accessed_word, touched_word}
 use Rattle.phys_memory.proofs.Words.{length-with_word}
-use Rattle.table_walk.specs.Marks.{marked, accessed_word, touched_word}
 use Rattle.table_walk.proofs.Leads.{walks_find_what_leads}
 use Rattle.page_map.proofs.MarkProofs.{touched_names, entry_from-touched}
 use Rattle.address_space.proofs.entries.EntrySteps.{entry_by_table}
-use Rattle.address_space.proofs.steps.Steps.{inside, holds_inside, live_small, page_map_of, present_by_table}
-use Rattle.address_space.proofs.steps.Steps.{table_by_word}
-use Rattle.address_space.proofs.steps.Stores.{found, get_user, entry_rules, page_stored, flags_set, flagged_load}
-use Rattle.address_space.proofs.steps.Stores.{cell_read, frame_written, stored_place, byte_is_write, length-write_at}
+use Rattle.address_space.proofs.steps.Steps.{inside, holds_inside, live_small, page_map_of, present_by_table, table_by_word}
+use Rattle.address_space.proofs.steps.Stores.{found, get_user, entry_rules, page_stored, flags_set, flagged_load, cell_read, frame_written, stored_place, byte_is_write, length-write_at}
 use Rattle.address_space.proofs.steps.Bytes.{write_at-nothing, stored-none, stored-flags}
 use Rattle.address_space.proofs.steps.Departures.{no_table_outside}
-use Rattle.address_space.proofs.steps.DirWords.{DirsAlike, flagged_alike, dirs_touched, one_dir_word, dirs-entry}
-use Rattle.address_space.proofs.steps.DirWords.{dirs-table, dirs-tables}
+use Rattle.address_space.proofs.steps.DirWords.{DirsAlike, flagged_alike, dirs_touched, one_dir_word, dirs-entry, dirs-table, dirs-tables}
 use Rattle.address_space.proofs.entries.Staying.{places_then}
 
 -- ---- What a walk finds

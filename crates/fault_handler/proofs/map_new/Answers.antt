@@ -1,13 +1,9 @@
-use Rattle.fault_handler.proofs.Prelude.{if◌then◌else◌, no_value, at_page, cost, need, page_is_user, State}
-use Rattle.std.proofs.Common.{◌≡◌, ◌+◌, refl, not, Some, None, is_ok}
+use Rattle.fault_handler.proofs.Prelude
+use Prelude.{if◌then◌else◌, no_value, at_page, cost, need, page_is_user, State, ◌≡◌, ◌+◌, refl, not, Some, None, is_ok, new_fits, map_refusal, BadPage, Mapped, Quota, ap}
 use Rattle.process_table.proofs.Refusals.{map-charge}
-use Rattle.process_table.proofs.SpaceLaws.{new_fits}
-use Rattle.process_table.specs.Calls.{map_refusal}
-use Rattle.process_table.specs.declared.causes.Cause.TheVariants.{BadPage, Mapped, Quota}
 use Rattle.fault_handler.proofs.Settled.{live_with_room}
 use Rattle.page_words.specs.FiniteMap as map
 use Rattle.fault_handler.proofs.map_new.Goals as goal
-use Rattle.std.proofs.Common.{ap}
 
 pub map_at-requires-clause-may : goal.map_at-requires-clause-may
 map_at-requires-clause-may c =

@@ -1,12 +1,7 @@
-use Rattle.std.proofs.Common.{arith}
-use Rattle.fault_handler.proofs.Prelude.{◌≡◌, ◌∙◌, ap, sym, subst, Bool, true, false, Option, Some, IfSome}
-use Rattle.fault_handler.proofs.Prelude.{[], ◌∷◌, unwrap_or, option_map, page_number, EachTouched, crosses}
-use Rattle.fault_handler.proofs.Prelude.{at_page, with_page, cell_or_fresh, is_lazy_at, touched-there, State, is_mapped}
-use Rattle.fault_handler.proofs.Prelude.{overdrawn, memory_of, access_value, after_access, Read, Write, goes_on, step_at}
-use Rattle.fault_handler.proofs.Prelude.{stays_then, stays_most}
+use Rattle.fault_handler.proofs.Prelude
+use Prelude.{arith, ◌≡◌, ◌∙◌, ap, sym, subst, Bool, true, false, Option, Some, IfSome, [], ◌∷◌, unwrap_or, option_map, page_number, EachTouched, crosses, at_page, with_page, cell_or_fresh, is_lazy_at, touched-there, State, is_mapped, overdrawn, memory_of, access_value, after_access, Read, Write, goes_on, step_at, stays_then, stays_most}
 use Rattle.fault_handler.proofs.Filled.{fills_two}
-use Rattle.fault_handler.proofs.Settled.{ready, first_room, second_room, first_mapped, second_mapped, mapped_beside}
-use Rattle.fault_handler.proofs.Settled.{mapped_both, mapped_right, mapped_value, mapped_after}
+use Rattle.fault_handler.proofs.Settled.{ready, first_room, second_room, first_mapped, second_mapped, mapped_beside, mapped_both, mapped_right, mapped_value, mapped_after}
 use Rattle.fault_handler.proofs.settle_over.Goals as goal
 
 pub map_of_two-one-requires-clause-how : goal.map_of_two-one-requires-clause-how

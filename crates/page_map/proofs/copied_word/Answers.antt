@@ -1,4 +1,5 @@
-use Rattle.page_map.proofs.Prelude.{arith}
+use Rattle.page_map.proofs.Prelude
+use Prelude.{arith}
 use Rattle.page_map.proofs.WordLaws.{entry_word-copy}
 use Rattle.page_map.proofs.copied_word.Goals as goal
 

@@ -1,6 +1,5 @@
-use Rattle.page_map.proofs.Prelude.{◌≡◌, ◌<◌, ◌^◌, ℕ, ap, ◌∙◌, arith, replicate, frame_bytes, with_frame, with_word_in, length-replicate}
-use Rattle.phys_memory.proofs.Frames.{frames-with_frame_bytes}
-use Rattle.page_map.specs.Entries.{with_table}
+use Rattle.page_map.proofs.Prelude
+use Prelude.{◌≡◌, ◌<◌, ◌^◌, ℕ, ap, ◌∙◌, arith, replicate, frame_bytes, with_frame, with_word_in, length-replicate, frames-with_frame_bytes, with_table}
 use Rattle.page_map.proofs.Steps.{linked}
 use Rattle.page_map.proofs.MapChanges.{link-map, link-entries, link-foreign}
 use Rattle.page_map.proofs.link_table.Goals as goal

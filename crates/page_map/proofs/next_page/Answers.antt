@@ -1,5 +1,5 @@
-use Rattle.page_map.proofs.Prelude.{◌*◌, ◌+◌, inl, inr, arith, frame_bytes}
-use Rattle.std.proofs.lemmas.Bool.{cases_lt}
+use Rattle.page_map.proofs.Prelude
+use Prelude.{◌*◌, ◌+◌, inl, inr, arith, frame_bytes, cases_lt}
 use Rattle.page_map.proofs.PageLemmas.{found_page, none_from, none_in_slots, none_before, entry_there}
 use Rattle.page_map.proofs.next_page.Goals as goal
 

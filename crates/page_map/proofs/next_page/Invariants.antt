@@ -1,5 +1,5 @@
-use Rattle.page_map.proofs.Prelude.{◌≡◌, ℕ, ◌-◌, ◌<◌, ◌≤◌, false, is_some, frame_bytes, entry_at}
-use Rattle.std.specs.Prelude.{max}
+use Rattle.page_map.proofs.Prelude
+use Prelude.{◌≡◌, ℕ, ◌-◌, ◌<◌, ◌≤◌, false, is_some, frame_bytes, entry_at, max}
 use Rattle.page_map.proofs.next_page.Given as goal
 
 -- no page so far is mapped

@@ -1,4 +1,5 @@
-use Rattle.page_map.proofs.Prelude.{is_some, sym, arith, frame_bytes, entry_at}
+use Rattle.page_map.proofs.Prelude
+use Prelude.{is_some, sym, arith, frame_bytes, entry_at}
 use Rattle.page_map.proofs.PageLemmas.{count_range-zero, count_slot, count_end, len-entries_of}
 use Rattle.page_map.proofs.pages.Goals as goal
 

@@ -1,4 +1,5 @@
-use Rattle.page_map.proofs.Prelude.{◌≡◌, ◌-◌, ◌*◌, ◌≤◌, is_some, frame_bytes, entry_at, count_range}
+use Rattle.page_map.proofs.Prelude
+use Prelude.{◌≡◌, ◌-◌, ◌*◌, ◌≤◌, is_some, frame_bytes, entry_at, count_range}
 use Rattle.page_map.proofs.pages.Given as goal
 
 abbrev pub invariant-loop-slot : goal.invariant-loop-slot

@@ -1,4 +1,5 @@
-use Rattle.page_map.proofs.Prelude.{sym, ◌∙◌, frame_bytes}
+use Rattle.page_map.proofs.Prelude
+use Prelude.{sym, ◌∙◌, frame_bytes}
 use Rattle.page_map.proofs.PageLemmas.{count-table, count-no_table}
 use Rattle.page_map.proofs.pages_of_slot.Goals as goal
 

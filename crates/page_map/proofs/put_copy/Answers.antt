@@ -1,5 +1,5 @@
-use Rattle.page_map.proofs.Prelude.{◌∙◌, frame_bytes}
-use Rattle.phys_memory.specs.Bytes.{with_word_in, with_frame}
+use Rattle.page_map.proofs.Prelude
+use Prelude.{◌∙◌, frame_bytes, with_word_in, with_frame}
 use Rattle.page_map.proofs.put_copy.Goals as goal
 
 pub returns-clause-frames : goal.returns-clause-frames

@@ -1,5 +1,5 @@
-use Rattle.page_map.proofs.Prelude.{◌≡◌, ap, ◌∙◌, arith, frame_bytes, slot_number, frame_number, dir_word}
-use Rattle.page_map.specs.Entries.{with_entry}
+use Rattle.page_map.proofs.Prelude
+use Prelude.{◌≡◌, ap, ◌∙◌, arith, frame_bytes, slot_number, frame_number, dir_word, with_entry}
 use Rattle.page_map.proofs.MapChanges.{table_there, set-entries, set-map, set-foreign}
 use Rattle.page_map.proofs.set_entry.Goals as goal
 

@@ -1,4 +1,5 @@
-use Rattle.std.proofs.Common.{arith}
+use Rattle.page_map.proofs.Prelude
+use Prelude.{arith}
 use Rattle.page_map.proofs.Steps.{word_written}
 use Rattle.page_map.proofs.set_word.Goals as goal
 

@@ -1,4 +1,5 @@
-use Rattle.std.proofs.Common.{arith}
+use Rattle.page_map.proofs.Prelude
+use Prelude.{arith}
 use Rattle.page_map.proofs.Steps.{word_read}
 use Rattle.page_map.proofs.word.Goals as goal
 

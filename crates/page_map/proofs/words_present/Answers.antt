@@ -1,7 +1,6 @@
-use Rattle.page_map.proofs.Prelude.{is_present}
+use Rattle.page_map.proofs.Prelude
+use Prelude.{is_present, counted, ap, ◌∙◌, sym, arith}
 use Rattle.page_map.proofs.PageLemmas.{bool_counted, count_range-zero, count_word}
-use Rattle.page_map.specs.Pages.{counted}
-use Rattle.std.proofs.Common.{ap, ◌∙◌, sym, arith}
 use Rattle.page_map.proofs.words_present.Goals as goal
 
 pub loop-index-init : goal.loop-index-init

@@ -1,4 +1,5 @@
-use Rattle.page_map.proofs.Prelude.{◌≡◌, ◌≤◌, is_present, frame_bytes, word_in, count_range}
+use Rattle.page_map.proofs.Prelude
+use Prelude.{◌≡◌, ◌≤◌, is_present, frame_bytes, word_in, count_range}
 use Rattle.page_map.proofs.words_present.Given as goal
 
 abbrev pub invariant-loop-index : goal.invariant-loop-index

@@ -1,6 +1,5 @@
 use Rattle.address_space.proofs.Prelude
-use Prelude.{◌≡◌, ℕ, ◌+◌, ◌*◌, ◌≤◌, ap, sym, ◌∙◌, refl, arith, length, Option, Some, None, IfSome, option_and_then}
-use Prelude.{slot_number, frame_bytes, table_of, place_by}
+use Prelude.{◌≡◌, ℕ, ◌+◌, ◌*◌, ◌≤◌, ap, sym, ◌∙◌, refl, arith, length, Option, Some, None, IfSome, option_and_then, slot_number, frame_bytes, table_of, place_by}
 use Rattle.address_space.proofs.steps.Steps.{page_map_of}
 use Rattle.address_space.proofs.Spaces.place.Goals as goal
 

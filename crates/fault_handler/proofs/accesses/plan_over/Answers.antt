@@ -1,4 +1,5 @@
-use Rattle.std.proofs.Common.{arith}
+use Rattle.fault_handler.proofs.Prelude
+use Prelude.{arith}
 use Rattle.fault_handler.proofs.Settled.{ready}
 use Rattle.fault_handler.proofs.accesses.plan_over.Goals as goal
 

@@ -1,6 +1,5 @@
 use Rattle.fault_handler.proofs.Prelude
-use Prelude.{◌≡◌, true, arith, ap, sym, ◌∙◌, goes_on}
-use Rattle.process_table.specs.State.{is_live}
+use Prelude.{◌≡◌, true, arith, ap, sym, ◌∙◌, goes_on, is_live}
 use Rattle.fault_handler.proofs.Settled.{goes_live}
 use Rattle.fault_handler.proofs.accesses.settle.Goals as goal
 

@@ -1,4 +1,5 @@
-use Rattle.std.proofs.Common.{arith}
+use Rattle.fault_handler.proofs.Prelude
+use Prelude.{arith}
 use Rattle.process_table.proofs.StoreCharge.{load_charge, store_charge}
 use Rattle.fault_handler.proofs.Looked.{charge_goes}
 use Rattle.fault_handler.proofs.planning.plan_by.Goals as goal

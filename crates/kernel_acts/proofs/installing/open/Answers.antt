@@ -1,6 +1,5 @@
-use Rattle.kernel_acts.proofs.Prelude.{refl, subst, EndsMarks, ended_by, Ended}
-use Rattle.kernel_acts.specs.Steps.{event_of}
-use Rattle.kernel_calls.proofs.Cleanings.{events_end_marks}
+use Rattle.kernel_acts.proofs.Prelude
+use Prelude.{refl, subst, EndsMarks, ended_by, Ended, event_of, events_end_marks}
 use Rattle.kernel_acts.proofs.StoresEnd.{marks_same, marks_of_page}
 use Rattle.kernel_calls.specs.declared.translations.Ended.TheVariants as end
 use Rattle.kernel_acts.proofs.installing.open.Goals as goal

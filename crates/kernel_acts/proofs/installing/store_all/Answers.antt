@@ -1,5 +1,5 @@
-use Rattle.kernel_acts.proofs.Prelude.{◌∙◌, ℕ, ap, sym, subst, length, FramesStay, memory_of, State, end_of, AreStored}
-use Rattle.kernel_acts.proofs.Prelude.{of_lazy_pages}
+use Rattle.kernel_acts.proofs.Prelude
+use Prelude.{◌∙◌, ℕ, ap, sym, subst, length, FramesStay, memory_of, State, end_of, AreStored, of_lazy_pages}
 use Rattle.kernel_acts.proofs.Installs.{all_stored_there}
 use Rattle.kernel_acts.proofs.TransferLemmas.{length-stores}
 use Rattle.kernel_acts.proofs.StoresEnd.{stores_end}

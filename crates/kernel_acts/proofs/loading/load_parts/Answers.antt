@@ -1,5 +1,5 @@
-use Rattle.kernel_acts.proofs.Prelude.{◌≡◌, ◌+◌, ◌-◌, ◌≤◌, ◌∙◌, ℕ, refl, sym, ap, length, arith, pages_under}
-use Rattle.kernel_acts.proofs.Prelude.{load_refusal}
+use Rattle.kernel_acts.proofs.Prelude
+use Prelude.{◌≡◌, ◌+◌, ◌-◌, ◌≤◌, ◌∙◌, ℕ, refl, sym, ap, length, arith, pages_under, load_refusal}
 use Rattle.kernel_acts.proofs.LoadedPages.{part_unrefused, rest_of_load}
 use Rattle.kernel_acts.proofs.LoadSteps.{loading_none, loading_on}
 use Rattle.kernel_acts.proofs.loading.load_parts.Goals as goal

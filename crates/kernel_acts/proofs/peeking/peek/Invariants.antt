@@ -1,5 +1,5 @@
-use Rattle.kernel_acts.proofs.Prelude.{◌≡◌, ℕ, ◌+◌, ◌-◌, ◌<◌, ◌≤◌, true, length, take, drop, map, range_with_len}
-use Rattle.kernel_acts.proofs.Prelude.{slot_at, byte_at, is_mapped}
+use Rattle.kernel_acts.proofs.Prelude
+use Prelude.{◌≡◌, ℕ, ◌+◌, ◌-◌, ◌<◌, ◌≤◌, true, length, take, drop, map, range_with_len, slot_at, byte_at, is_mapped}
 use Rattle.kernel_acts.proofs.peeking.peek.Given as goal
 
 -- the bytes so far are those that stand there, and the others are as they were

@@ -1,5 +1,5 @@
-use Rattle.kernel_acts.proofs.Prelude.{◌∙◌, ap, sym, length, List, ℕ, offset_number, frame_bytes, at_page, bytes_at}
-use Rattle.kernel_acts.proofs.Prelude.{cell_or_fresh, is_mapped}
+use Rattle.kernel_acts.proofs.Prelude
+use Prelude.{◌∙◌, ap, sym, length, List, ℕ, offset_number, frame_bytes, at_page, bytes_at, cell_or_fresh, is_mapped}
 use Rattle.kernel_acts.proofs.Peeked.{part_peeked}
 use Rattle.kernel_acts.proofs.peeking.peek_in_page.Goals as goal
 

@@ -1,4 +1,5 @@
-use Rattle.kernel_acts.proofs.Prelude.{◌∙◌, ap, sym, walk_of, Read}
+use Rattle.kernel_acts.proofs.Prelude
+use Prelude.{◌∙◌, ap, sym, walk_of, Read}
 use Rattle.kernel_acts.proofs.Beside.{page_way, page_leads, page_bare}
 use Rattle.kernel_acts.proofs.taking.frame_at.Goals as goal
 

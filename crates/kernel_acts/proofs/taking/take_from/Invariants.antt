@@ -1,5 +1,5 @@
-use Rattle.kernel_acts.proofs.Prelude.{◌≡◌, ◌-◌, ◌<◌, ◌≤◌, ℕ, false, length, take, drop, Slot, at_page, View}
-use Rattle.kernel_acts.proofs.Prelude.{is_beside, Taking}
+use Rattle.kernel_acts.proofs.Prelude
+use Prelude.{◌≡◌, ◌-◌, ◌<◌, ◌≤◌, ℕ, false, length, take, drop, Slot, at_page, View, is_beside, Taking}
 use Rattle.kernel_acts.proofs.taking.take_from.Given as goal
 
 -- those so far have lost the page, and no page so far is beside the slot

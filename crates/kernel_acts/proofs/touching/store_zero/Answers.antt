@@ -1,10 +1,6 @@
-use Rattle.std.proofs.Common.{◌≡◌, sym, ap, ◌∙◌, subst}
-use Rattle.std.specs.Prelude.{if◌then◌else◌}
-use Rattle.kernel_calls.specs.declared.translations.Ended.{Ended}
+use Rattle.kernel_acts.proofs.Prelude
+use Prelude.{◌≡◌, sym, ap, ◌∙◌, subst, if◌then◌else◌, Ended, answer, completes, ended_by, Ends, store_byte}
 use Rattle.kernel_calls.specs.declared.translations.Ended.TheVariants as end
-use Rattle.kernel_calls.specs.Machine.{answer, completes}
-use Rattle.kernel_calls.specs.Translations.{ended_by, Ends}
-use Rattle.kernel_acts.specs.Transfers.{store_byte}
 use Rattle.kernel_acts.proofs.Touches.{zero_touches}
 use Rattle.kernel_acts.proofs.touching.store_zero.Goals as goal
 

@@ -1,15 +1,6 @@
-use Rattle.std.proofs.Common.{◌≡◌, ℕ, Bool, true, false, refl, sym, ap, ◌∙◌, subst}
-use Rattle.std.specs.Prelude.{if◌then◌else◌}
-use Rattle.address_space.specs.Stays.{FramesStay}
-use Rattle.process_table.specs.Image.{memory_of}
-use Rattle.process_table.specs.View.{View}
-use Rattle.kernel_calls.specs.Gone.{gone_by}
-use Rattle.kernel_calls.specs.declared.calls.Event.{Event}
-use Rattle.kernel_calls.specs.declared.translations.Ended.{Ended}
+use Rattle.kernel_acts.proofs.Prelude
+use Prelude.{◌≡◌, ℕ, Bool, true, false, refl, sym, ap, ◌∙◌, subst, if◌then◌else◌, FramesStay, memory_of, View, gone_by, Event, Ended, answer, next, completes, ended_by, Ends, load_byte}
 use Rattle.kernel_calls.specs.declared.translations.Ended.TheVariants as end
-use Rattle.kernel_calls.specs.Machine.{answer, next, completes}
-use Rattle.kernel_calls.specs.Translations.{ended_by, Ends}
-use Rattle.kernel_acts.specs.Transfers.{load_byte}
 use Rattle.kernel_acts.proofs.Touches.{read_touches}
 use Rattle.kernel_acts.proofs.touching.touch_to_read.Goals as goal
 

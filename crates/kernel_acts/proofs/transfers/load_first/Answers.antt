@@ -1,5 +1,5 @@
-use Rattle.kernel_acts.proofs.Prelude.{◌≡◌, ◌∙◌, ap, sym, length, true, answer, completes, load_byte, stays_then}
-use Rattle.kernel_acts.proofs.Prelude.{stays_more}
+use Rattle.kernel_acts.proofs.Prelude
+use Prelude.{◌≡◌, ◌∙◌, ap, sym, length, true, answer, completes, load_byte, stays_then, stays_more}
 use Rattle.kernel_acts.proofs.TransferSteps.{first_loads, load_goes}
 use Rattle.kernel_acts.proofs.transfers.load_first.Goals as goal
 

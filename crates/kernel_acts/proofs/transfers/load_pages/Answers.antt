@@ -1,5 +1,5 @@
-use Rattle.kernel_acts.proofs.Prelude.{◌+◌, ◌-◌, ◌≤◌, ◌++◌, ◌∙◌, ap, sym, arith, length, drop, refl, stays_then, View}
-use Rattle.kernel_acts.proofs.Prelude.{answer, answers, load_byte, loads, carried, values, Transfer}
+use Rattle.kernel_acts.proofs.Prelude
+use Prelude.{◌+◌, ◌-◌, ◌≤◌, ◌++◌, ◌∙◌, ap, sym, arith, length, drop, refl, stays_then, View, answer, answers, load_byte, loads, carried, values, Transfer}
 use Rattle.kernel_acts.proofs.TransferLemmas.{read_whole, read_stopped, read_on, mid_same}
 use Rattle.kernel_acts.proofs.transfers.load_pages.Goals as goal
 

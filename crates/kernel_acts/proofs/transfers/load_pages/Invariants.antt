@@ -1,5 +1,5 @@
-use Rattle.kernel_acts.proofs.Prelude.{◌≡◌, ◌+◌, ◌-◌, ◌≤◌, length, take, drop, FramesStay, none_goes, memory_of}
-use Rattle.kernel_acts.proofs.Prelude.{AreLoaded}
+use Rattle.kernel_acts.proofs.Prelude
+use Prelude.{◌≡◌, ◌+◌, ◌-◌, ◌≤◌, length, take, drop, FramesStay, none_goes, memory_of, AreLoaded}
 use Rattle.kernel_acts.proofs.transfers.load_pages.Given as goal
 
 -- the bytes so far were loaded, and the others are as they were

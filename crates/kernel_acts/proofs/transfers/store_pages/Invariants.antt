@@ -1,5 +1,5 @@
-use Rattle.kernel_acts.proofs.Prelude.{◌≡◌, ◌+◌, ◌-◌, ◌≤◌, length, take, FramesStay, memory_of, of_lazy_pages}
-use Rattle.kernel_acts.proofs.Prelude.{AreStored}
+use Rattle.kernel_acts.proofs.Prelude
+use Prelude.{◌≡◌, ◌+◌, ◌-◌, ◌≤◌, length, take, FramesStay, memory_of, of_lazy_pages, AreStored}
 use Rattle.kernel_acts.proofs.transfers.store_pages.Given as goal
 
 -- the bytes so far were stored

@@ -1,4 +1,5 @@
-use Rattle.kernel_acts.proofs.Prelude.{◌-◌}
+use Rattle.kernel_acts.proofs.Prelude
+use Prelude.{◌-◌}
 use Rattle.kernel_acts.proofs.FrameWriters.{SearchedTo}
 use Rattle.kernel_acts.proofs.writing.has_on.Given as goal
 

@@ -1,6 +1,5 @@
 use Rattle.kernel_calls.proofs.CoreMemory.{cores_are_walked}
-use Rattle.kernel_calls.proofs.LeftByProcessors.{walks_leave_cores, walks_take_no_frame, walks_keep_containers}
-use Rattle.kernel_calls.proofs.LeftByProcessors.{stores_leave_cores, marks_leave_cores}
+use Rattle.kernel_calls.proofs.LeftByProcessors.{walks_leave_cores, walks_take_no_frame, walks_keep_containers, stores_leave_cores, marks_leave_cores}
 use Rattle.kernel_calls.proofs.laws.processors_leave_cores.Goals as goal
 
 pub returns-clause-cores : goal.returns-clause-cores

@@ -1,4 +1,5 @@
-use Rattle.kernel_calls.proofs.Prelude.{refl, ap, sym}
+use Rattle.kernel_calls.proofs.Prelude
+use Prelude.{refl, ap, sym}
 use Rattle.kernel_calls.proofs.Decided.{done_by}
 use Rattle.kernel_calls.proofs.Tried.{has_charge}
 use Rattle.kernel_calls.proofs.replies.reply_accept.Goals as goal

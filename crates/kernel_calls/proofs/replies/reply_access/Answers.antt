@@ -1,4 +1,5 @@
-use Rattle.kernel_calls.proofs.Prelude.{ap, sym, ◌∙◌, Err}
+use Rattle.kernel_calls.proofs.Prelude
+use Prelude.{ap, sym, ◌∙◌, Err}
 use Rattle.table_walk.specs.declared.PageFault.{PageFault}
 use Rattle.kernel_calls.proofs.InPage.{is_accessed, reply_by}
 use Rattle.kernel_calls.specs.declared.calls.Reply.TheVariants as reply

@@ -1,4 +1,5 @@
-use Rattle.kernel_calls.proofs.Prelude.{refl, sym, ◌∙◌}
+use Rattle.kernel_calls.proofs.Prelude
+use Prelude.{refl, sym, ◌∙◌}
 use Rattle.kernel_calls.proofs.Lazies.{fork_leaves, was_made}
 use Rattle.kernel_calls.proofs.Tried.{has_child}
 use Rattle.kernel_calls.proofs.replies.reply_fork.Goals as goal

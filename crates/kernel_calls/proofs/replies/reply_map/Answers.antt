@@ -1,4 +1,5 @@
-use Rattle.kernel_calls.proofs.Prelude.{refl, sym, ◌∙◌}
+use Rattle.kernel_calls.proofs.Prelude
+use Prelude.{refl, sym, ◌∙◌}
 use Rattle.kernel_calls.proofs.Lazies.{map_leaves, was_done}
 use Rattle.kernel_calls.proofs.Tried.{is_done}
 use Rattle.kernel_calls.proofs.replies.reply_map.Goals as goal

@@ -1,4 +1,5 @@
-use Rattle.kernel_calls.proofs.Prelude.{refl}
+use Rattle.kernel_calls.proofs.Prelude
+use Prelude.{refl}
 use Rattle.kernel_calls.proofs.Tried.{is_done}
 use Rattle.kernel_calls.proofs.replies.reply_unmap.Goals as goal
 

@@ -1,7 +1,7 @@
-use Rattle.kernel_calls.proofs.Prelude.{◌∙◌, ℕ, ap, sym, if◌then◌else◌}
+use Rattle.kernel_calls.proofs.Prelude
+use Prelude.{◌∙◌, ℕ, ap, sym, if◌then◌else◌, memory_of}
 use Rattle.kernel_calls.proofs.MayEnd.{no_place, outside_takes}
 use Rattle.kernel_calls.proofs.translations.by_protect.Goals as goal
-use Rattle.process_table.specs.Image.{memory_of}
 use Rattle.kernel_calls.specs.declared.translations.Ended.TheVariants as end
 
 pub returns-in_default : goal.returns-in_default

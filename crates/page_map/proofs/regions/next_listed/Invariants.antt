@@ -1,4 +1,5 @@
-use Rattle.page_map.proofs.Prelude.{◌≡◌, ℕ, ◌*◌, ◌<◌, ◌≤◌, None, frame_bytes, word_in, word_entry}
+use Rattle.page_map.proofs.Prelude
+use Prelude.{◌≡◌, ℕ, ◌*◌, ◌<◌, ◌≤◌, None, frame_bytes, word_in, word_entry}
 use Rattle.page_map.proofs.regions.next_listed.Given as goal
 
 abbrev pub invariant-loop-pair : goal.invariant-loop-pair

@@ -1,4 +1,5 @@
-use Rattle.page_map.proofs.Prelude.{◌≡◌, ℕ, ◌*◌, ◌<◌, ◌≤◌, None, frame_bytes, table_of}
+use Rattle.page_map.proofs.Prelude
+use Prelude.{◌≡◌, ℕ, ◌*◌, ◌<◌, ◌≤◌, None, frame_bytes, table_of}
 use Rattle.page_map.proofs.regions.next_region.Given as goal
 
 abbrev pub invariant-loop-pair : goal.invariant-loop-pair

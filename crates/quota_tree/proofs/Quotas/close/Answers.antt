@@ -1,4 +1,5 @@
-use Rattle.quota_tree.proofs.Prelude.{ap, ◌∙◌, number_of_children, arith}
+use Rattle.quota_tree.proofs.Prelude
+use Prelude.{ap, ◌∙◌, number_of_children, arith}
 use Rattle.quota_tree.proofs.Closes.{giver_gave, giver_has_children, quotas-close, seen_as-close}
 use Rattle.quota_tree.proofs.Views.{is_some-live, within_places}
 use Rattle.page_words.specs.FiniteMap as map

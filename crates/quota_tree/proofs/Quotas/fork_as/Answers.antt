@@ -1,4 +1,5 @@
-use Rattle.quota_tree.proofs.Prelude.{ap, sym, ◌∙◌, arith, split_answer, used_of}
+use Rattle.quota_tree.proofs.Prelude
+use Prelude.{ap, sym, ◌∙◌, arith, split_answer, used_of}
 use Rattle.quota_tree.proofs.Splits.{place_there, giver_room, giver_children, quotas-child, seen_as-child}
 use Rattle.quota_tree.proofs.Views.{is_some-live, used_of-container}
 use Rattle.page_words.specs.FiniteMap as map

@@ -1,5 +1,5 @@
-use Rattle.std.proofs.Common.{arith}
-use Rattle.quota_tree.proofs.Prelude.{◌≡◌, sym, ap, ◌∙◌, Container, number_of_children}
+use Rattle.quota_tree.proofs.Prelude
+use Prelude.{arith, ◌≡◌, sym, ap, ◌∙◌, Container, number_of_children}
 use Rattle.quota_tree.proofs.Views.{container_of-kept, live-is_some, used_of-container, IfSome-each}
 use Rattle.quota_tree.proofs.Quotas.get.Goals as goal
 

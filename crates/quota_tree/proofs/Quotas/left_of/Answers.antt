@@ -1,5 +1,5 @@
-use Rattle.std.proofs.Common.{arith}
-use Rattle.quota_tree.proofs.Prelude.{sym, ap, ◌∙◌, container_of}
+use Rattle.quota_tree.proofs.Prelude
+use Prelude.{arith, sym, ap, ◌∙◌, container_of}
 use Rattle.quota_tree.proofs.Views.{container_of-kept, room_of-container}
 use Rattle.quota_tree.proofs.Quotas.left_of.Goals as goal
 

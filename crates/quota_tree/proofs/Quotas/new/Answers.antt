@@ -1,4 +1,5 @@
-use Rattle.std.proofs.Common.{◌≡◌, refl, arith}
+use Rattle.quota_tree.proofs.Prelude
+use Prelude.{◌≡◌, refl, arith}
 use Rattle.quota_tree.proofs.Views.{quotas-opening, seen_as-opening}
 use Rattle.quota_tree.proofs.Quotas.new.Goals as goal
 

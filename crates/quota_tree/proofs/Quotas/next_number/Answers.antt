@@ -1,4 +1,5 @@
-use Rattle.quota_tree.proofs.Prelude.{sym, ap, ◌∙◌, next_number, arith}
+use Rattle.quota_tree.proofs.Prelude
+use Prelude.{sym, ap, ◌∙◌, next_number, arith}
 use Rattle.quota_tree.proofs.Views.{next_number-position}
 use Rattle.quota_tree.proofs.Quotas.next_number.Goals as goal
 

@@ -1,4 +1,5 @@
-use Rattle.quota_tree.proofs.Prelude.{◌-◌, refl, sym, ap, ◌∙◌, arith, used_of, charged_with}
+use Rattle.quota_tree.proofs.Prelude
+use Prelude.{◌-◌, refl, sym, ap, ◌∙◌, arith, used_of, charged_with}
 use Rattle.quota_tree.proofs.Views.{is_some-live, used_of-container, within_places}
 use Rattle.quota_tree.proofs.Writes.{quotas-charged, seen_as-charged}
 use Rattle.page_words.specs.FiniteMap as map

@@ -1,4 +1,5 @@
-use Rattle.quota_tree.proofs.Prelude.{ap, ◌∙◌, arith, split_answer}
+use Rattle.quota_tree.proofs.Prelude
+use Prelude.{ap, ◌∙◌, arith, split_answer}
 use Rattle.quota_tree.proofs.Splits.{can, place_there, giver_room, giver_children, quotas-child, seen_as-child, with_used-split}
 use Rattle.quota_tree.proofs.Views.{is_some-live}
 use Rattle.page_words.specs.FiniteMap as map

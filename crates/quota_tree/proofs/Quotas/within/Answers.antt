@@ -1,4 +1,5 @@
-use Rattle.std.proofs.Common.{arith}
+use Rattle.quota_tree.proofs.Prelude
+use Prelude.{arith}
 use Rattle.quota_tree.proofs.Views.{all_numbers, all_parents, all_used, all_within, within_root}
 use Rattle.quota_tree.proofs.Quotas.within.Goals as goal
 

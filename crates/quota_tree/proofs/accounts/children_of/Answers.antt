@@ -1,4 +1,5 @@
-use Rattle.std.proofs.Common.{arith}
+use Rattle.quota_tree.proofs.Prelude
+use Prelude.{arith}
 use Rattle.quota_tree.proofs.AccountLemmas.{children_from, children-end, number-all}
 use Rattle.quota_tree.proofs.accounts.children_of.Goals as goal
 

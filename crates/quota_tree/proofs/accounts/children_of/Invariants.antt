@@ -1,4 +1,5 @@
-use Rattle.std.proofs.Common.{◌≡◌, ◌+◌, ◌≤◌, drop}
+use Rattle.quota_tree.proofs.Prelude
+use Prelude.{◌≡◌, ◌+◌, ◌≤◌, drop}
 use Rattle.quota_tree.proofs.AccountLemmas.{children_from}
 use Rattle.quota_tree.proofs.accounts.children_of.Given as goal
 

@@ -1,5 +1,5 @@
-use Rattle.quota_tree.proofs.Prelude.{◌≡◌, ℕ, ◌+◌, ◌<◌, length-set, ap, sym, subst, ◌∙◌, arith, Option, Some, slice_get}
-use Rattle.quota_tree.proofs.Prelude.{slice_set, Container, container_in}
+use Rattle.quota_tree.proofs.Prelude
+use Prelude.{◌≡◌, ℕ, ◌+◌, ◌<◌, length-set, ap, sym, subst, ◌∙◌, arith, Option, Some, slice_get, slice_set, Container, container_in}
 use Rattle.quota_tree.proofs.AccountLemmas.{fill_goes_on}
 use Rattle.quota_tree.proofs.accounts.containers_of.Goals as goal
 

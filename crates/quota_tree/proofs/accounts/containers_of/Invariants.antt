@@ -1,4 +1,5 @@
-use Rattle.quota_tree.proofs.Prelude.{◌≡◌, ℕ, ◌<◌, length, Some, slice_get, container_in}
+use Rattle.quota_tree.proofs.Prelude
+use Prelude.{◌≡◌, ℕ, ◌<◌, length, Some, slice_get, container_in}
 use Rattle.quota_tree.proofs.accounts.containers_of.Given as goal
 
 abbrev pub invariant-loop-number : goal.invariant-loop-number

@@ -1,5 +1,5 @@
-use Rattle.std.proofs.Common.{rules, ◌≡◌, ◌∙◌}
-use Rattle.shootdowns.specs.Worked.{first_store, fork_it, load_copy, protect_it}
+use Rattle.shootdowns.proofs.Prelude
+use Prelude.{rules, ◌≡◌, ◌∙◌, first_store, fork_it, load_copy, protect_it}
 use Rattle.shootdowns.proofs.WorkedProtects.{called, worked_by}
 use Rattle.shootdowns.proofs.worked.worked_protect.Goals as goal
 

@@ -1,7 +1,5 @@
-use Rattle.std.proofs.Common.{rules, ◌≡◌, ◌∙◌, ap}
-use Rattle.kernel_calls.specs.Gone.{gives_back}
-use Rattle.kernel_calls.specs.declared.calls.Event.{Event}
-use Rattle.shootdowns.specs.Worked.{first_store, second_store, unmap_it}
+use Rattle.shootdowns.proofs.Prelude
+use Prelude.{rules, ◌≡◌, ◌∙◌, ap, gives_back, Event, first_store, second_store, unmap_it}
 use Rattle.shootdowns.proofs.WorkedSteps.{called, worked_by}
 use Rattle.shootdowns.proofs.worked.worked_window.Goals as goal
 

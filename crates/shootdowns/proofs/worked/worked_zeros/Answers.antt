@@ -1,5 +1,5 @@
-use Rattle.std.proofs.Common.{rules, ◌≡◌, ◌∙◌, true}
-use Rattle.shootdowns.specs.Worked.{accept_it, load_it, map_it, offer_it, spawn_it}
+use Rattle.shootdowns.proofs.Prelude
+use Prelude.{rules, ◌≡◌, ◌∙◌, true, accept_it, load_it, map_it, offer_it, spawn_it}
 use Rattle.kernel_calls.specs.declared.calls.Call.TheVariants as call
 use Rattle.shootdowns.proofs.WorkedAccepts.{called, worked_by}
 use Rattle.shootdowns.proofs.worked.worked_zeros.Goals as goal

@@ -1,4 +1,5 @@
-use Rattle.kernel_calls.proofs.Prelude.{◌≡◌, subst, arith, FramesStay, memory_of, View, gone_by, next}
+use Rattle.kernel_calls.proofs.Prelude
+use Prelude.{◌≡◌, subst, arith, FramesStay, memory_of, View, gone_by, next}
 use Rattle.kernel_calls.proofs.Leaving.{event_ends}
 use Rattle.kernel_calls.proofs.cores.Core.reply_to.Goals as goal
 

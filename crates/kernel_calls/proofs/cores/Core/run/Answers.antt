@@ -1,5 +1,5 @@
-use Rattle.kernel_calls.proofs.Prelude.{subst, sym, List, arith, Reply}
-use Rattle.kernel_calls.specs.Isolation.{IsIsolated}
+use Rattle.kernel_calls.proofs.Prelude
+use Prelude.{subst, sym, List, arith, Reply, IsIsolated}
 use Rattle.kernel_calls.proofs.Served.{runs_are_served}
 use Rattle.kernel_calls.proofs.Confined.{runs_keep_borders}
 use Rattle.kernel_calls.proofs.Hearing.{members_hear_the_same, families_hear_their_own}

@@ -1,7 +1,5 @@
-use Rattle.kernel_calls.proofs.Prelude.{rules, ◌≡◌, ◌+◌, ◌<◌, ◌++◌, ℕ, List, [], ◌∷◌, length, take, drop, ap, sym, ◌∙◌}
-use Rattle.kernel_calls.proofs.Prelude.{subst, get_or, append_assoc, arith, and_parts, not-true, take_more_set}
-use Rattle.kernel_calls.proofs.Prelude.{drop_more, drop_all, State, View, answers, end_of, EndsInOrder, Event, Reply}
-use Rattle.kernel_calls.specs.Along.{CarriesOut}
+use Rattle.kernel_calls.proofs.Prelude
+use Prelude.{rules, ◌≡◌, ◌+◌, ◌<◌, ◌++◌, ℕ, List, [], ◌∷◌, length, take, drop, ap, sym, ◌∙◌, subst, get_or, append_assoc, arith, and_parts, not-true, take_more_set, drop_more, drop_all, State, View, answers, end_of, EndsInOrder, Event, Reply, CarriesOut}
 use Rattle.kernel_calls.proofs.cores.Core.run_all.Goals as goal
 
 pub loop-i-preserved : goal.loop-i-preserved

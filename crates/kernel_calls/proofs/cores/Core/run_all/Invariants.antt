@@ -1,4 +1,5 @@
-use Rattle.kernel_calls.proofs.Prelude.{◌≡◌, ◌++◌, take, drop, true, View, answers, end_of, none_completes, EndsInOrder}
+use Rattle.kernel_calls.proofs.Prelude
+use Prelude.{◌≡◌, ◌++◌, take, drop, true, View, answers, end_of, none_completes, EndsInOrder}
 use Rattle.kernel_calls.proofs.cores.Core.run_all.Given as goal
 
 -- the replies so far and those to what is left are those to all

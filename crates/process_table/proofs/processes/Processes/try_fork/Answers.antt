@@ -1,13 +1,8 @@
 use Rattle.process_table.proofs.Prelude
-use Prelude.{◌≡◌, ◌≢◌, ◌≤◌, ◌<◌, ◌+◌, ℕ, Ok, refl, ap, sym, subst, ◌∙◌, is_some, length, arith, no_value, image_of}
-use Prelude.{is_lazy_at, cost, at_page, copied, directory_of, total_cost, cost-copied, cost-copied_other, quota_of}
-use Prelude.{Containers, IsLive, total_used, used_of, split_answer, after_split, with_used, after_fork, memory_of}
-use Prelude.{State, fork_answer, View, IsProcesses, state_of}
-use Rattle.address_space.proofs.standing.FramesStand.{stays_then}
+use Prelude.{◌≡◌, ◌≢◌, ◌≤◌, ◌<◌, ◌+◌, ℕ, Ok, refl, ap, sym, subst, ◌∙◌, is_some, length, arith, no_value, image_of, is_lazy_at, cost, at_page, copied, directory_of, total_cost, cost-copied, cost-copied_other, quota_of, Containers, IsLive, total_used, used_of, split_answer, after_split, with_used, after_fork, memory_of, State, fork_answer, View, IsProcesses, state_of, stays_then}
 use Rattle.process_table.proofs.Forks.{may_fork, fork-ok, fork-spawns, well_formed-fork}
 use Rattle.process_table.proofs.Keeping.{whole}
-use Rattle.process_table.proofs.Spawns.{spawn-may, child-is, child-absent, child-has_none, nothing-mapped, room-child}
-use Rattle.process_table.proofs.Spawns.{charged-child, used-before}
+use Rattle.process_table.proofs.Spawns.{spawn-may, child-is, child-absent, child-has_none, nothing-mapped, room-child, charged-child, used-before}
 use Rattle.page_words.specs.FiniteMap as map
 use Rattle.address_space.specs.View as frames
 use Rattle.process_table.proofs.processes.Processes.try_fork.Goals as goal
