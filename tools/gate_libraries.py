@@ -1,4 +1,4 @@
-"""What this repository takes from the kit's own modules: which libraries are proved, and the stamps that say so.
+"""What this repository takes from the kit's own modules: free memory, which libraries are proved, and their stamps.
 
 `rt ci` leaves each crate's library in crates/NAME/out/rlib without a stamp. `rt lib` builds a library with no stamp
 again, with its proofs. One run of `rt ci` from scratch builds all of them over one another, so that they fit together.
@@ -25,6 +25,16 @@ def kit():
     # (a stamp is a sum over those of all crates below, so that each is computed once and not once for each way to it)
     module.Crate.stamp = functools.cache(module.Crate.stamp)
     return module
+
+
+def free_memory():
+    """The free memory in bytes, within the limit of a control group too, as `rt ci` counts it."""
+    module = kit()
+    free = [1024 * module.number_in("/proc/meminfo", r"MemAvailable:\s+(\d+)")]
+    for limit, held in module.GROUPS:
+        most, taken = module.number_in(limit, r"(\d+)"), module.number_in(*held)
+        free += [most - taken] if most and taken is not None else []
+    return min(free)
 
 
 def any_built():
