@@ -252,14 +252,26 @@ pub fn tell(reply: &Reply, to: &mut TowerReply)
     }
 }
 
+/// Any reply as numbers. It is inlined nowhere: most replies are Done or a value.
+#[inline(never)]
+fn any_told_from(reply: Reply) -> TowerReply
+    ensures { result ≡ reply_numbers reply }
+{
+    let mut told = done();
+    tell(&reply, &mut told);
+    told
+}
+
 /// A reply as numbers.
 #[inline(always)]
 pub fn told_from(reply: &Reply) -> TowerReply
     ensures { result ≡ reply_numbers reply.now }
 {
-    let mut told = done();
-    tell(reply, &mut told);
-    told
+    match *reply {
+        Reply::Done => done(),
+        Reply::Value(value) => numbers_from(1, value, 0, 0),
+        _ => any_told_from(*reply),
+    }
 }
 
 /// What a frame serves: kind 0 Reserved, 1 Free, 2 Directory, 3 Table, 4 Page.
