@@ -69,47 +69,47 @@ threes f g h k (a ∷ b ∷ c ∷ d ∷ ts) =
 
 pub load_read : (ts : List (List ℕ)) → two_by hexadecimal_number size_of call.Load ts ≡ load_of ts
 unfolding load_of
-load_read ts = twos hexadecimal_number size_of call.Load ts
+load_read ts = twos _ _ _ ts
 
 pub store_read : (ts : List (List ℕ)) → three_by hexadecimal_number size_of hexadecimal_number call.Store ts ≡ store_of ts
 unfolding store_of
-store_read ts = threes hexadecimal_number size_of hexadecimal_number call.Store ts
+store_read ts = threes _ _ _ _ ts
 
 pub map_read : (ts : List (List ℕ)) → two_by hexadecimal_number right_of call.Map ts ≡ map_of ts
 unfolding map_of
-map_read ts = twos hexadecimal_number right_of call.Map ts
+map_read ts = twos _ _ _ ts
 
 pub unmap_read : (ts : List (List ℕ)) → one_by hexadecimal_number call.Unmap ts ≡ unmap_of ts
 unfolding unmap_of
-unmap_read ts = ones hexadecimal_number call.Unmap ts
+unmap_read ts = ones _ _ ts
 
 pub protect_read : (ts : List (List ℕ)) → two_by hexadecimal_number right_of call.Protect ts ≡ protect_of ts
 unfolding protect_of
-protect_read ts = twos hexadecimal_number right_of call.Protect ts
+protect_read ts = twos _ _ _ ts
 
 pub info_read : (ts : List (List ℕ)) → one_by hexadecimal_number call.Info ts ≡ info_of ts
 unfolding info_of
-info_read ts = ones hexadecimal_number call.Info ts
+info_read ts = ones _ _ ts
 
 pub offer_read : (ts : List (List ℕ)) → three_by hexadecimal_number process_of right_of call.Offer ts ≡ offer_of ts
 unfolding offer_of
-offer_read ts = threes hexadecimal_number process_of right_of call.Offer ts
+offer_read ts = threes _ _ _ _ ts
 
 pub withdraw_read : (ts : List (List ℕ)) → two_by hexadecimal_number process_of call.Withdraw ts ≡ withdraw_of ts
 unfolding withdraw_of
-withdraw_read ts = twos hexadecimal_number process_of call.Withdraw ts
+withdraw_read ts = twos _ _ _ ts
 
 pub accept_read : (ts : List (List ℕ)) → three_by process_of hexadecimal_number hexadecimal_number call.Accept ts ≡ accept_of ts
 unfolding accept_of
-accept_read ts = threes process_of hexadecimal_number hexadecimal_number call.Accept ts
+accept_read ts = threes _ _ _ _ ts
 
 pub spawn_read : (ts : List (List ℕ)) → one_by quota_of call.Spawn ts ≡ spawn_of ts
 unfolding spawn_of
-spawn_read ts = ones quota_of call.Spawn ts
+spawn_read ts = ones _ _ ts
 
 pub fork_read : (ts : List (List ℕ)) → one_by quota_of call.Fork ts ≡ fork_of ts
 unfolding fork_of
-fork_read ts = ones quota_of call.Fork ts
+fork_read ts = ones _ _ ts
 
 -- ---- The line
 
