@@ -135,13 +135,6 @@ module _ (s : State) (p : ℕ) (w : IsWellFormed s) (live : is_live s p ≡ true
   goes (call.Protect page write) used done is =
       let T = protected s.spaces (at_page p page) write in
       charged s T s.offers p used (small s p w live) (is ∙ charge_live T s.offers) (cost-insert_other s.spaces (at_page p page) _)
-  goes (call.Info page) used done is = charged s s.spaces s.offers p used (small s p w live) (is ∙ charge_live s.spaces s.offers) (λ q n. refl)
-  goes (call.Offer page target write) used done is =
-      let O = (after s p (call.Offer page target write)).offers in
-      charged s s.spaces O p used (small s p w live) (is ∙ charge_live s.spaces O) (λ q n. refl)
-  goes (call.Withdraw page target) used done is =
-      let O = (after s p (call.Withdraw page target)).offers in
-      charged s s.spaces O p used (small s p w live) (is ∙ charge_live s.spaces O) (λ q n. refl)
   goes (call.Accept giver giver_page page) used done is =
       let t = after s p (call.Accept giver giver_page page) in
       charged s t.spaces t.offers p used (small s p w live) (is ∙ charge_live t.spaces t.offers) (cost-joined_other s.spaces (at_page giver giver_page) (at_page p page) _)
@@ -153,19 +146,12 @@ module _ (s : State) (p : ℕ) (w : IsWellFormed s) (live : is_live s p ≡ true
       let charge : charge_in (forked_state s p quota) p ≡ cost s.spaces p = ap (λ b. cond b (cost (forked_state s p quota).spaces p) 0) (fork_lives s p quota live) ∙ fork-cost s p quota live allowed in
       ap (λ x. with_child (report_of s) p quota used (refused_or x (reply.Child (child_of s)))) allowed ∙ forked quota used allowed (is ∙ charge)
   goes call.Exit used done is = closed-is s p w live (exit_allowed p (p == 0) _ refl (not_refused (exit_refusal s p) reply.Done done))
-  goes call.Quota used done is = charged s s.spaces s.offers p used (small s p w live) (is ∙ charge_live s.spaces s.offers) (λ q n. refl)
+  goes c used done is =
+      let t = after s p c in
+      charged s t.spaces t.offers p used (small s p w live) (is ∙ charge_live t.spaces t.offers) (λ q n. refl)
 
   -- and a spawn that completes gives what its process can give
   gives : (c : Call) → completes (answer_of s p c) ≡ true → IsRoomy (report_of s) p c
-  gives (call.Load addr size) done = tt
-  gives (call.Store addr size value) done = tt
-  gives (call.Map page write) done = tt
-  gives (call.Unmap page) done = tt
-  gives (call.Protect page write) done = tt
-  gives (call.Info page) done = tt
-  gives (call.Offer page target write) done = tt
-  gives (call.Withdraw page target) done = tt
-  gives (call.Accept giver giver_page page) done = tt
   gives (call.Spawn quota) done =
       let may = spawn_allowed (quota == 0) (next_number s.book) (nat_lt (room s p) quota) (not_refused (spawn_refusal s p quota) (reply.Child (child_of s)) done) in
       roomy s p quota w live (not_less (room s p) quota may.1)
@@ -173,8 +159,7 @@ module _ (s : State) (p : ℕ) (w : IsWellFormed s) (live : is_live s p ≡ true
       let may = may_fork s p quota (not_refused (fork_refusal s p quota) (reply.Child (child_of s)) done) in
       let fits = spawn_allowed (quota == 0) (next_number s.book) (nat_lt (room s p) quota) may.spawn in
       roomy s p quota w live (not_less (room s p) quota fits.1)
-  gives call.Exit done = tt
-  gives call.Quota done = tt
+  gives _ done = tt
 
 -- an event that completes is of a live process, whose call it answers
 answered : (b : Bool) (r : Reply) → completes (if b then r else reply.Refused cause.NoProcess) ≡ true → b ≡ true
