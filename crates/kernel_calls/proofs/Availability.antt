@@ -1,6 +1,6 @@
 -- What other processes leave of the calls that a process can make.
 use Rattle.kernel_calls.proofs.Prelude
-use Prelude.{◌≡◌, ◌≢◌, ℕ, ◌≤◌, ◌&&◌, ◌||◌, ◌==◌, not, Bool, true, false, List, [], ◌∷◌, refl, sym, ap, subst, ◌∙◌, Option, Some, None, is_some, is_none, arith, inl, inr, nat_lt, ◌⊎◌, if◌then◌else◌, option_map, All, ne_eqb, not-false, nat_tests, All-head, All-tail, covered, touched, page_number, second_page, Size, Map, same, some_value, is_some-map, at_page, cost, pages_of, access_need, same_pages, given, number_of_children, next_number, given-remove, number-remove, OfferKey, offer_order, offer_key, pending, Access, Read, Write, is_write, extra_page, extra_touched, State, is_live, is_mapped, room, extra_cost, overdrawn, map_refusal, unmap_refusal, protect_refusal, offer_refusal, withdraw_refusal, accept_refusal, spawn_refusal, fork_refusal, exit_refusal, IsWellFormed, Cause, next_free, not_less, plan_of, step_of, forbidden, is_read_only, fault_or, goes_on, Plan, ready, flags_at, lost, RunsNeverRefuse, answer, answer_of, after, next, end_of, completes, refused_or, planned_or, Call, Event, Reply, find, retain-insert_other, len-retain}
+use Prelude.{◌≡◌, ◌≢◌, ℕ, ◌≤◌, ◌==◌, not, Bool, true, false, List, [], ◌∷◌, refl, sym, ap, subst, ◌∙◌, Option, Some, None, is_some, is_none, arith, inl, inr, nat_lt, ◌⊎◌, if◌then◌else◌, option_map, All, ne_eqb, not-false, nat_tests, All-head, All-tail, covered, touched, page_number, second_page, Size, Map, same, some_value, is_some-map, at_page, cost, pages_of, access_need, same_pages, given, number_of_children, next_number, given-remove, number-remove, OfferKey, offer_order, offer_key, pending, Access, Read, Write, is_write, extra_page, extra_touched, State, is_live, is_mapped, room, extra_cost, overdrawn, map_refusal, unmap_refusal, protect_refusal, offer_refusal, withdraw_refusal, accept_refusal, spawn_refusal, fork_refusal, exit_refusal, IsWellFormed, Cause, next_free, not_less, plan_of, step_of, forbidden, is_read_only, fault_or, goes_on, Plan, ready, flags_at, lost, RunsNeverRefuse, answer, answer_of, after, next, end_of, completes, refused_or, planned_or, Call, Event, Reply, find, retain-insert_other, len-retain}
 use Rattle.kernel_calls.proofs.Decided.{next-stays, next-goes}
 use Rattle.kernel_calls.proofs.Runs.{not-refused, went-on, kept-next}
 use Rattle.kernel_calls.proofs.Untouched.{LeavesAll, leaves_all, caller_live}
@@ -31,20 +31,12 @@ leaves_on s t u p a b = grind arith
 -- the offers of p that are pending are no more
 few_after : (s : State) (q p : ℕ) (c : Call) → q ≢ p
     → map.len (pending (after s q c).offers p) ≤ map.len (pending s.offers p)
-few_after s q p (call.Unmap page) d =
-    len-retain s.offers (λ (k : OfferKey). not ((k.offerer == q) && (k.page == page))) (λ (k : OfferKey). k.offerer == p)
 few_after s q p (call.Offer page target write) d =
     let same = retain-insert_other s.offers (λ (k : OfferKey). k.offerer == p) (offer_key q page target) write
     (ne_eqb q p d) in
     let lens = ap (λ (m : Map offer_order Bool). map.len m) same in
     omega (arith, lens)
-few_after s q p (call.Withdraw page target) d =
-    len-retain s.offers (λ k. not (same offer_order (offer_key q page target) k)) (λ (k : OfferKey). k.offerer == p)
-few_after s q p (call.Accept giver giver_page page) d =
-    len-retain s.offers (λ k. not (same offer_order (offer_key giver giver_page q) k)) (λ (k : OfferKey). k.offerer == p)
-few_after s q p call.Exit d =
-    len-retain s.offers (λ (k : OfferKey). not ((k.offerer == q) || (k.target == q))) (λ (k : OfferKey). k.offerer == p)
-few_after s q p _ d = omega arith
+few_after s q p _ d = search (arith, len-retain)
 
 module _ (s : State) (o : Event) (p : ℕ) (w : IsWellFormed s) (live : is_live s p ≡ true) (d : p ≢ o.pid) where
   all : LeavesAll s (next s o) o p
@@ -100,13 +92,15 @@ four a b c d x y z u h = let p = choice a x _ h in let q = three b c d y z u p.1
 some_of : (x : Option ℕ) → is_none x ≡ false → (k : ℕ) × (x ≡ Some k)
 some_of x h = grind arith
 
+-- an offer that was pending, and is not
+abbrev pub IsGone : State → State → OfferKey → Type 0
+IsGone s t key = (map.contains_key s.offers key ≡ true) × (map.contains_key t.offers key ≡ false)
+
 -- why a call is lost
 abbrev pub Lost : State → State → ℕ → Call → Type 0
 Lost s t p (call.Offer _ target _) = (is_live s target ≡ true) × (is_live t target ≡ false)
-Lost s t p (call.Withdraw page target) = (map.contains_key s.offers (offer_key p page target) ≡ true)
-    × (map.contains_key t.offers (offer_key p page target) ≡ false)
-Lost s t p (call.Accept giver page _) = (map.contains_key s.offers (offer_key giver page p) ≡ true)
-    × (map.contains_key t.offers (offer_key giver page p) ≡ false)
+Lost s t p (call.Withdraw page target) = IsGone s t (offer_key p page target)
+Lost s t p (call.Accept giver page _) = IsGone s t (offer_key giver page p)
 Lost s t p (call.Spawn _) = (k : ℕ) × (is_live s k ≡ false) × (is_live t k ≡ true)
 Lost s t p (call.Fork _) = (k : ℕ) × (is_live s k ≡ false) × (is_live t k ≡ true)
 Lost s t p _ = ⊥
@@ -165,7 +159,8 @@ module _ (s t : State) (p : ℕ) (l : Leaves s t p) where
   offer_stays page target write h = grind (arith, choice, four, mapped, nat_tests, not-false)
 
   withdraw_stays : (page target : ℕ) → withdraw_refusal s p page target ≡ None
-      → Outcome s t p (call.Withdraw page target)
+      → (withdraw_refusal t p page target ≡ None)
+      ⊎ ((withdraw_refusal t p page target ≡ Some cause.NoOffer) × IsGone s t (offer_key p page target))
   withdraw_stays page target h = grind (arith, two, not-false)
 
   accept_stays : (giver giver_page page : ℕ) → accept_refusal s p giver giver_page page ≡ None

@@ -1,6 +1,6 @@
 -- What a new child has, and that it sees what its parent saw.
 use Rattle.kernel_calls.proofs.Prelude
-use Prelude.{◌≡◌, ℕ, ◌||◌, Bool, true, false, refl, sym, ap, ◌∙◌, Option, Some, None, inl, inr, arith, ◌⊎◌, if◌then◌else◌, option_map, nat_order, same_itself, get-insert, no_value, same_cases, get-remove_other, get-removed, Slot, Cell, Spaces, at_page, is_of, copy_of, copied, copied-own, Book, offer_key, Read, Write, State, is_live, child_of, map_refusal, unmap_refusal, protect_refusal, offer_refusal, withdraw_refusal, accept_refusal, spawn_refusal, fork_refusal, exit_refusal, IsWellFormed, lone, Cause, child_free, fork_free, no_page, plan_of, Plan, Flags, flags_of, Shown, shown_of, is_offered, ChildrenAreTheirMakers, PlacesStay, quota_asked, answer, answer_of, after, next, completes, refused_or, planned_or, Call, Event, Reply, eqb-true}
+use Prelude.{◌≡◌, ℕ, ◌||◌, Bool, true, false, refl, sym, ap, ◌∙◌, Option, Some, None, inl, inr, arith, ◌⊎◌, if◌then◌else◌, option_map, nat_order, same_itself, get-insert, no_value, same_cases, get-remove_other, get-removed, Slot, Cell, Spaces, at_page, is_of, copy_of, copied, copied-own, Book, offer_key, State, is_live, child_of, spawn_refusal, fork_refusal, IsWellFormed, lone, Cause, child_free, fork_free, no_page, Plan, Flags, flags_of, Shown, shown_of, is_offered, ChildrenAreTheirMakers, PlacesStay, quota_asked, answer, answer_of, after, next, completes, refused_or, planned_or, Call, Event, Reply, eqb-true}
 use Rattle.kernel_calls.proofs.Decided.{next-stays, next-goes}
 use Rattle.kernel_calls.proofs.Runs.{not-refused}
 use Rattle.kernel_calls.proofs.Untouched.{caller_live}
@@ -29,27 +29,11 @@ pub refused_child : (x : Option Cause) (r : Reply) (child : ℕ) → refused_or 
 refused_child x r child h = grind arith
 
 birth_of : (s : State) (p : ℕ) (c : Call) (child : ℕ) → answer_of s p c ≡ reply.Child child → IsBirth s p c child
-birth_of s p (call.Load addr size) child h = absurd (let r = planned_child (plan_of s p addr size Read) _ child h in cc)
-birth_of s p (call.Store addr size value) child h =
-    absurd (let r = planned_child (plan_of s p addr size Write) _ child h in cc)
-birth_of s p (call.Map page write) child h = absurd (let r = (refused_child (map_refusal s p page) _ child h).1 in cc)
-birth_of s p (call.Unmap page) child h = absurd (let r = (refused_child (unmap_refusal s p page) _ child h).1 in cc)
-birth_of s p (call.Protect page write) child h =
-    absurd (let r = (refused_child (protect_refusal s p page write) _ child h).1 in cc)
-birth_of s p (call.Info page) child h = absurd (let r = (refused_child (protect_refusal s p page false) _ child h).1 in
-    cc)
-birth_of s p (call.Offer page target write) child h =
-    absurd (let r = (refused_child (offer_refusal s p page target write) _ child h).1 in cc)
-birth_of s p (call.Withdraw page target) child h =
-    absurd (let r = (refused_child (withdraw_refusal s p page target) _ child h).1 in cc)
-birth_of s p (call.Accept giver giver_page page) child h =
-    absurd (let r = (refused_child (accept_refusal s p giver giver_page page) _ child h).1 in cc)
 birth_of s p (call.Spawn quota) child h = let r = refused_child (spawn_refusal s p quota) _ child h in
     (ap child_in r.1, inl (quota, refl, r.0))
 birth_of s p (call.Fork quota) child h = let r = refused_child (fork_refusal s p quota) _ child h in
     (ap child_in r.1, inr (quota, refl, r.0))
-birth_of s p call.Exit child h = absurd (let r = (refused_child (exit_refusal s p) _ child h).1 in cc)
-birth_of s p call.Quota child h = cc
+birth_of s p _ child h = absurd (grind (arith, planned_child, refused_child))
 
 -- who makes a child is live, and its call is done
 pub record IsMaker (s : State) (e : Event) (child : ℕ) : Type 0 where

@@ -1,6 +1,6 @@
 -- What a family that keeps within itself has, whatever others do, and what its members' events make of it.
 use Rattle.kernel_calls.proofs.Prelude
-use Prelude.{◌≡◌, ◌≢◌, ℕ, ◌&&◌, ◌||◌, ◌==◌, not, Bool, true, false, cond, refl, sym, ap, subst, ◌∙◌, Option, Some, None, is_some, unwrap_or, arith, inl, inr, if◌then◌else◌, ◌⊎◌, option_map, same, get-insert, get-retain_keys, some_value, Slot, Cell, at_page, joined, Book, Member, is_child, given, quota_of, number_of_children, OfferKey, offer_order, offer_key, State, is_live, IsWellFormed, retained, parents_in, Standing, flags_of, shown_of, is_child_of, HaveTheSame, Sees, LooksSame, found, members_after, keeps_within, KeepsWithin, IsAsBefore, IsFamily, answer, after, next, Call, Event, eqb-true, eq-eqb, and_parts, len-retain}
+use Prelude.{◌≡◌, ◌≢◌, ℕ, ◌&&◌, ◌==◌, not, Bool, true, false, cond, refl, sym, ap, subst, ◌∙◌, Option, Some, None, is_some, unwrap_or, arith, inl, inr, if◌then◌else◌, ◌⊎◌, option_map, same, get-insert, get-retain_keys, some_value, Slot, Cell, at_page, joined, Book, Member, is_child, given, quota_of, number_of_children, OfferKey, offer_order, offer_key, State, is_live, IsWellFormed, retained, parents_in, Standing, flags_of, shown_of, is_child_of, HaveTheSame, Sees, LooksSame, found, members_after, keeps_within, KeepsWithin, IsAsBefore, IsFamily, answer, after, next, Call, Event, eqb-true, eq-eqb, and_parts, len-retain}
 use Rattle.kernel_calls.proofs.Births.{place_of, child_dead, maker_of, children_are_their_makers, no_offer_by}
 use Rattle.kernel_calls.proofs.Confined.{next_confined, one_leaves}
 use Rattle.kernel_calls.proofs.Decided.{next-stays, next-goes}
@@ -142,12 +142,6 @@ module _ (s : State) (e : Event) (Q : ℕ → Bool) (mine : Q e.pid ≡ true) (k
   told_within = process_told _ s e has_within refl (λ giver page own is. ap is_some (grind (arith, offer_within)))
 
   after_within : (c : Call) → keeps_within Q c ≡ true → Follows s (after (within Q s) e.pid c) (after s e.pid c) Q
-  after_within (call.Unmap page) h = record {
-    spaces = refl;
-    book = refl;
-    offers = λ key o. kept_offers (within Q s).offers s.offers
-        (λ (k : OfferKey). not ((k.offerer == e.pid) && (k.page == page))) key o;
-  }
   after_within (call.Offer page target write) h = record {
     spaces = refl;
     book = refl;
@@ -156,12 +150,6 @@ module _ (s : State) (e : Event) (Q : ℕ → Bool) (mine : Q e.pid ≡ true) (k
         ∙ (λ i. cond (same offer_order key (offer_key e.pid page target)) (Some write) (o i))
         ∙ sym (get-insert s.offers (offer_key e.pid page target) write key);
   }
-  after_within (call.Withdraw page target) h = record {
-    spaces = refl;
-    book = refl;
-    offers = λ key o. kept_offers (within Q s).offers s.offers
-        (λ k. not (same offer_order (offer_key e.pid page target) k)) key o;
-  }
   after_within (call.Accept giver giver_page page) h = record {
     spaces = ap (λ (x : Option Bool). joined s.spaces (at_page giver giver_page) (at_page e.pid page)
         (unwrap_or x false)) (offer_within Q s (offer_key giver giver_page e.pid) h);
@@ -169,13 +157,7 @@ module _ (s : State) (e : Event) (Q : ℕ → Bool) (mine : Q e.pid ≡ true) (k
     offers = λ key o. kept_offers (within Q s).offers s.offers
         (λ k. not (same offer_order (offer_key giver giver_page e.pid) k)) key o;
   }
-  after_within call.Exit h = record {
-    spaces = refl;
-    book = refl;
-    offers = λ key o. kept_offers (within Q s).offers s.offers
-        (λ (k : OfferKey). not ((k.offerer == e.pid) || (k.target == e.pid))) key o;
-  }
-  after_within _ h = record { spaces = refl; book = refl; offers = λ key o. o }
+  after_within _ h = record { spaces = refl; book = refl; offers = first_of (assumption, search kept_offers) }
 
   next_within : Follows s (next (within Q s) e) (next s e) Q
   next_within = grind (arith, next-goes, told_within, after_within, next-stays)

@@ -1,6 +1,6 @@
 -- A process apart gets the same replies in two states in which it has the same, and others leave what it has.
 use Rattle.kernel_calls.proofs.Prelude
-use Prelude.{◌≡◌, ◌≢◌, ℕ, ◌==◌, Bool, true, false, refl, sym, ap, subst, ◌∙◌, List, [], ◌∷◌, ◌++◌, length, map, filter, take, drop, zero, suc, ◌+◌, add-one, Some, arith, if◌then◌else◌, slice_get, eqb-true, eqb-false, All-head, All-tail, same_Some, Size, Access, Read, Write, IsApart, AreAlike, pages_held, alone_with, State, is_live, child_of, accept_refusal, spawn_refusal, fork_refusal, after_spawn, after_fork, IsWellFormed, spawn_alike, fork_alike, plan_of, exchanges, quota_asked, answer, answer_of, answers, after, next, end_of, completes, planned_or, Call, Event, Reply, load_leaves, store_leaves, map_leaves, unmap_leaves, protect_leaves, offer_leaves, withdraw_leaves, accept_leaves, spawn_leaves, fork_leaves, exit_leaves, Exchange, own, is_exit, involves_others, events_in, calls_of, replies_of, InvolvesNobody, solo, pages_given, RunsAreIsolated, OthersMakeNoDifference, mapped_alike, cost_alike, given_alike, lacks_room_alike, cell_alike, loaded_alike, map_refusal_alike, map_alike, protect_alike, load_alike, store_alike, unmap_alike, withdraw_alike}
+use Prelude.{◌≡◌, ◌≢◌, ℕ, ◌==◌, Bool, true, false, refl, sym, ap, subst, ◌∙◌, List, [], ◌∷◌, ◌++◌, length, map, filter, take, drop, zero, suc, ◌+◌, add-one, Some, arith, if◌then◌else◌, slice_get, eqb-true, eqb-false, All-head, All-tail, same_Some, Size, Access, Read, Write, IsApart, AreAlike, pages_held, alone_with, State, is_live, child_of, spawn_refusal, fork_refusal, after_spawn, after_fork, IsWellFormed, spawn_alike, fork_alike, plan_of, exchanges, quota_asked, answer, answer_of, answers, after, next, end_of, completes, planned_or, Call, Event, Reply, load_leaves, store_leaves, map_leaves, unmap_leaves, protect_leaves, offer_leaves, withdraw_leaves, accept_leaves, spawn_leaves, fork_leaves, exit_leaves, Exchange, own, is_exit, involves_others, events_in, calls_of, replies_of, InvolvesNobody, solo, pages_given, RunsAreIsolated, OthersMakeNoDifference, mapped_alike, cost_alike, given_alike, lacks_room_alike, cell_alike, loaded_alike, map_refusal_alike, map_alike, protect_alike, load_alike, store_alike, unmap_alike, withdraw_alike}
 use Rattle.kernel_calls.proofs.Decided.{by_next, next-stays, next-goes}
 use Rattle.kernel_calls.proofs.Runs.{not-refused, kept-next, kept-run}
 use Rattle.page_words.specs.FiniteMap as map
@@ -11,6 +11,8 @@ use Rattle.kernel_calls.proofs.Untouched.{caller_live}
 use Rattle.kernel_calls.proofs.Births.{planned_child, refused_child}
 
 -- ---- A call of two alike processes
+
+ruleset calls_alike = (store_alike, map_alike, unmap_alike, protect_alike, withdraw_alike)
 
 module _ (s t : State) (p q : ℕ) (a : AreAlike s p t q) where
   plan_alike : (addr : ℕ) (size : Size) (access : Access) → plan_of s p addr size access ≡ plan_of t q addr size access
@@ -24,13 +26,7 @@ module _ (s t : State) (p q : ℕ) (a : AreAlike s p t q) where
 
   after_alike : (c : Call) → involves_others c ≡ false → is_exit c ≡ false → AreAlike (after s p c) p (after t q c) q
   after_alike (call.Load addr size) h stays = load_alike s t p q addr size a
-  after_alike (call.Store addr size value) h stays = store_alike s t p q addr size value a
-  after_alike (call.Map page write) h stays = map_alike s t p q a page write
-  after_alike (call.Unmap page) h stays = unmap_alike s t p q page a
-  after_alike (call.Protect page write) h stays = protect_alike s t p q a page write
-  after_alike (call.Info page) h stays = a
-  after_alike (call.Withdraw page target) h stays = withdraw_alike s t p q page target a
-  after_alike _ h stays = grind arith
+  after_alike _ h stays = first_of (search calls_alike, grind arith)
 
 -- two alike processes are told the same, whatever CPU they call on
 pub answer_alike : (s t : State) (e f : Event) → AreAlike s e.pid t f.pid → e.call ≡ f.call → involves_others e.call ≡ false → answer s e ≡ answer t f
@@ -55,19 +51,11 @@ alike_itself s p a = record { one = a; other = a; pages = λ page. refl; quota =
 alike_through : (s t u : State) (p q : ℕ) → AreAlike s p t p → AreAlike s p u q → AreAlike t p u q
 alike_through s t u p q a b = record { one = a.other; other = b.other; pages = λ page. sym (a.pages page) ∙ b.pages page; quota = sym a.quota ∙ b.quota }
 
+ruleset calls_leave = (store_leaves, map_leaves, unmap_leaves, protect_leaves, offer_leaves, withdraw_leaves, accept_leaves, spawn_leaves, fork_leaves, exit_leaves, not-refused, alike_itself)
+
 after_leaves : (s : State) (p q : ℕ) (c : Call) → IsWellFormed s → IsApart s p → q ≢ p → is_live s q ≡ true → completes (answer_of s q c) ≡ true → AreAlike s p (after s q c) p
 after_leaves s p q (call.Load addr size) w a d live h = load_leaves s p q w a d addr size
-after_leaves s p q (call.Store addr size value) w a d live h = store_leaves s p q w a d addr size value
-after_leaves s p q (call.Map page write) w a d live h = map_leaves s p q w a d page write
-after_leaves s p q (call.Unmap page) w a d live h = unmap_leaves s p q w a d page
-after_leaves s p q (call.Protect page write) w a d live h = protect_leaves s p q w a d page write
-after_leaves s p q (call.Offer page target write) w a d live h = offer_leaves s p q w a d page target write
-after_leaves s p q (call.Withdraw page target) w a d live h = withdraw_leaves s p q w a d page target
-after_leaves s p q (call.Accept giver giver_page page) w a d live h = accept_leaves s p q giver giver_page page w a d (not-refused (accept_refusal s q giver giver_page page) _ h)
-after_leaves s p q (call.Spawn quota) w a d live h = spawn_leaves s p q quota a d (not-refused (spawn_refusal s q quota) _ h)
-after_leaves s p q (call.Fork quota) w a d live h = fork_leaves s p q quota a d (not-refused (fork_refusal s q quota) _ h)
-after_leaves s p q call.Exit w a d live h = exit_leaves s p q a d live
-after_leaves s p q _ w a d live h = alike_itself s p a
+after_leaves s p q _ w a d live h = search calls_leave
 
 pub next_leaves : (s : State) (p : ℕ) (e : Event) → IsWellFormed s → IsApart s p → e.pid ≢ p → AreAlike s p (next s e) p
 next_leaves s p e w a d = by_next (λ t. AreAlike s p t p) s e (alike_itself s p a) (after_leaves s p e.pid e.call w a d)

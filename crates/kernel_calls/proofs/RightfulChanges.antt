@@ -195,10 +195,7 @@ module _ (s : State) (e : Event) (w : IsWellFormed s) where
       (fresh (at_page e.pid page) write) (may_map s e.pid page (not-refused (map_refusal s e.pid page) _ h)).none)
   after_keeps (call.Unmap page) is h = without_keep s (after s e.pid (call.Unmap page)) e (is_slot e.pid page) refl
   after_keeps (call.Protect page write) is h = protect_keeps page write is
-  after_keeps (call.Offer page target write) is h = all_keep (after s e.pid (call.Offer page target write)) refl
-  after_keeps (call.Withdraw page target) is h = all_keep (after s e.pid (call.Withdraw page target)) refl
   after_keeps (call.Accept giver giver_page page) is h = grind (arith, marks_keep, accept_keeps, not-refused)
-  after_keeps (call.Spawn quota) is h = all_keep (after s e.pid (call.Spawn quota)) refl
   after_keeps (call.Fork quota) is h =
       let free = child_free s e.pid quota (may_fork s e.pid quota (not-refused (fork_refusal s e.pid quota) _ h)).spawn
       in
@@ -209,7 +206,7 @@ module _ (s : State) (e : Event) (w : IsWellFormed s) where
         unmarked c,
       ))
   after_keeps call.Exit is h = without_keep s (after s e.pid call.Exit) e (is_of e.pid) refl
-  after_keeps _ is h = all_keep s refl
+  after_keeps c is h = all_keep (after s e.pid c) refl
 
   next_keeps : Keeps s (next s e) e
   next_keeps = by_next (λ t. Keeps s t e) s e (all_keep s refl) (λ live h. after_keeps e.call refl h)

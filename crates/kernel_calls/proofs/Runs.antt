@@ -1,6 +1,6 @@
 -- Each event keeps states well formed and leaves the root's entry in the book, and so does every run.
 use Rattle.kernel_calls.proofs.Prelude
-use Prelude.{◌≡◌, ℕ, ◌+◌, true, refl, ap, ◌∙◌, List, [], ◌∷◌, ◌++◌, Option, None, unwrap_or, arith, option_map, Member, quota_of, Write, State, open_with, is_live, map_refusal, protect_refusal, offer_refusal, accept_refusal, spawn_refusal, exit_refusal, fork_refusal, IsWellFormed, Cause, well_formed-fork, root-fork, well_formed-open, well_formed-unmap, well_formed-spawn, well_formed-exit, root-spawn, root-exit, total-within, well_formed-protect, well_formed-offer, well_formed-withdraw, well_formed-accept, plan_of, step_of, goes_on, Plan, ready, all_user, answer, answer_of, answers, after, next, end_of, completes, refused_or, planned_or, Call, Event, Reply, well_formed-map, well_formed-load, well_formed-store}
+use Prelude.{◌≡◌, ℕ, ◌+◌, true, refl, ap, ◌∙◌, List, [], ◌∷◌, ◌++◌, Option, None, unwrap_or, arith, option_map, Member, quota_of, Write, State, open_with, is_live, IsWellFormed, Cause, well_formed-fork, root-fork, well_formed-open, well_formed-unmap, well_formed-spawn, well_formed-exit, root-spawn, root-exit, total-within, well_formed-protect, well_formed-offer, well_formed-withdraw, well_formed-accept, plan_of, step_of, goes_on, Plan, ready, all_user, answer, answer_of, answers, after, next, end_of, completes, refused_or, planned_or, Call, Event, Reply, well_formed-map, well_formed-load, well_formed-store}
 use Rattle.kernel_calls.specs.Laws.{RunsStayWellFormed}
 use Rattle.kernel_calls.proofs.Decided.{by_next}
 use Rattle.page_words.specs.FiniteMap as map
@@ -28,27 +28,17 @@ went-on x r h = grind arith
 abbrev pub KeepsRoot : State → State → Type 0
 KeepsRoot s t = IsWellFormed t × (map.get t.book 0 ≡ map.get s.book 0)
 
+-- a call that completes keeps the state well formed, and the root's entry
+ruleset kept-well = (not-refused, well_formed-map, well_formed-unmap, well_formed-protect, well_formed-offer, well_formed-withdraw, well_formed-accept, well_formed-spawn, well_formed-fork, well_formed-exit)
+
+ruleset kept-root = (not-refused, root-spawn, root-fork, root-exit)
+
 kept-call : (s : State) (p : ℕ) (c : Call) → IsWellFormed s → is_live s p ≡ true → completes (answer_of s p c) ≡ true → KeepsRoot s (after s p c)
 kept-call s p (call.Load address size) w live h = grind (arith, ready, went-on, well_formed-load, all_user)
 kept-call s p (call.Store address size value) w live h =
     let g = ready (step_of s p) s p address size Write (went-on (plan_of s p address size Write) _ h) in
     (well_formed-store s p address size value w live (all_user address size g.outside) g.room, refl)
-kept-call s p (call.Map page write) w live h = (well_formed-map s p page write w live (not-refused (map_refusal s p page) _ h), refl)
-kept-call s p (call.Unmap page) w live h = (well_formed-unmap s p page w, refl)
-kept-call s p (call.Protect page write) w live h = (well_formed-protect s p page write w live (not-refused (protect_refusal s p page write) _ h), refl)
-kept-call s p (call.Offer page target write) w live h = (well_formed-offer s p page target write w (not-refused (offer_refusal s p page target write) _ h), refl)
-kept-call s p (call.Withdraw page target) w live h = (well_formed-withdraw s p page target w, refl)
-kept-call s p (call.Accept giver giver_page page) w live h = (well_formed-accept s p giver giver_page page w live (not-refused (accept_refusal s p giver giver_page page) _ h), refl)
-kept-call s p (call.Spawn quota) w live h =
-    let a = not-refused (spawn_refusal s p quota) _ h in
-    (well_formed-spawn s p quota w live a, root-spawn s p quota w live a)
-kept-call s p (call.Fork quota) w live h =
-    let a = not-refused (fork_refusal s p quota) _ h in
-    (well_formed-fork s p quota w live a, root-fork s p quota w live a)
-kept-call s p call.Exit w live h =
-    let a = not-refused (exit_refusal s p) _ h in
-    (well_formed-exit s p w live a, root-exit s p w live a)
-kept-call s p _ w live h = (w, refl)
+kept-call s p _ w live h = (first_of (assumption, search kept-well), first_of (assumption, search kept-root))
 
 pub kept-next : (s : State) (e : Event) → IsWellFormed s → KeepsRoot s (next s e)
 kept-next s e w = by_next (KeepsRoot s) s e (w, refl) (kept-call s e.pid e.call w)

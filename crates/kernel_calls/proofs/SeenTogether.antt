@@ -1,6 +1,6 @@
 -- What the event of a member does to what all members see depends on what they see alone.
 use Rattle.kernel_calls.proofs.Prelude
-use Prelude.{◌≡◌, ◌≢◌, ℕ, ◌+◌, ◌&&◌, ◌||◌, ◌==◌, not, Bool, true, false, cond, refl, sym, ap, subst, ◌∙◌, Option, Some, None, is_some, unwrap_or, arith, inl, inr, ◌⊎◌, option_map, cases_eq, ne_eqb, and_parts, same, nat_order, get-insert, no_value, same_cases, Slot, Cell, Spaces, is_of, at_page, copied, copied-own, copied-other, Member, is_child, given, number_of_children, next_number, given-insert, given-none, number-insert, number-none, OfferKey, offer_order, offer_key, State, is_live, child_of, accept_refusal, spawn_refusal, fork_refusal, after_unmap, after_offer, after_withdraw, after_accept, after_spawn, after_fork, after_exit, IsWellFormed, lone, child_free, fork_free, no_page, parents_in, may_accept, Flags, flags_of, Shown, shown_of, shares, is_offered, is_child_of, Sees, LooksSame, found, members_after, MembersSeeTheSame, answer, answer_of, after, next, completes, Call, Event, eqb-true, eq-eqb, or-true, AreOne}
+use Prelude.{◌≡◌, ◌≢◌, ℕ, ◌+◌, ◌||◌, ◌==◌, Bool, true, false, cond, refl, sym, ap, subst, ◌∙◌, Option, Some, None, is_some, unwrap_or, arith, inl, inr, ◌⊎◌, option_map, cases_eq, ne_eqb, and_parts, same, nat_order, get-insert, no_value, same_cases, Slot, Cell, Spaces, is_of, at_page, copied, copied-own, copied-other, Member, is_child, given, number_of_children, next_number, given-insert, given-none, number-insert, number-none, OfferKey, State, is_live, child_of, accept_refusal, spawn_refusal, fork_refusal, after_offer, after_spawn, after_fork, IsWellFormed, lone, child_free, fork_free, no_page, parents_in, may_accept, Flags, flags_of, Shown, shown_of, shares, is_offered, is_child_of, Sees, LooksSame, found, members_after, MembersSeeTheSame, answer, answer_of, after, next, completes, Call, Event, eqb-true, eq-eqb, or-true, AreOne}
 use Rattle.kernel_calls.proofs.Births.{with_child, own_seen, no_offer_by, no_offer_to, AreLone, none_lone, copy_lone, copy_flags, copy_shown}
 use Rattle.kernel_calls.proofs.Confined.{shared_live}
 use Rattle.kernel_calls.proofs.Decided.{next-stays, next-goes}
@@ -43,17 +43,8 @@ offer_seen s Q q page target write mine slot v = by (is_of v.0 slot) refl v.2
 
 seen_before : (s : State) (Q : ℕ → Bool) (q : ℕ) (c : Call) → Q q ≡ true → makes_child c ≡ false
     → (slot : Slot) → Sees (after s q c) Q slot → Sees s Q slot
-seen_before s Q q (call.Unmap page) mine none =
-    fewer_seen s (after_unmap s q page) Q (kept_key s.offers (λ (k : OfferKey). not ((k.offerer == q) && (k.page == page))))
 seen_before s Q q (call.Offer page target write) mine none = offer_seen s Q q page target write mine
-seen_before s Q q (call.Withdraw page target) mine none =
-    fewer_seen s (after_withdraw s q page target) Q (kept_key s.offers (λ k. not (same offer_order (offer_key q page target) k)))
-seen_before s Q q (call.Accept giver giver_page page) mine none =
-    fewer_seen s (after_accept s q giver giver_page page) Q
-    (kept_key s.offers (λ k. not (same offer_order (offer_key giver giver_page q) k)))
-seen_before s Q q call.Exit mine none =
-    fewer_seen s (after_exit s q) Q (kept_key s.offers (λ (k : OfferKey). not ((k.offerer == q) || (k.target == q))))
-seen_before s Q q _ mine none = grind arith
+seen_before s Q q c mine none = fewer_seen s (after s q c) Q (first_of (assumption, search kept_key))
 
 -- ---- A child joins them
 

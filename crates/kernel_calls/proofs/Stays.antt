@@ -1,6 +1,6 @@
 -- What stays of a page, whichever process has it, while it is mapped.
 use Rattle.kernel_calls.proofs.Prelude
-use Prelude.{◌≡◌, ◌≢◌, ℕ, ◌+◌, ◌||◌, Bool, true, false, List, [], ◌∷◌, refl, sym, ap, ◌∙◌, Option, Some, None, is_some, unwrap_or, inl, inr, arith, ◌⊎◌, if◌then◌else◌, slice_index, option_map, ne_eqb, same_Some, offset_number, byte_count, touched, Size, same, nat_order, Set, same-true, get-insert, get-map_values, contains-retain, some_value, no_value, same_cases, same_apart, get-remove_other, Slot, slot_order, Cell, Spaces, fresh, cell_or_fresh, with_bytes, write_at, bytes_of, without, is_slot, is_of, at_page, slot_at, accessed, stored, with_page, with_pages, all_accessed, all_stored, copied, copied-other, left, get-without, offer_key, State, is_live, child_of, accept_refusal, fork_refusal, map_refusal, offered, after_load, after_store, after_map, after_unmap, after_protect, after_offer, after_withdraw, after_accept, after_spawn, after_fork, after_exit, IsWellFormed, child_free, live_differ, get-inserted, get-inserted_other, may_fork, may_accept, may_map, giver_mapped, shares, is_offered, IsStoreInto, IsLeave, SharingStays, answer_of, after, next, completes, Call, Event, eqb-true}
+use Prelude.{◌≡◌, ◌≢◌, ℕ, ◌+◌, ◌||◌, Bool, true, false, List, [], ◌∷◌, refl, sym, ap, ◌∙◌, Option, Some, None, is_some, unwrap_or, inl, inr, arith, ◌⊎◌, if◌then◌else◌, slice_index, option_map, ne_eqb, same_Some, offset_number, byte_count, touched, Size, same, nat_order, Set, same-true, get-insert, get-map_values, contains-retain, some_value, no_value, same_cases, same_apart, get-remove_other, Slot, slot_order, Cell, Spaces, fresh, cell_or_fresh, with_bytes, write_at, bytes_of, without, is_slot, is_of, at_page, slot_at, accessed, stored, with_page, with_pages, all_accessed, all_stored, copied, copied-other, left, get-without, offer_key, State, is_live, child_of, accept_refusal, fork_refusal, map_refusal, offered, after_load, after_store, after_map, after_unmap, after_protect, after_accept, after_fork, after_exit, IsWellFormed, child_free, live_differ, get-inserted, get-inserted_other, may_fork, may_accept, may_map, giver_mapped, shares, is_offered, IsStoreInto, IsLeave, SharingStays, answer_of, after, next, completes, Call, Event, eqb-true}
 use Rattle.kernel_calls.proofs.Decided.{by_next, next-stays, next-goes}
 use Rattle.kernel_calls.proofs.Runs.{not-refused}
 use Rattle.kernel_calls.proofs.UntouchedSlots.{store_bytes, Untouched}
@@ -207,11 +207,8 @@ module _ (s : State) (e : Event) (w : IsWellFormed s) (live : is_live s e.pid �
       kept_stays s e (after_protect s e.pid page write)
       (λ other o. keeps_set (whole_of other) s.spaces (at_page e.pid page)
       (record (cell_or_fresh s.spaces (at_page e.pid page)) { write = write }) refl)
-  after_stays (call.Offer page target write) is h = all_stay (after_offer s e.pid page target write) refl
-  after_stays (call.Withdraw page target) is h = all_stay (after_withdraw s e.pid page target) refl
   after_stays (call.Accept giver giver_page page) is h =
       accept_stays giver giver_page page (not-refused (accept_refusal s e.pid giver giver_page page) _ h)
-  after_stays (call.Spawn quota) is h = all_stay (after_spawn s e.pid quota) refl
   after_stays (call.Fork quota) is h =
       let free = child_free s e.pid quota (may_fork s e.pid quota (not-refused (fork_refusal s e.pid quota) _ h)).spawn
       in
@@ -220,7 +217,7 @@ module _ (s : State) (e : Event) (w : IsWellFormed s) (live : is_live s e.pid �
       (live_differ s slot.pid (child_of s) (w.owners slot c k) free) ∙ k))
   after_stays call.Exit is h = without_stays s e (after_exit s e.pid) (is_of e.pid) refl
       (λ other o. ne_eqb other.pid e.pid o)
-  after_stays _ is h = all_stay s refl
+  after_stays c is h = all_stay (after s e.pid c) refl
 
 -- after any event, at a slot that is mapped before and after it
 pub next_stays : (s : State) (e : Event) → IsWellFormed s → Stays s e (next s e)

@@ -267,16 +267,14 @@ module _ (s : State) (e : Event) (p : ℕ) (w : IsWellFormed s) (live_p : is_liv
           ⊎ ((map.get (after_exit s e.pid).offers key ≡ None) × EndsOffer e key)
       offers key b target other = grind (arith, retain_gone, eqb-true, retain_same)
 
+  ruleset slots_untouched = (load_untouched, store_untouched, map_untouched, unmap_untouched, exit_untouched)
+
+  ruleset offers_untouched = (offer_untouched, withdraw_untouched, accept_untouched, not-refused)
+
+  ruleset calls_untouched = (slots_untouched, offers_untouched, still_untouched)
+
   after_untouched : (c : Call) → e.call ≡ c → completes (answer_of s e.pid c) ≡ true
       → LeavesAll s (after s e.pid c) e p
-  after_untouched (call.Load addr size) is h = load_untouched addr size
-  after_untouched (call.Store addr size value) is h = store_untouched addr size value is h
-  after_untouched (call.Map page write) is h = map_untouched page (fresh (at_page e.pid page) write)
-  after_untouched (call.Unmap page) is h = unmap_untouched page
-  after_untouched (call.Protect page write) is h = map_untouched page _
-  after_untouched (call.Offer page target write) is h = offer_untouched page target write
-  after_untouched (call.Withdraw page target) is h = withdraw_untouched page target
-  after_untouched (call.Accept giver giver_page page) is h = grind (arith, accept_untouched)
   after_untouched (call.Spawn quota) is h = child_untouched (child_of s) quota s.spaces
       (child_free s e.pid quota (not-refused (spawn_refusal s e.pid quota) _ h)) (λ n. refl)
   after_untouched (call.Fork quota) is h =
@@ -284,8 +282,7 @@ module _ (s : State) (e : Event) (p : ℕ) (w : IsWellFormed s) (live_p : is_liv
       in
       child_untouched (child_of s) quota (copied s.spaces e.pid (child_of s)) free
       (λ n. copied-other s.spaces e.pid (child_of s) (at_page p n) (live_differ s p (child_of s) live_p free))
-  after_untouched call.Exit is h = exit_untouched is
-  after_untouched _ is h = still_untouched s e p d
+  after_untouched _ is h = search calls_untouched
 
 -- who calls and is not refused is live
 pub caller_live : (s : State) (e : Event) → completes (answer s e) ≡ true
