@@ -1,11 +1,13 @@
 -- Which event of another process makes a call impossible.
 use Rattle.kernel_laws.proofs.Prelude
 use Prelude.{◌≡◌, ◌≢◌, ℕ, true, false, sym, ap, ◌∙◌, Some, is_some, arith, inl, inr, some_value, offer_key, State}
-use Prelude.{is_live, Loses, OthersNeverRefuse, answer, next, completes, Call, Event}
+use Prelude.{is_live, Loses, OthersNeverRefuse, answer, next, completes, Call, Event, at_page, ◌⊎◌}
+use Rattle.page_sharing.specs.Offers.{OfferKey}
+use Rattle.kernel_calls.specs.Authority.{Settles, IsLeave}
 use Rattle.kernel_calls.proofs.Births.{child_dead, place_of}
 use Rattle.kernel_calls.proofs.GivenUp.{offers_stay}
 use Rattle.kernel_calls.proofs.Untouched.{caller_live}
-use Rattle.kernel_calls.proofs.Availability.{leaves_one, Lost, taken, outcome, answered}
+use Rattle.kernel_calls.proofs.Availability.{leaves_one, IsGone, Lost, outcome, answered}
 use Rattle.page_words.specs.FiniteMap as map
 use Rattle.kernel_calls.specs.declared.calls.Call.TheVariants as call
 use Rattle.kernel_calls.specs.declared.calls.Reply.TheVariants as reply
@@ -17,38 +19,23 @@ module _ (s : State) (o : Event) (p : ℕ) (d : p ≢ o.pid) where
   goes : (k : ℕ) → is_live s k ≡ true → is_live (next s o) k ≡ false → (o.pid ≡ k) × (o.call ≡ call.Exit)
   goes k was now = grind (arith, place_of, child_dead)
 
+  -- how an offer that is gone ended
+  ends : (key : OfferKey) → IsGone s (next s o) key
+      → Settles o key ⊎ (IsLeave o (at_page key.offerer key.page) ⊎ ((key.target ≡ o.pid) × (o.call ≡ call.Exit)))
+  ends key gone =
+      let at = some_value (map.get s.offers key) gone.0 in
+      elim (offers_stay s o key at.0 at.1) [
+        | inl stays ↦ absurd (let a = ap is_some stays in let b = gone.1 in cc)
+        | inr by ↦ by
+      ]
+
+  own_ends : (page target : ℕ) → IsGone s (next s o) (offer_key p page target)
+      → (o.pid ≡ target) × ((o.call ≡ call.Exit) ⊎ ((own : ℕ) × (o.call ≡ call.Accept p page own)))
+  own_ends page target gone = let by = ends (offer_key p page target) gone in grind arith
+
   loses : (c : Call) → Lost s (next s o) p c → Loses s o p c
-  loses (call.Withdraw page target) x =
-      let at = some_value (map.get s.offers (offer_key p page target)) x.0 in
-      elim (offers_stay s o (offer_key p page target) at.0 at.1) [
-        | inl stays ↦ absurd (let a = ap is_some stays in let b = x.1 in cc)
-        | inr ends ↦ elim ends [
-          | inl settles ↦ elim settles [
-            | inl withdrawn ↦ absurd (d (sym withdrawn.0))
-            | inr taken ↦ (taken.0, inr taken.1)
-          ]
-          | inr leaves ↦ elim leaves [
-            | inl left ↦ absurd (d left.own)
-            | inr exits ↦ (sym exits.0, inl exits.1)
-          ]
-        ]
-      ]
-  loses (call.Accept giver giver_page page) x =
-      let at = some_value (map.get s.offers (offer_key giver giver_page p)) x.0 in
-      elim (offers_stay s o (offer_key giver giver_page p) at.0 at.1) [
-        | inl stays ↦ absurd (let a = ap is_some stays in let b = x.1 in cc)
-        | inr ends ↦ elim ends [
-          | inl settles ↦ elim settles [
-            | inl withdrawn ↦ (withdrawn.0, inr (inr withdrawn.1))
-            | inr taken ↦ absurd (d (sym taken.0))
-          ]
-          | inr leaves ↦ elim leaves [
-            | inl left ↦ grind arith
-            | inr exits ↦ absurd (d exits.0)
-          ]
-        ]
-      ]
-  loses _ x = grind (arith, goes, comes)
+  loses (call.Accept giver giver_page page) x = let by = ends (offer_key giver giver_page p) x in grind arith
+  loses _ x = first_of (grind (arith, goes, comes), search own_ends)
 
 pub others_never_refuse : OthersNeverRefuse
 others_never_refuse s o e w d done =

@@ -2,17 +2,18 @@
 use Rattle.kernel_laws.proofs.Prelude
 use Prelude.{◌≡◌, ℕ, zero, suc, ◌+◌, ◌<◌, ◌≤◌, ◌++◌, ◌==◌, ◌&&◌, Bool, true, false, not, List, [], ◌∷◌, refl, sym, ap}
 use Prelude.{subst, ◌∙◌, Option, Some, None, is_some, is_none, unwrap_or, arith, inl, inr, nat_lt, nat_le, ◌⊎◌, ◌↔◌}
-use Prelude.{if◌then◌else◌, All, range_with_len, option_map, not-false, ltb-true, leb-true, lt-ltb, le-leb, cases_eq}
-use Prelude.{cases_lt, eqb-true, eq-eqb, same_Some, All-nil, All-cons, All-tail, covered, page_number, second_page}
-use Prelude.{is_user_page, IsUserPage, Size, Slot, Cell, cell_or_fresh, fresh, cost, at_page, slot_at, Book, given}
-use Prelude.{quota_of, next_number, number_of_children, offer_key, pending, Access, Read, Write, error_code, State}
-use Prelude.{is_live, is_mapped, room, extra_cost, overdrawn, child_of, map_refusal, unmap_refusal, protect_refusal}
-use Prelude.{offer_refusal, withdraw_refusal, accept_refusal, spawn_refusal, fork_refusal, exit_refusal, loaded, Cause}
-use Prelude.{page_is_user, user_page, outside, is_read_only, read_only, fault_or, step_of, Flags, flags_of, flags_at}
-use Prelude.{IsCovered, answer, completes, refused_or, planned_or, info_of, Call, Event, Reply}
+use Prelude.{if◌then◌else◌, IfSome, All, range_with_len, option_map, not-false, ltb-true, leb-true, lt-ltb, le-leb}
+use Prelude.{cases_eq, cases_lt, eqb-true, eq-eqb, same_Some, All-nil, All-cons, All-tail, covered, page_number}
+use Prelude.{second_page, is_user_page, IsUserPage, Size, Slot, Cell, cell_or_fresh, fresh, cost, at_page, slot_at}
+use Prelude.{Book, given, quota_of, next_number, number_of_children, pending, Access, Read, Write, error_code, State}
+use Prelude.{is_live, is_mapped, room, child_of, loaded, Cause, page_is_user, user_page, outside, is_read_only}
+use Prelude.{read_only, fault_or, step_of, Flags, flags_of, flags_at, IsCovered, answer, completes, refused_or}
+use Prelude.{planned_or, info_of, Call, Event, Reply}
+use Rattle.std.proofs.Common.{drop}
 use Rattle.std.specs.Prelude.{find}
 use Rattle.fault_handler.specs.declared.plans.PageStep.{PageStep}
-use Rattle.kernel_laws.specs.Causes.{frames_asked, causes_of, Applies, IsOutside, IsReadOnly, IsLowest, Faults}
+use Rattle.kernel_laws.specs.Causes.{own_page, asks_to_write, target_of, key_of, frames_asked, causes_of, Applies}
+use Rattle.kernel_laws.specs.Causes.{IsOutside, IsReadOnly, IsLowest, Faults}
 use Rattle.kernel_laws.specs.Causes.{CompletesUnless, RefusedByTheFirst, FaultsAtTheFirstByte}
 use Rattle.kernel_calls.proofs.UntouchedSlots.{none_in}
 use Rattle.page_words.specs.FiniteMap as map
@@ -57,6 +58,23 @@ and a b = record { first = a; rest = b }
 abbrev Agree : (Cause → Type 0) → List Test → Type 0
 Agree P [] = Unit {0}
 Agree P (t ∷ ts) = And ((t.holds ≡ true) ↔ P t.names) (Agree P ts)
+
+-- a test, and that it tells whether this holds
+abbrev Told : Type 0 → Type 0
+Told P = (holds : Bool) × ((holds ≡ true) ↔ P)
+
+module _ (P : Cause → Type 0) (told : (c : Cause) → Told (P c)) where
+  abbrev tests_of : List Cause → List Test
+  tests_of [] = []
+  tests_of (c ∷ cs) = test (told c).0 c ∷ tests_of cs
+
+  names_of : (cs : List Cause) → names_in (tests_of cs) ≡ cs
+  names_of [] = refl
+  names_of (c ∷ cs) = ap (λ xs. c ∷ xs) (names_of cs)
+
+  agree : (cs : List Cause) → Agree P (tests_of cs)
+  agree [] = tt
+  agree (c ∷ cs) = and (told c).1 (agree cs)
 
 module _ (P : Cause → Type 0) where
   abbrev Fails : Cause → Type 0
@@ -195,7 +213,54 @@ no_number book = by (next_number book) refl
     by None is = (λ _ k low. not-false (map.contains_key book k) (none_in free 0 64 is k (omega arith) (omega (arith, low))), λ _. refl)
     by (Some k) is = grind (arith, found_number, free)
 
+-- ---- What tells whether a cause applies
+
+-- a test of a value, if there is one
+abbrev there : {A : Type 0} (Q : A → Type 0) → ((a : A) → Told (Q a)) → (x : Option A) → Told (IfSome x Q)
+there Q told None = (true, (λ h. tt, λ h. refl))
+there Q told (Some a) = told a
+
+module _ (s : State) (p : ℕ) (c : Call) where
+  -- a right is asked for that the page is without
+  abbrev lacks : (asks : Bool) (x : Option ℕ) → Told ((asks ≡ true)
+      × IfSome x (λ page. (f : Flags) × (flags_at s (at_page p page) ≡ Some f) × (f.may ≡ false)))
+  lacks asks None = (asks, (λ h. (h, tt), λ h. h.0))
+  lacks asks (Some page) = (_, withheld s (at_page p page) asks)
+
+  nobody : (false ≡ true) ↔ (None ≡ Some p)
+  nobody = (λ h. cc, λ h. cc)
+
+  abbrev offers_itself : (x : Option ℕ) → Told (x ≡ Some p)
+  offers_itself None = (false, nobody)
+  offers_itself (Some target) = (_, same_target target p)
+
+  abbrev judged : (k : Cause) → Told (Applies s p c k)
+  judged cause.NoProcess = (_, turned (is_live s p))
+  judged cause.BadPage = there _ (λ page. (_, outside_user page)) (own_page c)
+  judged cause.NotMapped = there _ (λ page. (_, turned (is_mapped s (at_page p page)))) (own_page c)
+  judged cause.Mapped = there _ (λ page. (_, itself (is_mapped s (at_page p page)))) (own_page c)
+  judged cause.Quota = (_, less (room s p) (frames_asked s p c))
+  judged cause.Rights = lacks (asks_to_write c) (own_page c)
+  judged cause.SelfOffer = offers_itself (target_of c)
+  judged cause.NoTarget = there _ (λ target. (_, turned (is_live s target))) (target_of c)
+  judged cause.OfferPending = there _ (λ key. (_, itself (map.contains_key s.offers key))) (key_of p c)
+  judged cause.TooManyOffers = (_, at_least 32 (map.len (pending s.offers p)))
+  judged cause.NoOffer = there _ (λ key. (_, turned (map.contains_key s.offers key))) (key_of p c)
+  judged cause.TableFull = (_, no_number s.book)
+  judged cause.BadQuota = (_, same_number (frames_asked s p c) 0)
+  judged cause.HasChildren = (_, less 0 (number_of_children s.book p))
+  judged cause.RootExit = (_, same_number p 0)
+  judged cause.TooSmall = (_, less (frames_asked s p c) (cost s.spaces p))
+
 -- ---- Each call
+
+-- the reply where none applies
+abbrev granted : State → ℕ → Call → Reply
+granted s p (call.Info page) = info_of (cell_or_fresh s.spaces (at_page p page))
+granted s p (call.Spawn quota) = reply.Child (child_of s)
+granted s p (call.Fork quota) = reply.Child (child_of s)
+granted s p call.Quota = reply.Quota (quota_of s.book p) (cost s.spaces p) (given s.book p)
+granted s p _ = reply.Done
 
 refused_as : (live : Bool) (x : Option Cause) (r : Reply) → (if live then refused_or x r else reply.Refused cause.NoProcess)
     ≡ refused_or (if not live then Some cause.NoProcess else x) r
@@ -382,88 +447,10 @@ settle s cpu p (call.Store address size value) =
     settled_access s (event_of cpu p (call.Store address size value)) Write (outside address size) (read_only s p address size)
     reply.Done refl (step_of s p (page_number address)) (option_map (step_of s p) (second_page address size))
     refl refl (store_faults s p address size)
-settle s cpu p (call.Map page write) =
-    settled s (event_of cpu p (call.Map page write))
-    (test (not (is_live s p)) cause.NoProcess ∷ test (not (is_user_page page)) cause.BadPage ∷ test (is_mapped s (at_page p page)) cause.Mapped
-    ∷ test (overdrawn s p (page ∷ [])) cause.Quota ∷ [])
-    reply.Done (refused_as (is_live s p) (map_refusal s p page) reply.Done) refl
-    (and (turned (is_live s p)) (and (outside_user page) (and (itself (is_mapped s (at_page p page))) (and (less (room s p) (extra_cost s p (page ∷ []))) tt))))
-    refl (λ byte code h. h)
-settle s cpu p (call.Unmap page) =
-    settled s (event_of cpu p (call.Unmap page))
-    (test (not (is_live s p)) cause.NoProcess ∷ test (not (is_user_page page)) cause.BadPage ∷ test (not (is_mapped s (at_page p page))) cause.NotMapped ∷ [])
-    reply.Done (refused_as (is_live s p) (unmap_refusal s p page) reply.Done) refl
-    (and (turned (is_live s p)) (and (outside_user page) (and (turned (is_mapped s (at_page p page))) tt)))
-    refl (λ byte code h. h)
-settle s cpu p (call.Protect page write) =
-    settled s (event_of cpu p (call.Protect page write))
-    (test (not (is_live s p)) cause.NoProcess ∷ test (not (is_user_page page)) cause.BadPage ∷ test (not (is_mapped s (at_page p page))) cause.NotMapped
-    ∷ test (write && not (cell_or_fresh s.spaces (at_page p page)).may) cause.Rights ∷ [])
-    reply.Done (refused_as (is_live s p) (protect_refusal s p page write) reply.Done) refl
-    (and (turned (is_live s p)) (and (outside_user page) (and (turned (is_mapped s (at_page p page))) (and (withheld s (at_page p page) write) tt))))
-    refl (λ byte code h. h)
-settle s cpu p (call.Info page) =
-    settled s (event_of cpu p (call.Info page))
-    (test (not (is_live s p)) cause.NoProcess ∷ test (not (is_user_page page)) cause.BadPage ∷ test (not (is_mapped s (at_page p page))) cause.NotMapped ∷ [])
-    (info_of (cell_or_fresh s.spaces (at_page p page)))
-    (refused_as (is_live s p) (protect_refusal s p page false) (info_of (cell_or_fresh s.spaces (at_page p page)))) refl
-    (and (turned (is_live s p)) (and (outside_user page) (and (turned (is_mapped s (at_page p page))) tt)))
-    refl (λ byte code h. h)
-settle s cpu p (call.Offer page target write) =
-    settled s (event_of cpu p (call.Offer page target write))
-    (test (not (is_live s p)) cause.NoProcess ∷ test (not (is_user_page page)) cause.BadPage ∷ test (not (is_mapped s (at_page p page))) cause.NotMapped
-    ∷ test (target == p) cause.SelfOffer ∷ test (not (is_live s target)) cause.NoTarget
-    ∷ test (write && not (cell_or_fresh s.spaces (at_page p page)).may) cause.Rights
-    ∷ test (map.contains_key s.offers (offer_key p page target)) cause.OfferPending
-    ∷ test (nat_le 32 (map.len (pending s.offers p))) cause.TooManyOffers ∷ [])
-    reply.Done (refused_as (is_live s p) (offer_refusal s p page target write) reply.Done) refl
-    (and (turned (is_live s p)) (and (outside_user page) (and (turned (is_mapped s (at_page p page)))
-    (and (same_target target p) (and (turned (is_live s target)) (and (withheld s (at_page p page) write)
-    (and (itself (map.contains_key s.offers (offer_key p page target))) (and (at_least 32 (map.len (pending s.offers p))) tt))))))))
-    refl (λ byte code h. h)
-settle s cpu p (call.Withdraw page target) =
-    settled s (event_of cpu p (call.Withdraw page target))
-    (test (not (is_live s p)) cause.NoProcess ∷ test (not (is_user_page page)) cause.BadPage
-    ∷ test (not (map.contains_key s.offers (offer_key p page target))) cause.NoOffer ∷ [])
-    reply.Done (refused_as (is_live s p) (withdraw_refusal s p page target) reply.Done) refl
-    (and (turned (is_live s p)) (and (outside_user page) (and (turned (map.contains_key s.offers (offer_key p page target))) tt)))
-    refl (λ byte code h. h)
-settle s cpu p (call.Accept giver giver_page page) =
-    settled s (event_of cpu p (call.Accept giver giver_page page))
-    (test (not (is_live s p)) cause.NoProcess ∷ test (not (is_user_page page)) cause.BadPage
-    ∷ test (not (map.contains_key s.offers (offer_key giver giver_page p))) cause.NoOffer
-    ∷ test (is_mapped s (at_page p page)) cause.Mapped ∷ test (overdrawn s p (page ∷ [])) cause.Quota ∷ [])
-    reply.Done (refused_as (is_live s p) (accept_refusal s p giver giver_page page) reply.Done) refl
-    (and (turned (is_live s p)) (and (outside_user page) (and (turned (map.contains_key s.offers (offer_key giver giver_page p)))
-    (and (itself (is_mapped s (at_page p page))) (and (less (room s p) (extra_cost s p (page ∷ []))) tt)))))
-    refl (λ byte code h. h)
-settle s cpu p (call.Spawn quota) =
-    settled s (event_of cpu p (call.Spawn quota))
-    (test (not (is_live s p)) cause.NoProcess ∷ test (quota == 0) cause.BadQuota ∷ test (is_none (next_number s.book)) cause.TableFull
-    ∷ test (nat_lt (room s p) quota) cause.Quota ∷ [])
-    (reply.Child (child_of s)) (refused_as (is_live s p) (spawn_refusal s p quota) (reply.Child (child_of s))) refl
-    (and (turned (is_live s p)) (and (same_number quota 0) (and (no_number s.book) (and (less (room s p) quota) tt))))
-    refl (λ byte code h. h)
-settle s cpu p (call.Fork quota) =
-    settled s (event_of cpu p (call.Fork quota))
-    (test (not (is_live s p)) cause.NoProcess ∷ test (quota == 0) cause.BadQuota ∷ test (is_none (next_number s.book)) cause.TableFull
-    ∷ test (nat_lt quota (cost s.spaces p)) cause.TooSmall ∷ test (nat_lt (room s p) quota) cause.Quota ∷ [])
-    (reply.Child (child_of s)) (refused_as (is_live s p) (fork_refusal s p quota) (reply.Child (child_of s))) refl
-    (and (turned (is_live s p)) (and (same_number quota 0) (and (no_number s.book) (and (less quota (cost s.spaces p)) (and (less (room s p) quota) tt)))))
-    refl (λ byte code h. h)
-settle s cpu p call.Exit =
-    settled s (event_of cpu p call.Exit)
-    (test (not (is_live s p)) cause.NoProcess ∷ test (p == 0) cause.RootExit ∷ test (nat_lt 0 (number_of_children s.book p)) cause.HasChildren ∷ [])
-    reply.Done (refused_as (is_live s p) (exit_refusal s p) reply.Done) refl
-    (and (turned (is_live s p)) (and (same_number p 0) (and (less 0 (number_of_children s.book p)) tt)))
-    refl (λ byte code h. h)
-settle s cpu p call.Quota =
-    settled s (event_of cpu p call.Quota)
-    (test (not (is_live s p)) cause.NoProcess ∷ [])
-    (reply.Quota (quota_of s.book p) (cost s.spaces p) (given s.book p))
-    (refused_as (is_live s p) None (reply.Quota (quota_of s.book p) (cost s.spaces p) (given s.book p))) refl
-    (and (turned (is_live s p)) tt)
-    refl (λ byte code h. h)
+settle s cpu p c =
+    settled s (event_of cpu p c) (tests_of _ (judged s p c) (causes_of c)) (granted s p c)
+    (refused_as (is_live s p) (first_of (tests_of _ (judged s p c) (drop 1 (causes_of c)))) (granted s p c)) refl
+    (agree _ (judged s p c) (causes_of c)) (names_of _ (judged s p c) (causes_of c)) (λ byte code h. h)
 
 pub completes_unless : CompletesUnless
 completes_unless s e = (settle s e.cpu e.pid e.call).completes

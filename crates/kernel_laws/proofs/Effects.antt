@@ -325,12 +325,9 @@ module _ (s : State) (e : Event) (w : IsWellFormed s) (live : is_live s e.pid â‰
   does (call.Map page write) is h goes told =
       map_does page write is (ap is_some (may_map s e.pid page (not-refused (map_refusal s e.pid page) _ h)).none) goes
   does (call.Unmap page) is h goes told = unmaps_end s e page is told
-  does (call.Protect page write) is h goes told = grind (arith, get-inserted)
-  does (call.Offer page target write) is h goes told = grind (arith, get-insert, same_itself)
-  does (call.Withdraw page target) is h goes told = grind (arith, offers_end)
   does (call.Accept giver giver_page page) is h goes told = grind (arith, accept_does, not-refused)
   does call.Exit is h goes told = exits_end s e is told
-  does _ is h goes told = tt
+  does _ is h goes told = grind (arith, get-inserted, get-insert, same_itself, offers_end)
 
 pub done_means_done : DoneMeansDone
 done_means_done s e w done = grind (arith, caller_live, does, next-goes, completes_by_kind)

@@ -60,15 +60,12 @@ accesses_beside s e o w beside =
 
 -- a call that changes at most slots of its process's own, and no bytes of groups
 abbrev slots_only : Call → Bool
-slots_only (call.Load addr size) = true
-slots_only (call.Map page write) = true
-slots_only (call.Protect page write) = true
-slots_only (call.Info page) = true
-slots_only (call.Offer page target write) = true
-slots_only (call.Withdraw page target) = true
-slots_only (call.Spawn quota) = true
-slots_only call.Quota = true
-slots_only _ = false
+slots_only (call.Store addr size value) = false
+slots_only (call.Unmap page) = false
+slots_only (call.Accept giver giver_page page) = false
+slots_only (call.Fork quota) = false
+slots_only call.Exit = false
+slots_only _ = true
 
 -- such a call, and what commutes with changes of its process's slots, in either order
 by_slots : (s : State) (p : ℕ) (c : Call) (O : Spaces → Spaces) (Good : Spaces → Type 0) (Free : Spaces → Slot → Type 0)

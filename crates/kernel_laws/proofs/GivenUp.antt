@@ -75,13 +75,12 @@ unmaps_end s e page is told = subst (λ t. HasLeft t (at_page e.pid page))
 
 pub offers_end : OffersEnd
 offers_end s e key (inl withdrawn) told =
-    ap (λ (t : State). map.get t.offers key) (done_goes s e (call.Withdraw key.page key.target) withdrawn.1 told).0
+    ap (λ (t : State). map.get t.offers key) (done_goes s e _ withdrawn.1 told).0
     ∙ ap (map.get (map.remove s.offers (offer_key e.pid key.page key.target)))
     (λ i. record { offerer = sym withdrawn.0 i; page = key.page; target = key.target })
     ∙ get-removed s.offers (offer_key e.pid key.page key.target)
 offers_end s e key (inr taken) told =
-    ap (λ (t : State). map.get t.offers key) (done_goes s e (call.Accept key.offerer key.page taken.1.0) taken.1.1
-    told).0
+    ap (λ (t : State). map.get t.offers key) (done_goes s e _ taken.1.1 told).0
     ∙ ap (map.get (map.remove s.offers (offer_key key.offerer key.page e.pid)))
     (λ i. record { offerer = key.offerer; page = key.page; target = sym taken.0 i })
     ∙ get-removed s.offers (offer_key key.offerer key.page e.pid)

@@ -62,9 +62,8 @@ pub use Rattle.process_table.proofs.SpaceLaws.{user_page, well_formed-bytes, wel
 pub use Rattle.process_table.specs.Apart.{IsApart, lone}
 pub use Rattle.process_table.specs.Calls.{accept_refusal, after_accept, after_exit, after_fork, after_load, after_spawn}
 pub use Rattle.process_table.specs.Calls.{after_store, after_unmap, exit_refusal, fork_refusal, loaded, map_refusal}
-pub use Rattle.process_table.specs.Calls.{offer_refusal, offered, protect_refusal, spawn_refusal, unmap_refusal}
-pub use Rattle.process_table.specs.Calls.{withdraw_refusal}
-pub use Rattle.process_table.specs.State.{State, child_of, extra_cost, is_live, is_mapped, overdrawn, room}
+pub use Rattle.process_table.specs.Calls.{offered, spawn_refusal}
+pub use Rattle.process_table.specs.State.{State, child_of, is_live, is_mapped, room}
 pub use Rattle.process_table.specs.View.{View}
 pub use Rattle.process_table.specs.WellFormed.{IsWellFormed}
 pub use Rattle.process_table.specs.declared.causes.Cause.{Cause}
