@@ -1,6 +1,6 @@
 -- What other processes leave of the calls that a process can make.
 use Rattle.kernel_calls.proofs.Prelude
-use Prelude.{◌≡◌, ◌≢◌, ℕ, ◌≤◌, ◌==◌, not, Bool, true, false, List, [], ◌∷◌, refl, sym, ap, subst, ◌∙◌, Option, Some, None, is_some, is_none, arith, inl, inr, nat_lt, ◌⊎◌, if◌then◌else◌, option_map, All, ne_eqb, not-false, nat_tests, All-head, All-tail, covered, touched, page_number, second_page, Size, Map, same, some_value, is_some-map, at_page, cost, pages_of, access_need, same_pages, given, number_of_children, next_number, given-remove, number-remove, OfferKey, offer_order, offer_key, pending, Access, Read, Write, is_write, extra_page, extra_touched, State, is_live, is_mapped, room, extra_cost, overdrawn, map_refusal, unmap_refusal, protect_refusal, offer_refusal, withdraw_refusal, accept_refusal, spawn_refusal, fork_refusal, exit_refusal, IsWellFormed, Cause, next_free, not_less, plan_of, step_of, forbidden, is_read_only, fault_or, goes_on, Plan, ready, flags_at, lost, RunsNeverRefuse, answer, answer_of, after, next, end_of, completes, refused_or, planned_or, Call, Event, Reply, find, retain-insert_other, len-retain}
+use Prelude.{◌≡◌, ◌≢◌, ℕ, ◌≤◌, ◌==◌, not, Bool, true, false, List, [], ◌∷◌, refl, sym, ap, subst, ◌∙◌, Option, Some, None, is_some, is_none, arith, inl, inr, nat_lt, ◌⊎◌, if◌then◌else◌, option_map, All, ne_eqb, not-false, nat_tests, All-head, All-tail, covered, touched, page_number, second_page, Size, Map, same, some_value, is_some-map, at_page, cost, pages_of, access_need, same_pages, given, number_of_children, next_number, given-remove, number-remove, OfferKey, offer_order, offer_key, pending, Access, Read, Write, is_write, extra_page, extra_touched, State, is_live, is_mapped, room, extra_cost, overdrawn, map_refusal, unmap_refusal, protect_refusal, offer_refusal, withdraw_refusal, accept_refusal, spawn_refusal, fork_refusal, exit_refusal, IsWellFormed, Cause, next_free, not_less, plan_of, step_of, forbidden, is_read_only, fault_or, goes_on, Plan, ready, flags_at, lost, RunsNeverRefuse, answer, answer_of, after, next, end_of, completes, refused_or, planned_or, Call, Event, Reply, Settles, find, retain-insert_other, len-retain}
 use Rattle.kernel_calls.proofs.Decided.{next-stays, next-goes}
 use Rattle.kernel_calls.proofs.Runs.{not-refused, went-on, kept-next}
 use Rattle.kernel_calls.proofs.Untouched.{LeavesAll, leaves_all, caller_live}
@@ -96,14 +96,13 @@ some_of x h = grind arith
 abbrev pub IsGone : State → State → OfferKey → Type 0
 IsGone s t key = (map.contains_key s.offers key ≡ true) × (map.contains_key t.offers key ≡ false)
 
--- why a call is lost
+-- why a call is lost: one that settles an offer, since that is gone
 abbrev pub Lost : State → State → ℕ → Call → Type 0
 Lost s t p (call.Offer _ target _) = (is_live s target ≡ true) × (is_live t target ≡ false)
-Lost s t p (call.Withdraw page target) = IsGone s t (offer_key p page target)
-Lost s t p (call.Accept giver page _) = IsGone s t (offer_key giver page p)
 Lost s t p (call.Spawn _) = (k : ℕ) × (is_live s k ≡ false) × (is_live t k ≡ true)
 Lost s t p (call.Fork _) = (k : ℕ) × (is_live s k ≡ false) × (is_live t k ≡ true)
-Lost s t p _ = ⊥
+Lost s t p c = (giver : ℕ) × (page : ℕ) × (target : ℕ) × IsGone s t (offer_key giver page target)
+    × Settles (record { cpu = 0; pid = p; call = c }) (offer_key giver page target)
 
 abbrev pub Outcome : State → State → ℕ → Call → Type 0
 Outcome s t p c = (completes (answer_of t p c) ≡ true)

@@ -29,13 +29,11 @@ module _ (s : State) (o : Event) (p : ℕ) (d : p ≢ o.pid) where
         | inr by ↦ by
       ]
 
-  own_ends : (page target : ℕ) → IsGone s (next s o) (offer_key p page target)
-      → (o.pid ≡ target) × ((o.call ≡ call.Exit) ⊎ ((own : ℕ) × (o.call ≡ call.Accept p page own)))
-  own_ends page target gone = let by = ends (offer_key p page target) gone in grind arith
-
   loses : (c : Call) → Lost s (next s o) p c → Loses s o p c
-  loses (call.Accept giver giver_page page) x = let by = ends (offer_key giver giver_page p) x in grind arith
-  loses _ x = first_of (grind (arith, goes, comes), search own_ends)
+  loses (call.Offer page target write) x = grind (arith, goes)
+  loses (call.Spawn quota) x = grind (arith, comes)
+  loses (call.Fork quota) x = grind (arith, comes)
+  loses _ x = let by = ends (offer_key x.0 x.1 x.2) x.3 in grind arith
 
 pub others_never_refuse : OthersNeverRefuse
 others_never_refuse s o e w d done =

@@ -213,7 +213,7 @@ no_number book = by (next_number book) refl
     by None is = (λ _ k low. not-false (map.contains_key book k) (none_in free 0 64 is k (omega arith) (omega (arith, low))), λ _. refl)
     by (Some k) is = grind (arith, found_number, free)
 
--- ---- What tells whether a cause applies
+-- ---- Whether a cause applies
 
 -- a test of a value, if there is one
 abbrev there : {A : Type 0} (Q : A → Type 0) → ((a : A) → Told (Q a)) → (x : Option A) → Told (IfSome x Q)
@@ -234,6 +234,7 @@ module _ (s : State) (p : ℕ) (c : Call) where
   offers_itself None = (false, nobody)
   offers_itself (Some target) = (_, same_target target p)
 
+  -- for each cause, a test that tells whether it applies
   abbrev judged : (k : Cause) → Told (Applies s p c k)
   judged cause.NoProcess = (_, turned (is_live s p))
   judged cause.BadPage = there _ (λ page. (_, outside_user page)) (own_page c)
