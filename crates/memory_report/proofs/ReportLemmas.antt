@@ -7,7 +7,7 @@ use Rattle.std.proofs.lemmas.List.Sums.{sum_by-cons}
 use Rattle.address_space.proofs.costs.AccessCosts.{cost-same}
 use Rattle.address_space.proofs.costs.MapFirst.{touched-there, bytes_there, key-all_accessed, key-all_stored}
 use Rattle.address_space.proofs.costs.Totals.{cost-insert_other, cost-joined_other, cost-without_other}
-use Rattle.address_space.specs.Spaces.{Slot, slot_order, Spaces, cost, with_page, with_pages, all_accessed, all_stored, protected, without, is_slot, fresh, bytes_of, copied}
+use Rattle.address_space.specs.Spaces.{Slot, slot_order, Spaces, cost, with_page, with_pages, all_accessed, all_stored, fresh, bytes_of, copied}
 use Rattle.kernel_calls.proofs.Charges.{fork_lives}
 use Rattle.kernel_calls.proofs.Decided.{next-stays, next-goes}
 use Rattle.kernel_calls.proofs.Runs.{runs-stay}
@@ -118,26 +118,11 @@ module _ (s : State) (p : ℕ) (w : IsWellFormed s) (live : is_live s p ≡ true
       let child = child_of s in
       opened-is s p quota child w live (next_child quota (may_fork s p quota allowed).spawn) (copied s.spaces p child) used (cost-copied s.spaces p child ∙ sym is) (cost-copied_other s.spaces p child)
 
+  -- a call that makes and ends no process costs the others nothing
+  ruleset others_cost = (loaded_other, stored_other, cost-insert_other, cost-joined_other, cost-without_other, other_slot)
+
   -- what a call that completes leaves of the report
   goes : (c : Call) (used : ℕ) → completes (answer_of s p c) ≡ true → used ≡ charge_in (after s p c) p → after_call (report_of s) p c (answer_of s p c) used ≡ report_of (after s p c)
-  goes (call.Load addr size) used done is =
-      let T = all_accessed (with_pages s.spaces p (touched addr size)) p (touched addr size) in
-      charged s T s.offers p used (small s p w live) (is ∙ charge_live T s.offers) (loaded_other addr size)
-  goes (call.Store addr size value) used done is =
-      let T = all_stored (with_pages s.spaces p (touched addr size)) p addr (bytes_of (byte_count size) value) in
-      charged s T s.offers p used (small s p w live) (is ∙ charge_live T s.offers) (stored_other addr size value)
-  goes (call.Map page write) used done is =
-      let T = map.insert s.spaces (at_page p page) (fresh (at_page p page) write) in
-      charged s T s.offers p used (small s p w live) (is ∙ charge_live T s.offers) (cost-insert_other s.spaces (at_page p page) _)
-  goes (call.Unmap page) used done is =
-      let T = without s.spaces (is_slot p page) in
-      charged s T (after s p (call.Unmap page)).offers p used (small s p w live) (is ∙ charge_live T (after s p (call.Unmap page)).offers) (λ q n. cost-without_other s.spaces (is_slot p page) q (λ page'. other_slot p page q page' n))
-  goes (call.Protect page write) used done is =
-      let T = protected s.spaces (at_page p page) write in
-      charged s T s.offers p used (small s p w live) (is ∙ charge_live T s.offers) (cost-insert_other s.spaces (at_page p page) _)
-  goes (call.Accept giver giver_page page) used done is =
-      let t = after s p (call.Accept giver giver_page page) in
-      charged s t.spaces t.offers p used (small s p w live) (is ∙ charge_live t.spaces t.offers) (cost-joined_other s.spaces (at_page giver giver_page) (at_page p page) _)
   goes (call.Spawn quota) used done is =
       let allowed = not_refused (spawn_refusal s p quota) (reply.Child (child_of s)) done in
       ap (λ x. with_child (report_of s) p quota 1 (refused_or x (reply.Child (child_of s)))) allowed ∙ spawned quota allowed
@@ -148,7 +133,7 @@ module _ (s : State) (p : ℕ) (w : IsWellFormed s) (live : is_live s p ≡ true
   goes call.Exit used done is = closed-is s p w live (exit_allowed p (p == 0) _ refl (not_refused (exit_refusal s p) reply.Done done))
   goes c used done is =
       let t = after s p c in
-      charged s t.spaces t.offers p used (small s p w live) (is ∙ charge_live t.spaces t.offers) (λ q n. refl)
+      charged s t.spaces t.offers p used (small s p w live) (is ∙ charge_live t.spaces t.offers) (first_of (assumption, search others_cost))
 
   -- and a spawn that completes gives what its process can give
   gives : (c : Call) → completes (answer_of s p c) ≡ true → IsRoomy (report_of s) p c
