@@ -59,7 +59,7 @@ abbrev Agree : (Cause → Type 0) → List Test → Type 0
 Agree P [] = Unit {0}
 Agree P (t ∷ ts) = And ((t.holds ≡ true) ↔ P t.names) (Agree P ts)
 
--- a test, and that it tells whether this holds
+-- a test, and that it is true exactly if this holds
 abbrev Told : Type 0 → Type 0
 Told P = (holds : Bool) × ((holds ≡ true) ↔ P)
 
@@ -221,7 +221,7 @@ there Q told None = (true, (λ h. tt, λ h. refl))
 there Q told (Some a) = told a
 
 module _ (s : State) (p : ℕ) (c : Call) where
-  -- a right is asked for that the page is without
+  -- a right is requested that the page lacks
   abbrev lacks : (asks : Bool) (x : Option ℕ) → Told ((asks ≡ true)
       × IfSome x (λ page. (f : Flags) × (flags_at s (at_page p page) ≡ Some f) × (f.may ≡ false)))
   lacks asks None = (asks, (λ h. (h, tt), λ h. h.0))
@@ -234,7 +234,7 @@ module _ (s : State) (p : ℕ) (c : Call) where
   offers_itself None = (false, nobody)
   offers_itself (Some target) = (_, same_target target p)
 
-  -- for each cause, a test that tells whether it applies
+  -- for each cause, a test of whether it applies
   abbrev judged : (k : Cause) → Told (Applies s p c k)
   judged cause.NoProcess = (_, turned (is_live s p))
   judged cause.BadPage = there _ (λ page. (_, outside_user page)) (own_page c)
