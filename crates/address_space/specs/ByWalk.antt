@@ -1,15 +1,5 @@
 -- Accesses that a processor makes by its walk: which walks find a frame, and what such an access leaves in memory.
-use Rattle.std.specs.Prelude.{ℕ, ◌+◌, ◌*◌, Bool, true, false, ◌&&◌, nat_lt, if◌then◌else◌, List, [], ◌∷◌, map, Option, slice_index, slice_set}
-use Rattle.std.specs.Option.{option_map, unwrap_or}
-use Rattle.std.specs.Result.{is_ok}
-use Rattle.page_words.specs.Addresses.{slot_number, offset_number, start_number, covered, second_page}
-use Rattle.page_words.specs.declared.addresses.Size.{Size}
-use Rattle.page_words.specs.Words.{with_flag, frame_number, is_present}
-use Rattle.phys_memory.specs.Bytes.{word_at, word_place, with_word}
-use Rattle.table_walk.specs.declared.Access.{Access}
-use Rattle.table_walk.specs.declared.Access.TheVariants.{Read, Write}
-use Rattle.table_walk.specs.Walk.{walk_of, table_word}
-use Rattle.table_walk.specs.Marks.{marked}
+use Rattle.address_space.specs.Below.{ℕ, ◌+◌, ◌*◌, Bool, true, false, ◌&&◌, nat_lt, if◌then◌else◌, List, [], ◌∷◌, map, Option, slice_index, slice_set, option_map, unwrap_or, is_ok, slot_number, offset_number, start_number, covered, second_page, Size, with_flag, frame_number, is_present, word_at, word_place, with_word, Access, Read, Write, walk_of, table_word, marked}
 use Rattle.address_space.specs.Spaces.{value_of}
 use Rattle.address_space.specs.Image.{Image, directory_at}
 

@@ -1,12 +1,8 @@
 -- The spaces that a finite map from slots to page entries represents, given bytes for each frame.
-use Rattle.std.proofs.Common.{ℕ, Bool, false, ◌==◌, List, Option, Some, None}
-use Rattle.page_words.specs.FiniteMap as map
-use Rattle.page_words.specs.FiniteMap.{Order, Map}
-use Rattle.page_words.specs.FiniteSet as set
-use Rattle.page_words.specs.FiniteSet.{Set}
-use Rattle.std.specs.Prelude.{if◌then◌else◌}
+use Rattle.address_space.specs.Below.{ℕ, Bool, false, ◌==◌, List, Option, Some, None, Order, Map, Set, if◌then◌else◌, PageEntry}
 use Rattle.address_space.specs.Spaces.{Slot, slot_order, Cell, Spaces}
-use Rattle.page_map.specs.declared.PageEntry.{PageEntry}
+use Rattle.page_words.specs.FiniteMap as map
+use Rattle.page_words.specs.FiniteSet as set
 
 -- a map from slots to page entries
 abbrev pub Entries : Type 0

@@ -1,22 +1,13 @@
 -- What each change of directories, memory and roles leaves.
-use Rattle.std.specs.Option.{option_map}
-use Rattle.std.specs.Prelude.{◌≡◌, ◌≢◌, ◌⊎◌, ℕ, ◌+◌, ◌-◌, ◌*◌, ◌<◌, ◌≤◌, Bool, true, false, not, ◌&&◌, List, length, Option, Some, None, is_some}
-use Rattle.page_words.specs.Addresses.{slot_number, index_number}
-use Rattle.page_words.specs.Words.{frame_number, is_present}
-use Rattle.phys_memory.specs.Bytes.{frame_bytes, word_in}
-use Rattle.alloc_table.specs.declared.Role.{Role}
-use Rattle.alloc_table.specs.Roles.{IsReleased}
-use Rattle.page_map.specs.declared.PageEntry.{PageEntry}
-use Rattle.page_map.specs.Pages.{count_range}
-use Rattle.page_map.specs.Entries.{Frames, dir_word, table_of, with_entry, is_lazy_entry}
-use Rattle.page_words.specs.FiniteMap as map
-use Rattle.page_words.specs.FiniteSet as set
+use Rattle.address_space.specs.Below.{option_map, ◌≡◌, ◌≢◌, ◌⊎◌, ℕ, ◌+◌, ◌-◌, ◌*◌, ◌<◌, ◌≤◌, Bool, true, false, not, ◌&&◌, List, length, Option, Some, None, is_some, slot_number, index_number, frame_number, is_present, frame_bytes, word_in, Role, IsReleased, PageEntry, count_range, Frames, dir_word, table_of, with_entry, is_lazy_entry}
 use Rattle.address_space.specs.Spaces.{cell_or_fresh, Slot, Spaces, cost, need, fresh, joined, without, is_slot, is_of, at_page, copy_of, copied}
 use Rattle.address_space.specs.Cells.{holders_of}
 use Rattle.address_space.specs.Stays.{FramesStay, LooseStay, PlacesStay, none_goes, of_page, of_lazy, of_process}
 use Rattle.address_space.specs.Image.{image_of}
 use Rattle.address_space.specs.View.{View, table_in, total_cost, spaces_in, entries_in, entry_in, directory_of}
 use Rattle.address_space.specs.Sound.{InUse, IsSound, InUseAt, weight_in, IsSpaces}
+use Rattle.page_words.specs.FiniteMap as map
+use Rattle.page_words.specs.FiniteSet as set
 
 -- how many frames a slot without a table needs more
 abbrev pub table_need : Option ℕ → ℕ

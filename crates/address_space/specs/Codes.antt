@@ -1,8 +1,5 @@
 -- Codes of cells and spaces, so that a model's `Value` may hold them.
-use Rattle.std.proofs.Common.{ℕ, Bool, List, refl}
-use Rattle.std.specs.Coded.{Coded, code_by, coded×, coded_list, coded_ℕ, coded_bool}
-use Rattle.page_words.specs.Codes.{map_code, set_code}
-use Rattle.page_words.specs.FiniteSet.{Set}
+use Rattle.address_space.specs.Below.{ℕ, Bool, List, refl, Coded, code_by, coded×, coded_list, coded_ℕ, coded_bool, map_code, set_code, Set}
 use Rattle.address_space.specs.Spaces.{Slot, Cell, Spaces, slot_order}
 
 -- the code of slots

@@ -1,13 +1,9 @@
 -- How many pages each table maps, counted.
-use Rattle.std.specs.Prelude.{◌≡◌, ◌≢◌, ℕ, ◌*◌, true, false, List, Option, slice_get}
-use Rattle.std.specs.Option.{option_map}
-use Rattle.alloc_table.specs.declared.Role.{Role}
-use Rattle.alloc_table.specs.declared.Role.TheVariants.{Reserved, Free, Directory, Table, Page}
-use Rattle.page_map.specs.Pages.{count_range}
-use Rattle.page_words.specs.FiniteMap as map
+use Rattle.address_space.specs.Below.{◌≡◌, ◌≢◌, ℕ, ◌*◌, true, false, List, Option, slice_get, option_map, Role, Reserved, Free, Directory, Table, Page, count_range}
 use Rattle.address_space.specs.Spaces.{Slot, Spaces, at_page}
 use Rattle.address_space.specs.View.{spaces_in}
 use Rattle.address_space.specs.Sound.{IsSpaces}
+use Rattle.page_words.specs.FiniteMap as map
 
 -- how many pages a process has mapped in a region of 1,024
 abbrev pub region_pages : Spaces → ℕ → ℕ → ℕ

@@ -1,13 +1,5 @@
 -- Where a page is, as directories and memory say, and what is written there.
-use Rattle.std.specs.Prelude.{◌≡◌, ◌⊎◌, ℕ, ◌+◌, ◌*◌, ◌≤◌, Bool, true, false, List, length, replicate, Option, Some, None, is_some, slice_get, slice_set}
-use Rattle.std.specs.Option.{option_and_then, option_map}
-use Rattle.page_words.specs.Addresses.{slot_number, index_number, IsUserPage}
-use Rattle.phys_memory.specs.Bytes.{frame_bytes, word_in, with_frame, with_frame_bytes}
-use Rattle.alloc_table.specs.declared.Role.{Role}
-use Rattle.alloc_table.specs.declared.Role.TheVariants.{Page, Table}
-use Rattle.alloc_table.specs.Roles.{IsTaken}
-use Rattle.page_map.specs.Entries.{Frames, table_of, word_entry, with_entry, with_table}
-use Rattle.page_map.specs.declared.PageEntry.{PageEntry}
+use Rattle.address_space.specs.Below.{◌≡◌, ◌⊎◌, ℕ, ◌+◌, ◌*◌, ◌≤◌, Bool, true, false, List, length, replicate, Option, Some, None, is_some, slice_get, slice_set, option_and_then, option_map, slot_number, index_number, IsUserPage, frame_bytes, word_in, with_frame, with_frame_bytes, Role, Page, Table, IsTaken, Frames, table_of, word_entry, with_entry, with_table, PageEntry}
 use Rattle.address_space.specs.declared.place.Found.{Found}
 use Rattle.address_space.specs.Spaces.{need, write_at}
 use Rattle.address_space.specs.View.{Directories, directory_of, spaces_in, table_in, total_cost}

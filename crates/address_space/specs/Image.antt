@@ -1,20 +1,11 @@
 -- What memory's own words say: the tables and pages that directories name, when directories, roles and words agree, and
 -- which spaces they represent.
-use Rattle.std.specs.Prelude.{◌≡◌, ℕ, ◌+◌, ◌*◌, ◌<◌, ◌≤◌, ◌↔◌, Bool, true, false, not, ◌&&◌, nat_lt, nat_le, if◌then◌else◌, IsTrue, MatchBool, List, length, Option, Some, None, slice_get}
-use Rattle.std.specs.Option.{option_and_then, option_map, unwrap_or}
-use Rattle.page_words.specs.Addresses.{slot_number, index_number}
-use Rattle.page_words.specs.Words.{frame_number, is_present, is_accessed, is_dirty, has_may, IsKernelDirWord}
-use Rattle.alloc_table.specs.Roles.{frames_in_use}
-use Rattle.page_words.specs.FiniteMap as map
-use Rattle.page_words.specs.FiniteMap.{Order}
-use Rattle.page_words.specs.FiniteSet as set
-use Rattle.page_words.specs.FiniteSet.{Set}
-use Rattle.phys_memory.specs.Bytes.{frame_bytes, word_in}
-use Rattle.alloc_table.specs.declared.Role.{Role}
-use Rattle.alloc_table.specs.declared.Role.TheVariants.{Reserved, Directory, Table, Page}
+use Rattle.address_space.specs.Below.{◌≡◌, ℕ, ◌+◌, ◌*◌, ◌<◌, ◌≤◌, ◌↔◌, Bool, true, false, not, ◌&&◌, nat_lt, nat_le, if◌then◌else◌, IsTrue, MatchBool, List, length, Option, Some, None, slice_get, option_and_then, option_map, unwrap_or, slot_number, index_number, frame_number, is_present, is_accessed, is_dirty, has_may, IsKernelDirWord, frames_in_use, Order, Set, frame_bytes, word_in, Role, Reserved, Directory, Table, Page}
 use Rattle.address_space.specs.Spaces.{Slot, slot_order, Cell, Spaces, cell_or_fresh, zeros}
 use Rattle.address_space.specs.View.{View, Directories, directory_of}
 use Rattle.address_space.specs.ImageWords.{is_lazy_word, lets_write, own_frame, IsTableWord}
+use Rattle.page_words.specs.FiniteMap as map
+use Rattle.page_words.specs.FiniteSet as set
 
 -- what there is of address spaces outside the abstract machine
 pub record Image : Type 0 where

@@ -1,9 +1,5 @@
 -- Accesses that a processor makes by translations that it kept: it reads and marks no word of the way.
-use Rattle.std.specs.Prelude.{◌≡◌, ℕ, ◌+◌, ◌*◌, ◌<◌, Bool, ◌&&◌, List, [], ◌∷◌, map, Ok, slice_index, slice_set}
-use Rattle.page_words.specs.Addresses.{page_number, offset_number, byte_count, covered}
-use Rattle.page_words.specs.declared.addresses.Size.{Size}
-use Rattle.table_walk.specs.declared.Access.{Access}
-use Rattle.table_walk.specs.Walk.{walk_of}
+use Rattle.address_space.specs.Below.{◌≡◌, ℕ, ◌+◌, ◌*◌, ◌<◌, Bool, ◌&&◌, List, [], ◌∷◌, map, Ok, slice_index, slice_set, page_number, offset_number, byte_count, covered, Size, Access, walk_of}
 use Rattle.address_space.specs.Spaces.{Slot, Spaces, cell_or_fresh, value_of}
 
 -- whether accessed and dirty of a slot are set already

@@ -1,3 +1,4 @@
+pub mod Below
 pub mod ByWalk
 pub mod Cells
 pub mod Changes
@@ -8,6 +9,7 @@ pub mod Image
 pub mod ImageWords
 pub mod Kept
 pub mod Places
+pub mod Restored
 pub mod Shown
 pub mod Slots
 pub mod Sound
@@ -15,5 +17,4 @@ pub mod Spaces
 pub mod Stays
 pub mod View
 pub mod Walks
-pub mod Restored
 pub mod Words

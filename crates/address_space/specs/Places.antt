@@ -1,11 +1,5 @@
 -- The place of a page of a process, found by one lookup.
-use Rattle.std.specs.Prelude.{◌≡◌, ℕ, Bool, List, Option, Some, None, is_some}
-use Rattle.std.specs.Option.{option_map}
-use Rattle.page_words.specs.Addresses.{slot_number, IsUserPage}
-use Rattle.page_words.specs.FiniteMap as map
-use Rattle.phys_memory.specs.Bytes.{frame_bytes}
-use Rattle.page_map.specs.Entries.{Frames}
-use Rattle.page_map.specs.declared.PageEntry.{PageEntry}
+use Rattle.address_space.specs.Below.{◌≡◌, ℕ, Bool, List, Option, Some, None, is_some, option_map, slot_number, IsUserPage, frame_bytes, Frames, PageEntry}
 use Rattle.address_space.specs.declared.place.Found.{Found}
 use Rattle.address_space.specs.declared.place.Place.{Place}
 use Rattle.address_space.specs.declared.place.Place.TheVariants.{Bare, Open, Mapped}
@@ -14,6 +8,7 @@ use Rattle.address_space.specs.Spaces.{Cell, Spaces, need, at_page}
 use Rattle.address_space.specs.Image.{Image, is_lazy_at, takes_stores}
 use Rattle.address_space.specs.View.{directory_of, table_in}
 use Rattle.address_space.specs.Finds.{found_by, lazy_found, entry_found}
+use Rattle.page_words.specs.FiniteMap as map
 
 -- the place given by a table, and by what the table has at the page
 abbrev pub place_there : ℕ → Option Found → Place

@@ -1,10 +1,5 @@
 -- Address spaces from directories, bytes and roles.
-use Rattle.std.specs.Prelude.{ℕ, ◌+◌, ◌≤◌, List, length, Option, Some, None, slice_get}
-use Rattle.page_words.specs.Words.{is_present}
-use Rattle.phys_memory.specs.Bytes.{frame_bytes, word_in}
-use Rattle.page_map.specs.Pages.{count_range}
-use Rattle.alloc_table.specs.declared.Role.{Role}
-use Rattle.alloc_table.specs.declared.Role.TheVariants.{Reserved, Free, Directory, Table, Page}
+use Rattle.address_space.specs.Below.{ℕ, ◌+◌, ◌≤◌, List, length, Option, Some, None, slice_get, is_present, frame_bytes, word_in, count_range, Role, Reserved, Free, Directory, Table, Page}
 use Rattle.address_space.specs.View.{View, spaces_in, total_cost}
 
 -- how many words of a frame are present, where it is a table

@@ -1,6 +1,5 @@
 -- Every slot of the user range.
-use Rattle.std.proofs.Common.{ℕ, zero, suc, List, [], ◌++◌, map}
-use Rattle.std.specs.List.{range_with_len}
+use Rattle.address_space.specs.Below.{ℕ, zero, suc, List, [], ◌++◌, map, range_with_len}
 use Rattle.address_space.specs.Spaces.{Slot, at_page}
 
 -- the slots of the processes below n at these pages

@@ -1,18 +1,10 @@
 -- When directories, memory and roles agree.
-use Rattle.std.specs.Prelude.{◌≡◌, ◌≢◌, ℕ, ◌+◌, ◌*◌, ◌^◌, ◌<◌, ◌≤◌, true, List, length, replicate, Option, Some, None, is_some, slice_get, ◌⊎◌}
-use Rattle.page_words.specs.Addresses.{slot_number}
-use Rattle.page_words.specs.Words.{IsKernelDirWord, IsKernelTableWord, is_present}
-use Rattle.phys_memory.specs.Bytes.{frame_bytes, word_in}
-use Rattle.alloc_table.specs.declared.Role.{Role}
-use Rattle.alloc_table.specs.declared.Role.TheVariants.{Reserved, Directory, Table, Page}
-use Rattle.alloc_table.specs.Roles.{frames_weight}
-use Rattle.page_map.specs.declared.PageEntry.{PageEntry}
-use Rattle.page_map.specs.Entries.{Frames, dir_word, entry_at}
-use Rattle.page_words.specs.FiniteMap as map
-use Rattle.page_words.specs.FiniteSet as set
+use Rattle.address_space.specs.Below.{◌≡◌, ◌≢◌, ℕ, ◌+◌, ◌*◌, ◌^◌, ◌<◌, ◌≤◌, true, List, length, replicate, Option, Some, None, is_some, slice_get, ◌⊎◌, slot_number, IsKernelDirWord, IsKernelTableWord, is_present, frame_bytes, word_in, Role, Reserved, Directory, Table, Page, frames_weight, PageEntry, Frames, dir_word, entry_at}
 use Rattle.address_space.specs.Spaces.{Slot}
 use Rattle.address_space.specs.Cells.{Entries, holders_of, lazy_count}
 use Rattle.address_space.specs.View.{table_in, total_cost, Roles, Directories, spaces_in, entries_in, directory_of}
+use Rattle.page_words.specs.FiniteMap as map
+use Rattle.page_words.specs.FiniteSet as set
 
 -- the directories and tables: each name of a frame, and the role that says who names it
 pub record Tables (D : Directories) (m : Frames) (R : Roles) : Type 0 where

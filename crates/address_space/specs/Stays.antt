@@ -1,19 +1,10 @@
 -- Where each slot's walk leads, and when it leads to the same frame after a change.
-use Rattle.std.specs.Prelude.{◌≡◌, ◌⊎◌, ◌<◌, ◌^◌, ℕ, Bool, true, false, ◌&&◌, ◌==◌, Option, Some, Ok, slice_get}
-use Rattle.std.specs.Option.{option_map, option_and_then}
-use Rattle.page_words.specs.Words.{frame_number, is_lazy, is_dirty}
-use Rattle.page_words.specs.FiniteMap as map
-use Rattle.phys_memory.specs.Bytes.{frame_bytes}
-use Rattle.alloc_table.specs.declared.Role.TheVariants.{Free, Page}
-use Rattle.page_map.specs.declared.PageEntry.{PageEntry}
+use Rattle.address_space.specs.Below.{◌≡◌, ◌⊎◌, ◌<◌, ◌^◌, ℕ, Bool, true, false, ◌&&◌, ◌==◌, Option, Some, Ok, slice_get, option_map, option_and_then, frame_number, is_lazy, is_dirty, frame_bytes, Free, Page, PageEntry, Frames, slot_number, Access, walk_of}
 use Rattle.address_space.specs.Spaces.{Slot, at_page, slot_at, is_slot, is_of}
 use Rattle.address_space.specs.Cells.{Entries}
 use Rattle.address_space.specs.Image.{Image, directory_at, table_at, page_word, is_lazy_at}
 use Rattle.address_space.specs.View.{Directories, entries_in, table_in}
-use Rattle.page_map.specs.Entries.{Frames}
-use Rattle.page_words.specs.Addresses.{slot_number}
-use Rattle.table_walk.specs.declared.Access.{Access}
-use Rattle.table_walk.specs.Walk.{walk_of}
+use Rattle.page_words.specs.FiniteMap as map
 
 -- the directory of a slot's process, and the frame that the slot's word names: frame 0 for a lazy page
 abbrev pub way_of : Image → Slot → Option (ℕ × ℕ)

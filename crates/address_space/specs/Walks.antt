@@ -1,11 +1,8 @@
 -- How the processor's walk ends at an address of a process, by what the process has mapped there.
-use Rattle.std.specs.Prelude.{◌≡◌, ℕ, ◌^◌, ◌<◌, Bool, not, ◌&&◌, List, Option, Some, None, Ok, MatchBool}
-use Rattle.page_words.specs.FiniteMap as map
-use Rattle.phys_memory.specs.Bytes.{frame_bytes}
-use Rattle.table_walk.specs.declared.Access.{Access}
-use Rattle.table_walk.specs.Walk.{walk_of, is_write, not_present, not_allowed}
+use Rattle.address_space.specs.Below.{◌≡◌, ℕ, ◌^◌, ◌<◌, Bool, not, ◌&&◌, List, Option, Some, None, Ok, MatchBool, frame_bytes, Access, walk_of, is_write, not_present, not_allowed}
 use Rattle.address_space.specs.Spaces.{Cell, Spaces, slot_at}
 use Rattle.address_space.specs.Image.{Image, directory_at, is_lazy_at}
+use Rattle.page_words.specs.FiniteMap as map
 
 -- the walk finds a frame, and it has the cell's bytes
 pub record FindsBytes (bytes : List ℕ) (directory address : ℕ) (access : Access) (cell : Cell) : Type 0 where

@@ -1,11 +1,9 @@
 //! All pages of a process are copied to another process.
 
-ghost use Rattle.std.specs.Prelude.{IfNone, IfSome, List, None, Some, false, is_some, length, true, ℕ, ◌*◌, ◌+◌, ◌<◌, ◌^◌, ◌≡◌, ◌≤◌};
-ghost use Rattle.address_space.specs.Words.{CopyIn, EntryCopied, FramesStay, Inside, IsCopying, at_page, copied};
-ghost use Rattle.address_space.specs.Words.{cost, directory_of, frame_bytes, free_frames, image_of, is_lazy_at};
-ghost use Rattle.address_space.specs.Words.{none_goes, spaces_in, total_cost, word_entry, word_in, words_left};
-ghost use Rattle.page_words.specs.FiniteMap as map;
+ghost use Rattle.address_space.specs.Below.{IfNone, IfSome, List, None, Some, false, is_some, length, true, ℕ, ◌*◌, ◌+◌, ◌<◌, ◌^◌, ◌≡◌, ◌≤◌, frame_bytes, free_frames, word_entry, word_in};
+ghost use Rattle.address_space.specs.Words.{CopyIn, EntryCopied, FramesStay, Inside, IsCopying, at_page, copied, cost, directory_of, image_of, is_lazy_at, none_goes, spaces_in, total_cost, words_left};
 ghost use Rattle.alloc_table.specs.declared.Role.{Role as RoleValue};
+ghost use Rattle.page_words.specs.FiniteMap as map;
 
 use crate::mapping::{count_at, give_table, set_count};
 use crate::unmapping::region_left;

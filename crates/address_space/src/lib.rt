@@ -6,16 +6,9 @@
 //! costs allows.
 #![tactic(auto)]
 
-ghost use Rattle.std.specs.Prelude.{◌≡◌, ◌↔◌, IfOk, IsErrOf, replicate, ℕ, ◌+◌, ◌*◌, ◌<◌, ◌≤◌, Some, None, length, slice_get, is_some, true};
-ghost use Rattle.phys_memory.specs.Bytes.{blank_bytes};
-ghost use Rattle.alloc_table.specs.Roles.{free_frames, CanBeTaken, IsTaken, opening_roles};
+ghost use Rattle.address_space.specs.Below.{◌≡◌, ◌↔◌, IfOk, IsErrOf, replicate, ℕ, ◌+◌, ◌*◌, ◌<◌, ◌≤◌, Some, None, length, slice_get, is_some, true, blank_bytes, free_frames, CanBeTaken, IsTaken, opening_roles};
+ghost use Rattle.address_space.specs.Words.{accessed, cost, StandsFor, StandsForOne, LeavesRoom, image_of, WaysAgree, PlacesTell, WalksAgree, directory_of, spaces_in, total_cost};
 ghost use Rattle.page_words.specs.FiniteMap as map;
-ghost use Rattle.address_space.specs.Spaces.{accessed, cost};
-ghost use Rattle.address_space.specs.Image.{StandsFor, StandsForOne, LeavesRoom, image_of};
-ghost use Rattle.address_space.specs.Stays.{WaysAgree};
-ghost use Rattle.address_space.specs.Places.{PlacesTell};
-ghost use Rattle.address_space.specs.Walks.{WalksAgree};
-ghost use Rattle.address_space.specs.View.{directory_of, spaces_in, total_cost};
 
 mod accesses;
 mod charges;

@@ -1,9 +1,7 @@
 //! Parts of a page: bytes that are read or written as one slice, as a load or a store of each would do it.
 
-ghost use Rattle.std.specs.Prelude.{false, is_some, length, map, true, ℕ, ◌+◌, ◌<◌, ◌≡◌, ◌≢◌, ◌≤◌};
-ghost use Rattle.address_space.specs.Words.{BytesStored, FramesStay, Inside, IsUserPage, LiesIn, Slot, accessed, byte_at, bytes_at, frame_bytes};
-ghost use Rattle.address_space.specs.Words.{image_of, is_lazy_at, none_goes, offset_number, page_number, place_in, range_with_len, slot_at, stored};
-ghost use Rattle.address_space.specs.Words.{takes_stores, with_frame, write_at};
+ghost use Rattle.address_space.specs.Below.{false, is_some, length, map, true, ℕ, ◌+◌, ◌<◌, ◌≡◌, ◌≢◌, ◌≤◌, IsUserPage, frame_bytes, offset_number, page_number, range_with_len, with_frame};
+ghost use Rattle.address_space.specs.Words.{BytesStored, FramesStay, Inside, LiesIn, Slot, accessed, byte_at, bytes_at, image_of, is_lazy_at, none_goes, place_in, slot_at, stored, takes_stores, write_at};
 ghost use Rattle.page_words.specs.FiniteMap as finite_map;
 
 use crate::Spaces;

@@ -1,10 +1,5 @@
 -- Which slots' ways go where an access is carried out: those of the lazy pages that a write touches.
-use Rattle.std.proofs.Common.{ℕ, ◌||◌, false, Option, Some, None}
-use Rattle.page_words.specs.Addresses.{page_number, second_page}
-use Rattle.page_words.specs.declared.addresses.Size.{Size}
-use Rattle.table_walk.specs.declared.Access.{Access}
-use Rattle.table_walk.specs.declared.Access.TheVariants.{Read, Write}
-use Rattle.address_space.specs.Stays.{Gone, of_lazy}
+use Rattle.fault_handler.specs.Below.{ℕ, ◌||◌, false, Option, Some, None, page_number, second_page, Size, Access, Read, Write, Gone, of_lazy}
 
 -- the lazy second page of an access, if it has one
 abbrev pub lazy_second : ℕ → Option ℕ → Gone

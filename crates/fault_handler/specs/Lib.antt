@@ -1,3 +1,4 @@
+pub mod Below
 pub mod Fills
 pub mod Looks
 pub mod Plans

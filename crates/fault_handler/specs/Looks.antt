@@ -1,20 +1,10 @@
 -- What one lookup of each page of an access gives, and the plan that follows from it.
-use Rattle.std.proofs.Common.{ℕ, ◌+◌, ◌-◌, ◌==◌, nat_lt, Bool, true, ◌&&◌, if◌then◌else◌, Option, Some, None, Result, Ok, Err}
-use Rattle.std.specs.Option.{option_map}
-use Rattle.page_words.specs.Addresses.{page_number, slot_number, start_number, touched}
-use Rattle.page_words.specs.declared.addresses.Size.{Size}
-use Rattle.address_space.specs.Spaces.{cost, page_need, slot_at}
-use Rattle.quota_tree.specs.declared.Container.{Container}
-use Rattle.table_walk.specs.declared.Access.{Access}
-use Rattle.table_walk.specs.Walk.{is_write, page_fault}
-use Rattle.process_table.specs.State.{extra_cost}
-use Rattle.process_table.specs.View.{View}
-use Rattle.process_table.specs.declared.causes.Cause.TheVariants.{Quota}
+use Rattle.fault_handler.specs.Below.{ℕ, ◌+◌, ◌-◌, ◌==◌, nat_lt, Bool, true, ◌&&◌, if◌then◌else◌, Option, Some, None, Result, Ok, Err, option_map, page_number, slot_number, start_number, touched, Size, cost, page_need, slot_at, Container, Access, is_write, page_fault, extra_cost, View, Quota}
 use Rattle.fault_handler.specs.declared.plans.Look.{Look}
 use Rattle.fault_handler.specs.declared.plans.Plan.{Plan}
-use Rattle.fault_handler.specs.declared.plans.Plan.TheVariants as plan
 use Rattle.fault_handler.specs.declared.plans.Planned.{Planned}
 use Rattle.fault_handler.specs.Plans.{is_read_only, step_at, plan_at, goes_on}
+use Rattle.fault_handler.specs.declared.plans.Plan.TheVariants as plan
 
 -- what is seen of the page that a byte lies in
 abbrev pub look_of : View → ℕ → Access → ℕ → Look

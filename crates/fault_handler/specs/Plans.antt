@@ -1,23 +1,10 @@
 -- The plan of an access of a live process.
-use Rattle.std.proofs.Common.{ℕ, Bool, true, false, not, ◌&&◌, if◌then◌else◌, Option, Some, None, Result, Ok, Err}
-use Rattle.std.specs.Prelude.{find}
-use Rattle.std.specs.Option.{option_map}
-use Rattle.page_words.specs.Addresses.{page_number, covered, touched, second_page, is_user_page}
-use Rattle.page_words.specs.declared.addresses.Size.{Size}
-use Rattle.address_space.specs.Spaces.{Slot, cell_or_fresh, at_page, slot_at}
-use Rattle.table_walk.specs.declared.Access.{Access}
-use Rattle.table_walk.specs.Walk.{is_write, page_fault}
-use Rattle.address_space.specs.Image.{is_lazy_at, takes_stores}
-use Rattle.process_table.specs.Calls.{access_value}
-use Rattle.process_table.specs.State.{State, is_live, is_mapped, overdrawn}
-use Rattle.process_table.specs.View.{View}
-use Rattle.process_table.specs.Image.{memory_of}
-use Rattle.process_table.specs.declared.causes.Cause.TheVariants.{NoProcess, Quota}
+use Rattle.fault_handler.specs.Below.{ℕ, Bool, true, false, not, ◌&&◌, if◌then◌else◌, Option, Some, None, Result, Ok, Err, find, option_map, page_number, covered, touched, second_page, is_user_page, Size, Slot, cell_or_fresh, at_page, slot_at, Access, is_write, page_fault, is_lazy_at, takes_stores, access_value, State, is_live, is_mapped, overdrawn, View, memory_of, NoProcess, Quota}
 use Rattle.fault_handler.specs.declared.plans.PageStep.{PageStep}
-use Rattle.fault_handler.specs.declared.plans.PageStep.TheVariants as step
 use Rattle.fault_handler.specs.declared.plans.Plan.{Plan}
-use Rattle.fault_handler.specs.declared.plans.Plan.TheVariants as plan
 use Rattle.fault_handler.specs.declared.plans.Stop.{Stop}
+use Rattle.fault_handler.specs.declared.plans.PageStep.TheVariants as step
+use Rattle.fault_handler.specs.declared.plans.Plan.TheVariants as plan
 use Rattle.fault_handler.specs.declared.plans.Stop.TheVariants as stop
 
 -- the first byte of an access that lies outside the user range

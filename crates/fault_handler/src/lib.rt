@@ -5,15 +5,7 @@
 //! mapped or filled.
 #![tactic(auto)]
 
-ghost use Rattle.std.specs.Prelude.{◌≡◌, ◌≢◌, ℕ, true, false, not, [], ◌∷◌, Some, is_some};
-ghost use Rattle.page_words.specs.Addresses.{second_page, IsUserPage};
-ghost use Rattle.address_space.specs.Spaces.{at_page, with_page};
-ghost use Rattle.process_table.specs.State.{is_mapped, overdrawn};
-ghost use Rattle.process_table.specs.Calls.{access_value, after_access};
-ghost use Rattle.address_space.specs.Stays.{FramesStay, none_goes};
-ghost use Rattle.address_space.specs.Places.{found_of, place_in};
-ghost use Rattle.process_table.specs.Places.{access_places};
-ghost use Rattle.process_table.specs.Image.{memory_of};
+ghost use Rattle.fault_handler.specs.Below.{◌≡◌, ◌≢◌, ℕ, true, false, not, [], ◌∷◌, Some, is_some, second_page, IsUserPage, at_page, with_page, is_mapped, overdrawn, access_value, after_access, FramesStay, none_goes, found_of, place_in, access_places, memory_of};
 ghost use Rattle.fault_handler.specs.Fills.{lazy_written};
 ghost use Rattle.fault_handler.specs.Plans.{maps_page, plan_at};
 ghost use Rattle.fault_handler.specs.declared.plans.Plan.TheVariants as plan;

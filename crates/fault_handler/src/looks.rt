@@ -1,11 +1,6 @@
 //! What the places of an access's pages say.
 
-ghost use Rattle.std.specs.Prelude.{◌≡◌, ◌≤◌, IfSome, true};
-ghost use Rattle.std.specs.Option.{option_and_then};
-ghost use Rattle.page_words.specs.Addresses.{page_number, IsUserPage};
-ghost use Rattle.address_space.specs.Places.{place_in};
-ghost use Rattle.process_table.specs.Places.{place_at};
-ghost use Rattle.process_table.specs.State.{is_live};
+ghost use Rattle.fault_handler.specs.Below.{◌≡◌, ◌≤◌, IfSome, true, option_and_then, page_number, IsUserPage, place_in, place_at, is_live};
 ghost use Rattle.fault_handler.specs.Looks.{look_of, look_behind, barred, open_one_region, need_by};
 
 use crate::plans::{Look, PageStep};

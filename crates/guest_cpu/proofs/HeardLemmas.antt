@@ -2,11 +2,11 @@
 use Rattle.std.proofs.Common.{◌≡◌, ℕ, zero, suc, ◌==◌, Bool, true, false, List, [], ◌∷◌, refl, sym, ap, subst, ◌∙◌, Option, Some, None}
 use Rattle.std.specs.Prelude.{slice_get}
 use Rattle.std.proofs.lemmas.Option.{same_Some}
-use Rattle.kernel_calls.specs.Authority.{AskAlike, Heard, heard}
+use Rattle.authority_laws.specs.Authority.{AskAlike, Heard, heard}
 use Rattle.kernel_calls.specs.Isolation.{exchanges}
 use Rattle.kernel_calls.specs.declared.calls.Event.{Event}
 use Rattle.kernel_calls.specs.declared.calls.Reply.{Reply}
-use Rattle.kernel_calls.proofs.Hearing.{members_hear_the_same, families_hear_their_own}
+use Rattle.authority_laws.proofs.Hearing.{members_hear_the_same, families_hear_their_own}
 use Rattle.process_table.specs.State.{is_live}
 use Rattle.guest_cpu.specs.declared.instructions.Instruction.{Instruction}
 use Rattle.guest_cpu.specs.declared.runs.End.{End}

@@ -1,8 +1,8 @@
 -- What a core answers to a guest, and laws of all runs.
 use Rattle.std.proofs.Common.{◌≡◌, ℕ, ◌+◌, ◌==◌, true, List, ◌∷◌, ◌++◌, Option, Ok}
 use Rattle.std.specs.Prelude.{map}
-use Rattle.kernel_calls.specs.Authority.{HaveTheSame, LooksSame, IsQuiet, KeepsWithin, Along, Heard, heard}
-use Rattle.kernel_calls.specs.Families.{IsFamily}
+use Rattle.authority_laws.specs.Authority.{HaveTheSame, LooksSame, IsQuiet, KeepsWithin, Along, Heard, heard}
+use Rattle.authority_laws.specs.Families.{IsFamily}
 use Rattle.kernel_calls.specs.Isolation.{Exchange, exchanges, own, events_in, InvolvesNobody, quota_asked, pages_given}
 use Rattle.kernel_calls.specs.Machine.{answers, end_of}
 use Rattle.kernel_calls.specs.declared.calls.Event.{Event}

@@ -23,7 +23,7 @@ pub use Rattle.address_space.specs.Walks.{WalkEndsBy}
 pub use Rattle.alloc_table.specs.declared.Role.TheVariants.{Directory, Free, Page, Reserved, Table}
 pub use Rattle.fault_handler.proofs.Settled.{Goes, all_user, each_right, mapped_right, ready, same_cells}
 pub use Rattle.fault_handler.specs.Plans.{outside, plan_of, step_of}
-pub use Rattle.kernel_calls.specs.Authority.{is_child_of, shares}
+pub use Rattle.kernel_calls.specs.Integrity.{is_child_of, shares}
 pub use Rattle.kernel_calls.specs.Cleaned.{EndsMarks, info_of_page, is_dirty_at}
 pub use Rattle.kernel_calls.specs.Gone.{gone_by}
 pub use Rattle.kernel_calls.specs.Machine.{answer, answer_of, answers, completes, end_of, next, planned_or, refused_or}

@@ -8,7 +8,7 @@ use Rattle.page_words.specs.FiniteSet as set
 use Rattle.address_space.specs.Spaces.{Slot, Cell, without, with_holders}
 use Rattle.quota_tree.specs.Book.{Member, given}
 use Rattle.process_table.specs.State.{State, is_live}
-use Rattle.kernel_calls.specs.Authority.{is_child_of}
+use Rattle.kernel_calls.specs.Integrity.{is_child_of}
 use Rattle.kernel_calls.specs.Machine.{answers, end_of}
 use Rattle.kernel_calls.specs.declared.calls.Call.TheVariants as call
 use Rattle.kernel_calls.specs.declared.calls.Event.{Event}

@@ -7,7 +7,7 @@ use Rattle.process_table.specs.State.{State, is_live, overdrawn}
 use Rattle.process_table.specs.View.{View}
 use Rattle.process_table.specs.declared.causes.Cause.{Cause}
 use Rattle.process_table.specs.declared.causes.Cause.TheVariants as cause
-use Rattle.kernel_calls.specs.Authority.{shares}
+use Rattle.kernel_calls.specs.Integrity.{shares}
 use Rattle.kernel_calls.specs.Cleaned.{EndsMarks}
 use Rattle.kernel_calls.specs.Processors.{IsCore}
 use Rattle.kernel_acts.specs.Installed.{installed, Installs}

@@ -7,7 +7,7 @@ use Rattle.address_space.specs.Spaces.{Slot, without, is_slot, at_page}
 use Rattle.process_table.specs.State.{State}
 use Rattle.process_table.specs.View.{View}
 use Rattle.kernel_acts.specs.Acts.{all_done, ungrouped}
-use Rattle.kernel_calls.specs.Authority.{shares}
+use Rattle.kernel_calls.specs.Integrity.{shares}
 use Rattle.kernel_calls.specs.Machine.{answers, end_of}
 use Rattle.kernel_calls.specs.Along.{CarriesOut, EndAlong}
 use Rattle.kernel_calls.specs.Translations.{ended_by}

@@ -5,7 +5,7 @@ ghost use Rattle.std.specs.Prelude.{◌≡◌, ◌≢◌, ◌↔◌, ℕ, ◌+�
 ghost use Rattle.process_table.specs.Image.{StandsFor, image_of};
 ghost use Rattle.process_table.specs.State.{is_live};
 ghost use Rattle.kernel_acts.specs.Acts.{children_in, exit_of, exits, spaces_of_all, Descends, EndsFamily};
-ghost use Rattle.kernel_calls.specs.Authority.{is_child_of};
+ghost use Rattle.kernel_calls.specs.Integrity.{is_child_of};
 ghost use Rattle.kernel_calls.specs.Machine.{answer, next};
 ghost use Rattle.kernel_calls.specs.Along.{CarriesOut, EndAlong};
 ghost use Rattle.kernel_calls.specs.Translations.{ended_by};

@@ -1,6 +1,5 @@
 -- What a process is charged for after its own call.
-use Rattle.kernel_calls.proofs.Prelude
-use Prelude.{◌≡◌, ℕ, Bool, true, false, cond, not, ap, ◌∙◌, Option, Some, None, is_some, arith, same, nat_order, get-insert, get-retain_keys, same_itself, Slot, Cell, cost, fresh, at_page, cost-same, State, is_live, child_of, after_map, after_spawn, after_fork, after_exit, contains_key-insert}
+use Rattle.kernel_calls.proofs.Prelude.{◌≡◌, ℕ, Bool, true, false, cond, not, ap, ◌∙◌, Option, Some, None, is_some, arith, same, nat_order, get-insert, get-retain_keys, same_itself, Slot, Cell, cost, fresh, at_page, cost-same, State, is_live, child_of, after_map, after_spawn, after_fork, after_exit, contains_key-insert}
 use Rattle.page_words.specs.FiniteMap as map
 
 -- a page is charged whatever its right

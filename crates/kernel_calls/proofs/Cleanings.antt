@@ -1,6 +1,5 @@
 -- What clearing accessed and dirty of a slot ends.
-use Rattle.kernel_calls.proofs.Prelude
-use Prelude.{◌≡◌, ◌≢◌, ℕ, Bool, true, false, refl, sym, ap, ◌∙◌, Option, Some, unwrap_or, arith, option_map, some_value, same_itself, same_cases, same_Some, walk_of, FramesStay, none_goes, kept, memory_of, Slot, slot_order, Cell, fresh, cell_or_fresh, is_slot, at_page, slot_at, State, is_mapped, View, get-inserted, get-inserted_other, cleaned, EndsMarks, IsCore, EventsEndMarks}
+use Rattle.kernel_calls.proofs.Prelude.{◌≡◌, ◌≢◌, ℕ, Bool, true, false, refl, sym, ap, ◌∙◌, Option, Some, unwrap_or, arith, option_map, some_value, same_itself, same_cases, same_Some, walk_of, FramesStay, none_goes, kept, memory_of, Slot, slot_order, Cell, fresh, cell_or_fresh, is_slot, at_page, slot_at, State, is_mapped, View, get-inserted, get-inserted_other, cleaned, EndsMarks, IsCore, EventsEndMarks}
 use Rattle.kernel_calls.proofs.CoreMemory.{ways_of}
 use Rattle.kernel_calls.proofs.Flags.{has}
 use Rattle.kernel_calls.proofs.Linked.{mapped_way, tables_map}

@@ -1,6 +1,5 @@
 -- Changes of two slots in either order, and groups that a store leaves.
-use Rattle.kernel_calls.proofs.Prelude
-use Prelude.{◌≡◌, ◌≢◌, ℕ, Bool, true, cond, List, ap, sym, ◌∙◌, arith, Option, Some, unwrap_or, same, Set, same-true, same_map, get-insert, get-map_values, same_cases, inl, inr, Slot, slot_order, Cell, Spaces, cell_or_fresh, fresh, set_bytes, stored, get-inserted, get-inserted_other}
+use Rattle.kernel_calls.proofs.Prelude.{◌≡◌, ◌≢◌, ℕ, Bool, true, cond, List, ap, sym, ◌∙◌, arith, Option, Some, unwrap_or, same, Set, same-true, same_map, get-insert, get-map_values, same_cases, inl, inr, Slot, slot_order, Cell, Spaces, cell_or_fresh, fresh, set_bytes, stored, get-inserted, get-inserted_other}
 use Rattle.page_words.specs.FiniteMap as map
 
 -- one slot changes, by what stands there

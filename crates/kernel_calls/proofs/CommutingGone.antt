@@ -1,6 +1,5 @@
 -- Slots that go, and bytes of a group that are written, in either order.
-use Rattle.kernel_calls.proofs.Prelude
-use Prelude.{◌≡◌, ℕ, Bool, not, cond, List, ap, sym, ◌∙◌, Option, None, arith, if◌then◌else◌, option_map, Set, same_map, get-retain_keys, get-map_values, Slot, slot_order, Cell, Spaces, with_bytes, with_holders, set_bytes, without}
+use Rattle.kernel_calls.proofs.Prelude.{◌≡◌, ℕ, Bool, not, cond, List, ap, sym, ◌∙◌, Option, None, arith, if◌then◌else◌, option_map, Set, same_map, get-retain_keys, get-map_values, Slot, slot_order, Cell, Spaces, with_bytes, with_holders, set_bytes, without}
 use Rattle.page_words.specs.FiniteMap as map
 use Rattle.page_words.specs.FiniteSet as set
 

@@ -1,11 +1,6 @@
 -- A core's memory is address spaces with room, so each of its walks ends as the state says.
-use Rattle.kernel_calls.proofs.Prelude
-use Prelude.{◌≡◌, ℕ, ◌+◌, ◌<◌, true, length, sym, ap, subst, ◌∙◌, arith, is_some, unwrap_or, option_map, is_some-map, some_value, WaysAgree, WalksAgree, Member, quota_of, is_live, as_account, View, memory_of, total-within, IsCore, CoresAreWalked, IsSpaces, from_map, stands, stands_for_one, total}
-use Rattle.address_space.specs.Restored.{HasRoom}
-use Rattle.address_space.specs.View.{directory_of, spaces_in, total_cost}
+use Rattle.kernel_calls.proofs.Prelude.{◌≡◌, ℕ, ◌+◌, ◌<◌, true, length, sym, ap, subst, ◌∙◌, arith, is_some, unwrap_or, option_map, is_some-map, some_value, WaysAgree, WalksAgree, Member, quota_of, is_live, as_account, View, memory_of, total-within, IsCore, CoresAreWalked, IsSpaces, from_map, stands, stands_for_one, total, HasRoom, directory_of, spaces_in, total_cost, walks_agree, ways_agree, total-book}
 use Rattle.address_space.proofs.standing.Restored.{kept}
-use Rattle.address_space.proofs.standing.WaysStand.{walks_agree, ways_agree}
-use Rattle.process_table.proofs.Ranges.{total-book}
 use Rattle.page_words.specs.FiniteMap as map
 
 module _ (v : View) (core : IsCore v) where

@@ -1,10 +1,8 @@
 -- The decision of an event is carried out exactly if its reply is neither a refusal nor a fault.
-use Rattle.kernel_calls.proofs.Prelude
-use Prelude.{◌≡◌, ℕ, Bool, true, false, refl, ap, sym, subst, ◌∙◌, Option, Some, None, if◌then◌else◌, Result, Ok, Err, cost, at_page, State, is_live, child_of, protect_refusal, fork_refusal, after_protect, after_fork, fork-cost, may_protect, Cause, View, plan_of, plan_at, step_of, step_at, goes_on, same_stops, Plan, Size, Access, Read, Write, answer, answer_of, after, next, completes, refused_or, planned_or, judged_of, plan_of_call, plan_of_event, refused_plan, charge_in, charge_after, tested, spawned, Call, Event, Reply, arith, first_cause, number_unless, child_unless, map_answer, protect_answer, offer_answer, spawn_answer, fork_answer}
-use Rattle.address_space.proofs.costs.Totals.{cost-protected_of}
+use Rattle.kernel_calls.proofs.Prelude.{◌≡◌, ℕ, Bool, true, false, refl, ap, sym, subst, ◌∙◌, Option, Some, None, if◌then◌else◌, Result, Ok, Err, cost, at_page, State, is_live, child_of, protect_refusal, fork_refusal, after_protect, after_fork, fork-cost, may_protect, Cause, View, plan_of, plan_at, step_of, step_at, goes_on, same_stops, Plan, Size, Access, Read, Write, answer, answer_of, after, next, completes, refused_or, planned_or, judged_of, plan_of_call, plan_of_event, refused_plan, charge_in, charge_after, tested, spawned, Call, Event, Reply, arith, first_cause, number_unless, child_unless, map_answer, protect_answer, offer_answer, spawn_answer, fork_answer, cost-protected_of}
+use Rattle.kernel_calls.proofs.Charges.{map_charge, spawn_lives, fork_lives}
 use Rattle.process_table.specs.declared.causes.Cause.TheVariants as cause
 use Rattle.fault_handler.specs.declared.plans.Plan.TheVariants as plan
-use Rattle.kernel_calls.proofs.Charges.{map_charge, spawn_lives, fork_lives}
 use Rattle.kernel_calls.specs.declared.calls.Call.TheVariants as call
 use Rattle.kernel_calls.specs.declared.calls.Reply.TheVariants as reply
 
@@ -44,11 +42,6 @@ by_next P s e stays goes = by (completes (answer s e)) refl
     by : (b : Bool) → completes (answer s e) ≡ b → P (next s e)
     by true h = let c = called h in subst P (sym (next-goes s e h)) (goes c.0 c.1)
     by false h = subst P (sym (next-stays s e h)) stays
-
--- the reply to a call that is done or refused, by what its test answers
-abbrev pub done_by : Result ℕ Cause → Reply
-done_by (Ok charge) = reply.Done
-done_by (Err cause) = reply.Refused cause
 
 -- ---- Decisions by the test of a call
 

@@ -1,6 +1,5 @@
 -- The slots that become mapped.
-use Rattle.kernel_calls.proofs.Prelude
-use Prelude.{◌≡◌, ℕ, Bool, true, false, refl, sym, ap, ◌∙◌, arith, inl, inr, ◌⊎◌, if◌then◌else◌, IfSome, cases_eq, page_number, byte_count, second_page, touched, Size, same, get-map_values, is_some-map, same_cases, Slot, Cell, Spaces, at_page, cell_or_fresh, with_pages, with_holders, set_holders, without, is_slot, copied-other, touched-there, bytes_there, key-all_accessed, key-all_stored, left, get-without, State, is_mapped, child_of, offered, get-inserted_other, Tells, IsCovered, Maps, SlotsCome, answer, answer_of, after, completes, Call, Event}
+use Rattle.kernel_calls.proofs.Prelude.{◌≡◌, ℕ, Bool, true, false, refl, sym, ap, ◌∙◌, arith, inl, inr, ◌⊎◌, if◌then◌else◌, IfSome, cases_eq, page_number, byte_count, second_page, touched, Size, same, get-map_values, is_some-map, same_cases, Slot, Cell, Spaces, at_page, cell_or_fresh, with_pages, with_holders, set_holders, without, is_slot, copied-other, touched-there, bytes_there, key-all_accessed, key-all_stored, left, get-without, State, is_mapped, child_of, offered, get-inserted_other, Tells, IsCovered, Maps, SlotsCome, answer, answer_of, after, completes, Call, Event}
 use Rattle.kernel_calls.proofs.Decided.{next-stays, next-goes}
 use Rattle.kernel_calls.proofs.Runs.{not-refused}
 use Rattle.kernel_calls.proofs.Tellings.{completes_by_kind}

@@ -1,18 +1,16 @@
 -- No translation is ended for nothing.
-use Rattle.kernel_calls.proofs.Prelude
-use Prelude.{◌≡◌, ◌≢◌, ◌<◌, ◌^◌, ℕ, zero, suc, ◌+◌, Bool, true, false, not, ◌&&◌, ◌||◌, ◌==◌, List, [], ◌∷◌, length, refl, ap, sym, ◌∙◌, arith, inl, inr, Option, Some, None, is_some, unwrap_or, ◌⊎◌, if◌then◌else◌, Ok, option_and_then, option_map, page_number, offset_number, second_page, byte_count, touched, Size, same-true, same_itself, get-map_values, contains-insert, Access, Read, Write, walk_of, directory_at, is_lazy_at, takes_stores, Slot, slot_order, Cell, Spaces, at_page, slot_at, is_slot, cell_or_fresh, fresh, with_pages, with_holders, set_bytes, set_holders, write_at, stored, all_stored, bytes_of, joined, without, way_of, length-bytes_of, memory_of, offered, is_mapped, View, IsCore, get-inserted, get-inserted_other, without-was, may_accept, giver_mapped, goes_on, plan_at, step_at, ready, plan_of_call, answer, answer_of, after, next, completes, is_ended, if_lazy, of_pages, of_call, ended_by, EndsNoMore, Call, Event}
+use Rattle.kernel_calls.proofs.Prelude.{◌≡◌, ◌≢◌, ◌<◌, ◌^◌, ℕ, zero, suc, ◌+◌, Bool, true, false, not, ◌&&◌, ◌||◌, ◌==◌, List, [], ◌∷◌, length, refl, ap, sym, ◌∙◌, arith, inl, inr, Option, Some, None, is_some, unwrap_or, ◌⊎◌, if◌then◌else◌, Ok, option_and_then, option_map, page_number, offset_number, second_page, byte_count, touched, Size, same-true, same_itself, get-map_values, contains-insert, Access, Read, Write, walk_of, directory_at, is_lazy_at, takes_stores, Slot, slot_order, Cell, Spaces, at_page, slot_at, is_slot, cell_or_fresh, fresh, with_pages, with_holders, set_bytes, set_holders, write_at, stored, all_stored, bytes_of, joined, without, way_of, length-bytes_of, memory_of, offered, is_mapped, View, IsCore, get-inserted, get-inserted_other, without-was, may_accept, giver_mapped, goes_on, plan_at, step_at, ready, plan_of_call, answer, answer_of, after, next, completes, is_ended, if_lazy, of_pages, of_call, ended_by, EndsNoMore, Call, Event, crosses, some_bytes}
 use Rattle.kernel_calls.proofs.CoreMemory.{ways_of}
 use Rattle.kernel_calls.proofs.Decided.{goes-event, next-goes}
 use Rattle.kernel_calls.proofs.Flags.{has, dirty_is_flag, keeps_all_stored}
 use Rattle.kernel_calls.proofs.Translated.{way_mapped, walk_takes, walk_finds, has_right}
+use Rattle.kernel_calls.proofs.Runs.{not-refused}
+use Rattle.kernel_calls.proofs.Untouched.{caller_live}
 use Rattle.page_words.specs.FiniteMap as map
 use Rattle.page_words.specs.FiniteSet as set
 use Rattle.fault_handler.specs.declared.plans.PageStep.TheVariants as step
 use Rattle.kernel_calls.specs.declared.calls.Call.TheVariants as call
 use Rattle.kernel_calls.specs.declared.translations.Ended.TheVariants as end
-use Rattle.kernel_calls.proofs.Runs.{not-refused}
-use Rattle.kernel_calls.proofs.Untouched.{caller_live}
-use Rattle.page_words.proofs.Accesses.{crosses, some_bytes}
 
 -- ---- What a store leaves dirty
 

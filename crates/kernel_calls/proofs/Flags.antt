@@ -1,10 +1,9 @@
 -- No call clears a flag of a slot that stays mapped, except by a change of the right to write.
-use Rattle.kernel_calls.proofs.Prelude
-use Prelude.{◌≡◌, ℕ, ◌+◌, Bool, true, false, not, cond, List, [], ◌∷◌, refl, ap, sym, ◌∙◌, inl, inr, Option, Some, None, arith, option_map, offset_number, Set, get-insert, same_or_not, get-map_values, Slot, slot_order, Cell, Spaces, at_page, slot_at, is_slot, is_of, cell_or_fresh, with_bytes, with_holders, set_bytes, set_holders, accessed, stored, write_at, with_page, with_pages, all_accessed, all_stored, protected, joined, without, copied, cases_eq, copied-other, State, IsWellFormed, without-stays, may_map, may_accept, no_page, fork_free, answer_of, after, completes, Call}
+use Rattle.kernel_calls.proofs.Prelude.{◌≡◌, ℕ, ◌+◌, Bool, true, false, not, cond, List, [], ◌∷◌, refl, ap, sym, ◌∙◌, inl, inr, Option, Some, None, arith, option_map, offset_number, Set, get-insert, same_or_not, get-map_values, Slot, slot_order, Cell, Spaces, at_page, slot_at, is_slot, is_of, cell_or_fresh, with_bytes, with_holders, set_bytes, set_holders, accessed, stored, write_at, with_page, with_pages, all_accessed, all_stored, protected, joined, without, copied, cases_eq, copied-other, State, IsWellFormed, without-stays, may_map, may_accept, no_page, fork_free, answer_of, after, completes, Call}
+use Rattle.kernel_calls.proofs.Runs.{not-refused}
 use Rattle.page_words.specs.FiniteMap as map
 use Rattle.page_words.specs.FiniteSet as set
 use Rattle.kernel_calls.specs.declared.calls.Call.TheVariants as call
-use Rattle.kernel_calls.proofs.Runs.{not-refused}
 
 -- a flag that an access never clears
 pub record IsFlag (flag : Cell → Bool) : Type 0 where

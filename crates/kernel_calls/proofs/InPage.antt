@@ -1,7 +1,5 @@
 -- An access that is carried out in one step: its reply and the state after it are the definition's.
-use Rattle.kernel_calls.proofs.Prelude
-use Prelude.{◌≡◌, ℕ, true, false, ap, sym, ◌∙◌, Err, arith, Result, Ok, IsOk, IsErr, Size, FramesStay, Slot, memory_of, after, gone_of_call, Access, access_value, View, lazy_written, plan_of, settled, access_result, Plan, call_of, reply_to, answer, answer_of, completes, planned_or, Event, Reply, after_access, IsReplied}
-use Rattle.fault_handler.specs.declared.plans.Stop.{Stop}
+use Rattle.kernel_calls.proofs.Prelude.{◌≡◌, ℕ, true, false, ap, sym, ◌∙◌, Err, arith, Result, Ok, IsOk, IsErr, Size, FramesStay, Slot, memory_of, after, gone_of_call, Access, access_value, View, lazy_written, plan_of, settled, access_result, Plan, call_of, reply_to, answer, answer_of, completes, planned_or, Event, Reply, after_access, IsReplied, Stop}
 use Rattle.kernel_calls.proofs.Planned.{same_reply}
 use Rattle.kernel_calls.proofs.Tried.{is_replied}
 use Rattle.fault_handler.specs.declared.plans.Stop.TheVariants as stop

@@ -1,14 +1,13 @@
 -- A process apart gets the same replies in two states in which it has the same, and others leave what it has.
-use Rattle.kernel_calls.proofs.Prelude
-use Prelude.{◌≡◌, ◌≢◌, ℕ, ◌==◌, Bool, true, false, refl, sym, ap, subst, ◌∙◌, List, [], ◌∷◌, ◌++◌, length, map, filter, take, drop, zero, suc, ◌+◌, add-one, Some, arith, if◌then◌else◌, slice_get, eqb-true, eqb-false, All-head, All-tail, same_Some, Size, Access, Read, Write, IsApart, AreAlike, pages_held, alone_with, State, is_live, child_of, spawn_refusal, fork_refusal, after_spawn, after_fork, IsWellFormed, spawn_alike, fork_alike, plan_of, exchanges, quota_asked, answer, answer_of, answers, after, next, end_of, completes, planned_or, Call, Event, Reply, load_leaves, store_leaves, map_leaves, unmap_leaves, protect_leaves, offer_leaves, withdraw_leaves, accept_leaves, spawn_leaves, fork_leaves, exit_leaves, Exchange, own, is_exit, involves_others, events_in, calls_of, replies_of, InvolvesNobody, solo, pages_given, RunsAreIsolated, OthersMakeNoDifference, mapped_alike, cost_alike, given_alike, lacks_room_alike, cell_alike, loaded_alike, map_refusal_alike, map_alike, protect_alike, load_alike, store_alike, unmap_alike, withdraw_alike}
+use Rattle.kernel_calls.proofs.Prelude.{◌≡◌, ◌≢◌, ℕ, ◌==◌, Bool, true, false, refl, sym, ap, subst, ◌∙◌, List, [], ◌∷◌, ◌++◌, length, map, filter, take, drop, zero, suc, ◌+◌, add-one, Some, arith, if◌then◌else◌, slice_get, eqb-true, eqb-false, All-head, All-tail, same_Some, Size, Access, Read, Write, IsApart, AreAlike, pages_held, alone_with, State, is_live, child_of, spawn_refusal, fork_refusal, after_spawn, after_fork, IsWellFormed, spawn_alike, fork_alike, plan_of, exchanges, quota_asked, answer, answer_of, answers, after, next, end_of, completes, planned_or, Call, Event, Reply, load_leaves, store_leaves, map_leaves, unmap_leaves, protect_leaves, offer_leaves, withdraw_leaves, accept_leaves, spawn_leaves, fork_leaves, exit_leaves, Exchange, own, is_exit, involves_others, events_in, calls_of, replies_of, InvolvesNobody, solo, pages_given, RunsAreIsolated, OthersMakeNoDifference, mapped_alike, cost_alike, given_alike, lacks_room_alike, cell_alike, loaded_alike, map_refusal_alike, map_alike, protect_alike, load_alike, store_alike, unmap_alike, withdraw_alike}
 use Rattle.kernel_calls.proofs.Decided.{by_next, next-stays, next-goes}
 use Rattle.kernel_calls.proofs.Runs.{not-refused, kept-next, kept-run}
+use Rattle.kernel_calls.proofs.Untouched.{caller_live}
+use Rattle.kernel_calls.proofs.Births.{planned_child, refused_child}
 use Rattle.page_words.specs.FiniteMap as map
 use Rattle.process_table.specs.declared.causes.Cause.TheVariants as cause
 use Rattle.kernel_calls.specs.declared.calls.Call.TheVariants as call
 use Rattle.kernel_calls.specs.declared.calls.Reply.TheVariants as reply
-use Rattle.kernel_calls.proofs.Untouched.{caller_live}
-use Rattle.kernel_calls.proofs.Births.{planned_child, refused_child}
 
 -- ---- A call of two alike processes
 

@@ -1,11 +1,9 @@
 -- What kept translations that the walks give still make of an access.
-use Rattle.kernel_calls.proofs.Prelude
-use Prelude.{◌≡◌, ℕ, ◌+◌, ◌*◌, ◌<◌, ◌^◌, Bool, true, refl, ap, sym, ◌∙◌, subst, arith, Option, Some, is_some, IfSome, Ok, slice_index, page_number, offset_number, byte_count, second_page, page_and, touched, EachTouched, Size, Access, Read, walk_of, directory_at, Slot, Cell, Spaces, at_page, accessed, all_accessed, value_of, IsThere, with_touched-same, each_byte, walk_named, memory_of, State, View, each_page, answer, after, next, completes, reply_found, Call, byte_place, same_each, Serves, ServesCall, reply_kept, IsLoad, KeptFind, KeptReply, KeptLoads, KeptStores, LeadTo, kept_place}
+use Rattle.kernel_calls.proofs.Prelude.{◌≡◌, ℕ, ◌+◌, ◌*◌, ◌<◌, ◌^◌, Bool, true, refl, ap, sym, ◌∙◌, subst, arith, Option, Some, is_some, IfSome, Ok, slice_index, page_number, offset_number, byte_count, second_page, page_and, touched, EachTouched, Size, Access, Read, walk_of, directory_at, Slot, Cell, Spaces, at_page, accessed, all_accessed, value_of, IsThere, with_touched-same, each_byte, walk_named, memory_of, State, View, each_page, answer, after, next, completes, reply_found, Call, byte_place, same_each, Serves, ServesCall, reply_kept, IsLoad, KeptFind, KeptReply, KeptLoads, KeptStores, LeadTo, kept_place, insert_there}
 use Rattle.kernel_calls.proofs.Decided.{next-stays, next-goes}
 use Rattle.page_words.specs.FiniteMap as map
 use Rattle.kernel_calls.specs.declared.calls.Call.TheVariants as call
 use Rattle.kernel_calls.specs.declared.calls.Reply.TheVariants as reply
-use Rattle.address_space.proofs.entries.Refinement.{insert_there}
 
 module _ (v : View) (p : ℕ) where
   -- the page of a translation that serves has 20 bits, so that its addresses have 32

@@ -1,6 +1,5 @@
 -- Walks that begin at a table which is kept.
-use Rattle.kernel_calls.proofs.Prelude
-use Prelude.{◌≡◌, ℕ, ◌<◌, true, false, length, arith, Some, nat_tests, slice_get_within, page_number, slot_number, frame_number, is_present, word_in-frame, Directory, Table, Access, walk_of, dir_word, is_outside, directory_at, table_at, word_of, named_by, from_then, user_named, memory_of, View, IsCore, walk_from, EntriesLeadThere}
+use Rattle.kernel_calls.proofs.Prelude.{◌≡◌, ℕ, ◌<◌, true, false, length, arith, Some, nat_tests, slice_get_within, page_number, slot_number, frame_number, is_present, word_in-frame, Directory, Table, Access, walk_of, dir_word, is_outside, directory_at, table_at, word_of, named_by, from_then, user_named, memory_of, View, IsCore, walk_from, EntriesLeadThere}
 
 -- a word that names a table is present, and names it
 pub record Named (word table : ℕ) : Type 0 where

@@ -1,15 +1,14 @@
 -- What an event leaves of all that processors may keep.
-use Rattle.kernel_calls.proofs.Prelude
-use Prelude.{◌≡◌, ◌<◌, ◌^◌, ℕ, Bool, true, false, List, [], ◌∷◌, refl, ap, sym, ◌∙◌, subst, arith, Option, Some, None, is_some, eq-eqb, if◌then◌else◌, page_number, slot_number, start_number, same-true, ne_eqb, Read, Write, table_at, Slot, Cell, at_page, slot_at, FramesStay, none_goes, memory_of, State, View, IsWellFormed, IsCore, gone_by, answer, after, next, completes, TablesMap, TablesStay, is_ended, ended_by, FlagsStay, Ends, Translation, IsGiven, Kept, IsRead, AreRead, ends_in_region, is_invalidated, left_by, Keeps, change, walk, Keeping, nothing, onward, KeptAreGiven, KeptThroughRuns, Call, Event, Ended, stays_most}
+use Rattle.kernel_calls.proofs.Prelude.{◌≡◌, ◌<◌, ◌^◌, ℕ, Bool, true, false, List, [], ◌∷◌, refl, ap, sym, ◌∙◌, subst, arith, Option, Some, None, is_some, eq-eqb, if◌then◌else◌, page_number, slot_number, start_number, same-true, ne_eqb, Read, Write, table_at, Slot, Cell, at_page, slot_at, FramesStay, none_goes, memory_of, State, View, IsWellFormed, IsCore, gone_by, answer, after, next, completes, TablesMap, TablesStay, is_ended, ended_by, FlagsStay, Ends, Translation, IsGiven, Kept, IsRead, AreRead, ends_in_region, is_invalidated, left_by, Keeps, change, walk, Keeping, nothing, onward, KeptAreGiven, KeptThroughRuns, Call, Event, Ended, stays_most}
 use Rattle.kernel_calls.proofs.Decided.{next-stays, next-goes}
 use Rattle.kernel_calls.proofs.Ends.{ends_no_more, without_gone}
 use Rattle.kernel_calls.proofs.Linked.{directories_stay, tables_stay, tables_map}
 use Rattle.kernel_calls.proofs.Flags.{IsFlag, has, own, accessed_is_flag, dirty_is_flag, Spared, keeps_call}
 use Rattle.kernel_calls.proofs.Translated.{translations_stay, slots_stay, found_by}
+use Rattle.kernel_calls.proofs.Untouched.{caller_live}
 use Rattle.page_words.specs.FiniteMap as map
 use Rattle.kernel_calls.specs.declared.calls.Call.TheVariants as call
 use Rattle.kernel_calls.specs.declared.translations.Ended.TheVariants as end
-use Rattle.kernel_calls.proofs.Untouched.{caller_live}
 
 -- ---- Flags
 

@@ -1,15 +1,6 @@
 -- What processors leave of a core's memory is a core's.
-use Rattle.kernel_calls.proofs.Prelude
-use Prelude.{◌≡◌, ℕ, ◌+◌, true, false, List, length, refl, sym, ap, subst, ◌∙◌, Some, is_some, if◌then◌else◌, some_value, byte_count, touched, slot_number, Read, Write, directory_at, finds_live, at_page, slot_at, Spaces, all_accessed, all_stored, bytes_of, with_touched-same, each_byte, FramesStay, none_goes, stays_most, quota_of, State, container_of, View, memory_of, IsWellFormed, after_load, after_store, after, next, completes, takes_no_frame, plan_of_call, plan_of_event, finds_call, finds_event, reply_found, Call, Event, IsCore, Ends, Ended, ServesCall, IsStore, StoresMarked, Directory, arith, Bool, Option, None, option_and_then, page_number, second_page, takes_stores, answer, if_lazy, of_call, of_pages, ended_by, IfSome, bytes_kept, bytes_accessed, IsLeft, WalksLeaveCores, StoresLeaveCores, MarksLeaveCores, WalksTakeNoFrame, WalksKeepContainers, word_at, word_place, with_walked, walked_word, is_marked, IsSpaces, frames_stay, image_stands, load_walked, store_walked, store_kept}
+use Rattle.kernel_calls.proofs.Prelude.{◌≡◌, ℕ, ◌+◌, true, false, List, length, refl, sym, ap, subst, ◌∙◌, Some, is_some, if◌then◌else◌, some_value, byte_count, touched, slot_number, Read, Write, directory_at, finds_live, at_page, slot_at, Spaces, all_accessed, all_stored, bytes_of, with_touched-same, each_byte, FramesStay, none_goes, stays_most, quota_of, State, container_of, View, memory_of, IsWellFormed, after_load, after_store, after, next, completes, takes_no_frame, plan_of_call, plan_of_event, finds_call, finds_event, reply_found, Call, Event, IsCore, Ends, Ended, ServesCall, IsStore, StoresMarked, Directory, arith, Bool, Option, None, option_and_then, page_number, second_page, takes_stores, answer, if_lazy, of_call, of_pages, ended_by, IfSome, bytes_kept, bytes_accessed, IsLeft, WalksLeaveCores, StoresLeaveCores, MarksLeaveCores, WalksTakeNoFrame, WalksKeepContainers, word_at, word_place, with_walked, walked_word, is_marked, IsSpaces, frames_stay, image_stands, load_walked, store_walked, store_kept, length-with_word, Touched, dir_word_walked, inside, spaces_touched, container-access}
 use Rattle.kernel_calls.specs.Processors.{with_bytes}
-use Rattle.phys_memory.proofs.Words.{length-with_word}
-use Rattle.address_space.specs.Changes.{Touched}
-use Rattle.address_space.specs.Image as memory
-use Rattle.address_space.proofs.steps.DirWords.{dir_word_walked}
-use Rattle.address_space.proofs.steps.Steps.{inside}
-use Rattle.address_space.proofs.steps.Touches.{spaces_touched}
-use Rattle.process_table.proofs.ImageStanding as states
-use Rattle.process_table.proofs.Keeping.{container-access}
 use Rattle.kernel_calls.proofs.CoreMemory.{live_is, root_quota, spaces_is, spaces}
 use Rattle.kernel_calls.proofs.Decided.{next-goes}
 use Rattle.kernel_calls.proofs.KeptAccesses.{all_lead, kept_find, kept_stores}
@@ -17,6 +8,8 @@ use Rattle.kernel_calls.proofs.Leaving.{event_ends, nothing_ends}
 use Rattle.kernel_calls.proofs.Runs.{kept-next}
 use Rattle.kernel_calls.proofs.Translated.{has_right}
 use Rattle.kernel_calls.proofs.WalkedReplies.{answered, all_mapped, each_found, frameless, lives, page_takes}
+use Rattle.address_space.specs.Image as memory
+use Rattle.process_table.proofs.ImageStanding as states
 use Rattle.page_words.specs.FiniteMap as map
 use Rattle.process_table.specs.declared.causes.Cause.TheVariants as cause
 use Rattle.fault_handler.specs.declared.plans.Plan.TheVariants as plan

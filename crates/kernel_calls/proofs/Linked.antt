@@ -1,6 +1,5 @@
 -- Which directories and tables an event leaves.
-use Rattle.kernel_calls.proofs.Prelude
-use Prelude.{◌≡◌, ℕ, ◌*◌, ◌+◌, ◌<◌, Bool, true, false, ◌&&◌, length, refl, ap, ◌∙◌, arith, Option, Some, None, is_some, eq-eqb, if◌then◌else◌, nat_lt, option_map, option_and_then, slice_get_within, ne_eqb, nat_tests, slot_number, index_number, frame_number, is_present, same_or_not, Table, directory_at, table_at, word_of, present_word, page_word, SlotStands, Slot, Cell, at_page, way_of, FramesStay, IsCore, way_whole, StandsFor, image_of, memory_of, View, gone_of_call, gone_by, answer, completes, is_all_of, of_call, ended_by, DirectoriesStay, TablesStay, TablesMap, Call, Event}
+use Rattle.kernel_calls.proofs.Prelude.{◌≡◌, ℕ, ◌*◌, ◌+◌, ◌<◌, Bool, true, false, ◌&&◌, length, refl, ap, ◌∙◌, arith, Option, Some, None, is_some, eq-eqb, if◌then◌else◌, nat_lt, option_map, option_and_then, slice_get_within, ne_eqb, nat_tests, slot_number, index_number, frame_number, is_present, same_or_not, Table, directory_at, table_at, word_of, present_word, page_word, SlotStands, Slot, Cell, at_page, way_of, FramesStay, IsCore, way_whole, StandsFor, image_of, memory_of, View, gone_of_call, gone_by, answer, completes, is_all_of, of_call, ended_by, DirectoriesStay, TablesStay, TablesMap, Call, Event}
 use Rattle.kernel_calls.proofs.Translated.{event_spared}
 use Rattle.page_words.specs.FiniteMap as map
 use Rattle.kernel_calls.specs.declared.calls.Call.TheVariants as call

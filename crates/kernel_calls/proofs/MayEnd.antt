@@ -1,7 +1,5 @@
 -- Beyond the user range no page is lazy, and none takes stores.
-use Rattle.kernel_calls.proofs.Prelude
-use Prelude.{◌≡◌, ◌&&◌, ℕ, Bool, true, false, not, refl, arith, Option, Some, None, is_some, unwrap_or, Cell, fresh, nat_tests, IsUserPage, slot_number, is_user_slot, is_lazy_at, takes_stores, at_page, State, View, IsWellFormed, Image}
-use Rattle.process_table.specs.Places.{place_at}
+use Rattle.kernel_calls.proofs.Prelude.{◌≡◌, ◌&&◌, ℕ, Bool, true, false, not, refl, arith, Option, Some, None, is_some, unwrap_or, Cell, fresh, nat_tests, IsUserPage, slot_number, is_user_slot, is_lazy_at, takes_stores, at_page, State, View, IsWellFormed, Image, place_at}
 use Rattle.page_words.specs.FiniteMap as map
 
 pub no_place : (v : View) (p page : ℕ) → place_at v p page ≡ None → IsUserPage page → ⊥

@@ -1,6 +1,5 @@
 -- Steps of a core and its processors are the events that they represent.
-use Rattle.kernel_calls.proofs.Prelude
-use Prelude.{◌≡◌, ℕ, zero, suc, List, [], ◌∷◌, ◌++◌, refl, ap, sym, ◌∙◌, subst, Some, arith, slice_get, Access, directory_at, memory_of, View, each_page, answer, answers, next, end_of, IsCore, Processors, all_left_by, Step, walked, marked, none, first, Kept, translation, directory_entry, IsRead, AreRead, Ends, ended_by, left_by, Call, Event, Reply, Serves, ServesCall, ServesEvent, reply_kept, with_kept, AllAreRead, AreAmong, LetsThrough, LetCall, carried, IsLeft, refilled, forgotten, Steps, AreTheEvents, ProcessorsMakeEvents}
+use Rattle.kernel_calls.proofs.Prelude.{◌≡◌, ℕ, zero, suc, List, [], ◌∷◌, ◌++◌, refl, ap, sym, ◌∙◌, subst, Some, arith, slice_get, Access, directory_at, memory_of, View, each_page, answer, answers, next, end_of, IsCore, Processors, all_left_by, Step, walked, marked, none, first, Kept, translation, directory_entry, IsRead, AreRead, Ends, ended_by, left_by, Call, Event, Reply, Serves, ServesCall, ServesEvent, reply_kept, with_kept, AllAreRead, AreAmong, LetsThrough, LetCall, carried, IsLeft, refilled, forgotten, Steps, AreTheEvents, ProcessorsMakeEvents}
 use Rattle.kernel_calls.specs.Processors.{loaded, stored}
 use Rattle.kernel_calls.proofs.KeptAccesses.{live, kept_find, kept_reply, kept_loads}
 use Rattle.kernel_calls.proofs.Leaving.{left_read}

@@ -1,7 +1,5 @@
 -- Decisions on accesses, by their plans.
-use Rattle.kernel_calls.proofs.Prelude
-use Prelude.{◌≡◌, ℕ, true, false, refl, ap, sym, ◌∙◌, arith, if◌then◌else◌, Size, cost, State, is_live, View, loaded, after_load, after_store, Access, Read, Write, planned_by, plan_of, plan_at, step_of, step_at, goes_on, Plan, answer, answer_of, after, completes, planned_or, judged_of, plan_of_call, plan_of_event, charge_in, charge_after, planned, Event, Reply}
-use Rattle.fault_handler.specs.declared.plans.PageStep.{PageStep}
+use Rattle.kernel_calls.proofs.Prelude.{◌≡◌, ℕ, true, false, refl, ap, sym, ◌∙◌, arith, if◌then◌else◌, Size, cost, State, is_live, View, loaded, after_load, after_store, Access, Read, Write, planned_by, plan_of, plan_at, step_of, step_at, goes_on, Plan, answer, answer_of, after, completes, planned_or, judged_of, plan_of_call, plan_of_event, charge_in, charge_after, planned, Event, Reply, PageStep}
 use Rattle.kernel_calls.proofs.Decided.{next-stays, next-goes}
 use Rattle.process_table.specs.declared.causes.Cause.TheVariants as cause
 use Rattle.fault_handler.specs.declared.plans.Plan.TheVariants as plan

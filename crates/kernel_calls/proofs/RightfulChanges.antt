@@ -1,6 +1,5 @@
 -- What an event leaves of the flags of a slot that is mapped before and after it.
-use Rattle.kernel_calls.proofs.Prelude
-use Prelude.{◌≡◌, ◌≢◌, ℕ, suc, ◌+◌, Bool, true, false, List, [], ◌∷◌, refl, sym, ap, subst, ◌∙◌, Option, Some, None, unwrap_or, arith, inl, inr, IsTrue, ◌⊎◌, if◌then◌else◌, option_map, same_Some, offset_number, byte_count, touched, Set, get-map_values, no_value, same_cases, Slot, slot_order, Cell, Spaces, fresh, cell_or_fresh, with_bytes, with_holders, write_at, bytes_of, without, is_slot, is_of, at_page, slot_at, accessed, stored, with_page, with_pages, all_accessed, all_stored, copied-other, left, get-without, State, child_of, accept_refusal, fork_refusal, map_refusal, offered, after_load, after_store, after_map, after_accept, after_fork, IsWellFormed, child_free, live_differ, get-inserted, get-inserted_other, may_fork, may_accept, may_map, giver_mapped, ChangesAreRightful, answer_of, after, next, completes, Call, Event}
+use Rattle.kernel_calls.proofs.Prelude.{◌≡◌, ◌≢◌, ℕ, suc, ◌+◌, Bool, true, false, List, [], ◌∷◌, refl, sym, ap, subst, ◌∙◌, Option, Some, None, unwrap_or, arith, inl, inr, IsTrue, ◌⊎◌, if◌then◌else◌, option_map, same_Some, offset_number, byte_count, touched, Set, get-map_values, no_value, same_cases, Slot, slot_order, Cell, Spaces, fresh, cell_or_fresh, with_bytes, with_holders, write_at, bytes_of, without, is_slot, is_of, at_page, slot_at, accessed, stored, with_page, with_pages, all_accessed, all_stored, copied-other, left, get-without, State, child_of, accept_refusal, fork_refusal, map_refusal, offered, after_load, after_store, after_map, after_accept, after_fork, IsWellFormed, child_free, live_differ, get-inserted, get-inserted_other, may_fork, may_accept, may_map, giver_mapped, ChangesAreRightful, answer_of, after, next, completes, Call, Event}
 use Rattle.kernel_calls.proofs.Decided.{by_next}
 use Rattle.kernel_calls.proofs.Runs.{not-refused}
 use Rattle.kernel_calls.proofs.Stays.{next_stays}

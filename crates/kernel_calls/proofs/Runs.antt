@@ -1,7 +1,5 @@
 -- Each event keeps states well formed and leaves the root's entry in the book, and so does every run.
-use Rattle.kernel_calls.proofs.Prelude
-use Prelude.{◌≡◌, ℕ, ◌+◌, true, refl, ap, ◌∙◌, List, [], ◌∷◌, ◌++◌, Option, None, unwrap_or, arith, option_map, Member, quota_of, Write, State, open_with, is_live, IsWellFormed, Cause, well_formed-fork, root-fork, well_formed-open, well_formed-unmap, well_formed-spawn, well_formed-exit, root-spawn, root-exit, total-within, well_formed-protect, well_formed-offer, well_formed-withdraw, well_formed-accept, plan_of, step_of, goes_on, Plan, ready, all_user, answer, answer_of, answers, after, next, end_of, completes, refused_or, planned_or, Call, Event, Reply, well_formed-map, well_formed-load, well_formed-store}
-use Rattle.kernel_calls.specs.Laws.{RunsStayWellFormed}
+use Rattle.kernel_calls.proofs.Prelude.{◌≡◌, ℕ, ◌+◌, true, refl, ap, ◌∙◌, List, [], ◌∷◌, ◌++◌, Option, None, unwrap_or, arith, option_map, Member, quota_of, Write, State, open_with, is_live, IsWellFormed, Cause, well_formed-fork, root-fork, well_formed-open, well_formed-unmap, well_formed-spawn, well_formed-exit, root-spawn, root-exit, total-within, well_formed-protect, well_formed-offer, well_formed-withdraw, well_formed-accept, plan_of, step_of, goes_on, Plan, ready, all_user, answer, answer_of, answers, after, next, end_of, completes, refused_or, planned_or, Call, Event, Reply, well_formed-map, well_formed-load, well_formed-store, RunsStayWellFormed}
 use Rattle.kernel_calls.proofs.Decided.{by_next}
 use Rattle.page_words.specs.FiniteMap as map
 use Rattle.kernel_calls.specs.declared.calls.Call.TheVariants as call

@@ -1,6 +1,5 @@
 -- The reply to a call that completes.
-use Rattle.kernel_calls.proofs.Prelude
-use Prelude.{◌≡◌, ℕ, true, false, ap, ◌∙◌, Option, unwrap_or, arith, option_map, some_value, Cell, cost, fresh, at_page, Member, given, State, is_live, as_container, protect_refusal, Cause, may_protect, flags_of, shown_of, Tells, CompletesByKind, answer_of, completes, refused_or, info_of, Call, Reply}
+use Rattle.kernel_calls.proofs.Prelude.{◌≡◌, ℕ, true, false, ap, ◌∙◌, Option, unwrap_or, arith, option_map, some_value, Cell, cost, fresh, at_page, Member, given, State, is_live, as_container, protect_refusal, Cause, may_protect, flags_of, shown_of, Tells, CompletesByKind, answer_of, completes, refused_or, info_of, Call, Reply}
 use Rattle.kernel_calls.proofs.Runs.{not-refused}
 use Rattle.kernel_calls.proofs.Untouched.{caller_live}
 use Rattle.kernel_calls.proofs.WalkedReplies.{told_planned}

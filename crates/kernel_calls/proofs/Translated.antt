@@ -1,17 +1,16 @@
 -- Which walks find the same frame after an event.
-use Rattle.kernel_calls.proofs.Prelude
-use Prelude.{◌≡◌, ◌<◌, ◌^◌, ℕ, Bool, true, false, not, ◌&&◌, ◌||◌, ◌==◌, refl, ap, sym, ◌∙◌, inl, inr, Option, Some, None, is_some, arith, eqb-true, eq-eqb, ◌⊎◌, if◌then◌else◌, MatchBool, Ok, option_map, option_and_then, page_number, slot_number, index_number, second_page, Size, same-true, same_itself, frame_number, Access, Read, Write, walk_of, is_write, not_allowed, directory_at, word_of, named_by, present_word, page_word, is_lazy_at, takes_stores, SlotStands, Slot, slot_order, Cell, at_page, slot_at, is_slot, way_of, FramesStay, of_lazy, FindsBytes, WalkEndsBy, way_parts, memory_of, State, is_mapped, View, IsWellFormed, IsCore, goes_on, plan_at, step_at, takes_no_frame, lazy_second, lazy_touched, ready, answer, answer_of, next, completes, plan_of_call, plan_of_event, may_unmap, finds_event, is_ended, is_all_of, if_lazy, of_pages, of_call, ended_by, TranslationsStay, FindsFrame, EndsFound, SlotsStay, gone_of_call, gone_by, Call, Event}
+use Rattle.kernel_calls.proofs.Prelude.{◌≡◌, ◌<◌, ◌^◌, ℕ, Bool, true, false, not, ◌&&◌, ◌||◌, ◌==◌, refl, ap, sym, ◌∙◌, inl, inr, Option, Some, None, is_some, arith, eqb-true, eq-eqb, ◌⊎◌, if◌then◌else◌, MatchBool, Ok, option_map, option_and_then, page_number, slot_number, index_number, second_page, Size, same-true, same_itself, frame_number, Access, Read, Write, walk_of, is_write, not_allowed, directory_at, word_of, named_by, present_word, page_word, is_lazy_at, takes_stores, SlotStands, Slot, slot_order, Cell, at_page, slot_at, is_slot, way_of, FramesStay, of_lazy, FindsBytes, WalkEndsBy, way_parts, memory_of, State, is_mapped, View, IsWellFormed, IsCore, goes_on, plan_at, step_at, takes_no_frame, lazy_second, lazy_touched, ready, answer, answer_of, next, completes, plan_of_call, plan_of_event, may_unmap, finds_event, is_ended, is_all_of, if_lazy, of_pages, of_call, ended_by, TranslationsStay, FindsFrame, EndsFound, SlotsStay, gone_of_call, gone_by, Call, Event}
 use Rattle.kernel_calls.proofs.CoreMemory.{walks_of, ways_of}
 use Rattle.kernel_calls.proofs.Decided.{goes-event, next-stays, next-goes}
 use Rattle.kernel_calls.proofs.Flags.{IsFlag, has, own, right_is_flag, Spared, keeps_call}
+use Rattle.kernel_calls.proofs.Runs.{not-refused}
+use Rattle.kernel_calls.proofs.Untouched.{caller_live}
 use Rattle.page_words.specs.FiniteMap as map
 use Rattle.process_table.specs.declared.causes.Cause.TheVariants as cause
 use Rattle.fault_handler.specs.declared.plans.PageStep.TheVariants as step
 use Rattle.fault_handler.specs.declared.plans.Plan.TheVariants as plan
 use Rattle.kernel_calls.specs.declared.calls.Call.TheVariants as call
 use Rattle.kernel_calls.specs.declared.translations.Ended.TheVariants as end
-use Rattle.kernel_calls.proofs.Runs.{not-refused}
-use Rattle.kernel_calls.proofs.Untouched.{caller_live}
 
 -- ---- A slot that has a way
 

@@ -1,7 +1,6 @@
 -- A call that one function tests and carries out: its reply, and the state after it, are the definition's.
-use Rattle.kernel_calls.proofs.Prelude
-use Prelude.{◌≡◌, ◌∙◌, ℕ, true, false, refl, ap, sym, subst, Option, is_err, Err, arith, Result, Ok, IsOk, IsErr, Pid, Slot, FramesStay, Gone, stays_more, stays_same, memory_of, View, Cause, done_told, child_told, gone_of_call, gone_by, answer, answer_of, after, completes, refused_or, Call, Event, Reply, first_cause, done_unless, number_unless, child_unless, IsReplied}
-use Rattle.kernel_calls.proofs.Decided.{next-stays, next-goes, done_by}
+use Rattle.kernel_calls.proofs.Prelude.{◌≡◌, ◌∙◌, ℕ, true, false, refl, ap, sym, subst, Option, is_err, Err, arith, Result, Ok, IsOk, IsErr, Pid, Slot, FramesStay, Gone, stays_more, stays_same, memory_of, View, Cause, done_told, child_told, gone_of_call, gone_by, answer, answer_of, after, completes, refused_or, Call, Event, Reply, first_cause, done_unless, number_unless, child_unless, IsReplied}
+use Rattle.kernel_calls.proofs.Decided.{next-stays, next-goes}
 use Rattle.kernel_calls.specs.declared.calls.Reply.TheVariants as reply
 
 -- what is shown of a call that one function tests and carries out, by what it is told
@@ -39,8 +38,8 @@ module _ (v w : View) (e : Event) (c : Call) (x : Option Cause) (gone : Gone) (q
   pub has_charge : (r : Result ℕ Cause) (charge : ℕ) → answer_of v.state e.pid c ≡ refused_or x reply.Done
       → ((slot : Slot) (f : ℕ) → gone_of_call e.pid c slot f ≡ gone slot f)
       → r ≡ number_unless (first_cause v.state e.pid x) charge → (IsOk r → w.state ≡ after v.state e.pid c)
-      → FramesStay gone (memory_of v) (memory_of w) → (IsErr r → w ≡ v) → q ≡ done_by r → IsReplied v e q w
-  has_charge r charge asks same result = is_replied done_by (λ a. refl) (λ k. refl) v w e c gone r q is same (grind arith)
+      → FramesStay gone (memory_of v) (memory_of w) → (IsErr r → w ≡ v) → q ≡ done_told r → IsReplied v e q w
+  has_charge r charge asks same result = is_replied done_told (λ a. refl) (λ k. refl) v w e c gone r q is same (grind arith)
 
   -- of one that makes a child or is refused
   pub has_child : (r : Result Pid Cause) (child : ℕ) → answer_of v.state e.pid c ≡ refused_or x (reply.Child child)

@@ -1,6 +1,5 @@
 -- What an event leaves of the other processes.
-use Rattle.kernel_calls.proofs.Prelude
-use Prelude.{◌≡◌, ◌≢◌, ℕ, ◌==◌, Bool, true, false, cond, refl, sym, ap, ◌∙◌, Option, Some, None, unwrap_or, arith, inl, inr, ◌⊎◌, if◌then◌else◌, slice_index, option_map, ne_eqb, same_Some, byte_count, touched, Size, same, Set, get-insert, get-map_values, contains-insert, get-retain_keys, some_value, no_value, is_some-map, same_cases, same_apart, get-remove_other, get-removed, Slot, slot_order, Cell, Spaces, cost, fresh, cell_or_fresh, with_holders, set_holders, bytes_of, is_slot, is_of, at_page, with_pages, all_stored, joined, copied, same_pages, copied-other, Member, given, is_child, number_of_children, child_no, get-insert_other, given-insert, given-remove, number-insert, number-remove, OfferKey, Offers, offer_order, offer_key, State, is_live, child_of, accept_refusal, spawn_refusal, fork_refusal, after_load, after_store, after_unmap, after_offer, after_withdraw, after_accept, after_exit, IsWellFormed, child_free, live_differ, get-inserted_other, may_fork, may_accept, giver_mapped, flags_of, flags_at, byte_in, shares, is_child_of, IsStoreInto, Integrity, answer, answer_of, after, next, completes, Call, Event, eqb-true}
+use Rattle.kernel_calls.proofs.Prelude.{◌≡◌, ◌≢◌, ℕ, ◌==◌, Bool, true, false, cond, refl, sym, ap, ◌∙◌, Option, Some, None, unwrap_or, arith, inl, inr, ◌⊎◌, if◌then◌else◌, slice_index, option_map, ne_eqb, same_Some, byte_count, touched, Size, same, Set, get-insert, get-map_values, contains-insert, get-retain_keys, some_value, no_value, is_some-map, same_cases, same_apart, get-remove_other, get-removed, Slot, slot_order, Cell, Spaces, cost, fresh, cell_or_fresh, with_holders, set_holders, bytes_of, is_slot, is_of, at_page, with_pages, all_stored, joined, copied, same_pages, copied-other, Member, given, is_child, number_of_children, child_no, get-insert_other, given-insert, given-remove, number-insert, number-remove, OfferKey, Offers, offer_order, offer_key, State, is_live, child_of, accept_refusal, spawn_refusal, fork_refusal, after_load, after_store, after_unmap, after_offer, after_withdraw, after_accept, after_exit, IsWellFormed, child_free, live_differ, get-inserted_other, may_fork, may_accept, giver_mapped, flags_of, flags_at, byte_in, shares, is_child_of, IsStoreInto, Integrity, answer, answer_of, after, next, completes, Call, Event, eqb-true}
 use Rattle.kernel_calls.proofs.Decided.{by_next}
 use Rattle.kernel_calls.proofs.Runs.{not-refused}
 use Rattle.kernel_calls.proofs.UntouchedSlots.{kept_of, kept_at, kept_flags, kept_bytes, kept_shares, of_others, rest_of, insert_same, pages_same, accessed_same, without_kept, all_stored_rest, store_bytes}

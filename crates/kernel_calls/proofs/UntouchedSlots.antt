@@ -1,6 +1,5 @@
 -- What an event of another process leaves of a slot.
-use Rattle.kernel_calls.proofs.Prelude
-use Prelude.{◌≡◌, ◌≢◌, ℕ, zero, suc, ◌+◌, ◌-◌, ◌/◌, ◌%◌, ◌<◌, ◌≤◌, ◌&&◌, not, Bool, true, false, cond, List, [], ◌∷◌, length, refl, sym, ap, ◌∙◌, Option, Some, None, is_some, unwrap_or, arith, inl, inr, get_or-set_other, get_or-set_same, ◌⊎◌, if◌then◌else◌, slice_index, option_map, range_with_len, cases_eq, not-false, same_Some, page_number, offset_number, byte_count, touched, Size, same, Set, get-map_values, contains-retain, same_cases, Slot, slot_order, Cell, Spaces, fresh, cell_or_fresh, with_bytes, set_bytes, write_at, bytes_of, without, at_page, slot_at, accessed, stored, with_page, with_pages, all_accessed, all_stored, AreThere, first_there, rest_there, touched-there, bytes_there, with_page-keeps, left, get-without, byte_is_write, Write, State, is_live, after_store, IsWellFormed, get-inserted, get-inserted_other, well_formed-bytes, well_formed-touched, plan_of, step_of, is_read_only, Goes, ready, all_user, same_cells, Flags, flags_of, byte_in, IsStoreInto, answer_of, completes, Event, find, holders_stored}
+use Rattle.kernel_calls.proofs.Prelude.{◌≡◌, ◌≢◌, ℕ, zero, suc, ◌+◌, ◌-◌, ◌/◌, ◌%◌, ◌<◌, ◌≤◌, ◌&&◌, not, Bool, true, false, cond, List, [], ◌∷◌, length, refl, sym, ap, ◌∙◌, Option, Some, None, is_some, unwrap_or, arith, inl, inr, get_or-set_other, get_or-set_same, ◌⊎◌, if◌then◌else◌, slice_index, option_map, range_with_len, cases_eq, not-false, same_Some, page_number, offset_number, byte_count, touched, Size, same, Set, get-map_values, contains-retain, same_cases, Slot, slot_order, Cell, Spaces, fresh, cell_or_fresh, with_bytes, set_bytes, write_at, bytes_of, without, at_page, slot_at, accessed, stored, with_page, with_pages, all_accessed, all_stored, AreThere, first_there, rest_there, touched-there, bytes_there, with_page-keeps, left, get-without, byte_is_write, Write, State, is_live, after_store, IsWellFormed, get-inserted, get-inserted_other, well_formed-bytes, well_formed-touched, plan_of, step_of, is_read_only, Goes, ready, all_user, same_cells, Flags, flags_of, byte_in, IsStoreInto, answer_of, completes, Event, find, holders_stored}
 use Rattle.kernel_calls.proofs.Runs.{went-on}
 use Rattle.page_words.specs.FiniteMap as map
 use Rattle.page_words.specs.FiniteSet as set

@@ -1,7 +1,5 @@
 -- What an event is answered is what stands where the walks of its pages lead.
-use Rattle.kernel_calls.proofs.Prelude
-use Prelude.{◌≡◌, ℕ, ◌+◌, ◌*◌, ◌<◌, ◌^◌, true, List, refl, ap, sym, ◌∙◌, subst, arith, Option, Some, None, unwrap_or, is_some, if◌then◌else◌, Ok, slice_index, IsUserPage, page_number, offset_number, byte_count, EachTouched, Size, is_some-map, byte-frame, Access, Read, Write, walk_of, directory_at, is_lazy_at, takes_stores, Cell, at_page, slot_at, byte_at, value_of, cell_or_fresh, fresh, WalkEndsBy, each_byte, walk_named, loaded, memory_of, as_account, is_live, is_mapped, View, touched_user, plan_of, plan_at, goes_on, takes_no_frame, Plan, plan_of_call, answer, answer_of, completes, planned_or, IsCore, finds_call, finds_event, reply_found, Call, Event, Reply, finds_at, finds, byte_place, number_found, found_at, same_each, finds_first, finds_second}
-use Rattle.fault_handler.proofs.Walked.{walk_completes}
+use Rattle.kernel_calls.proofs.Prelude.{◌≡◌, ℕ, ◌+◌, ◌*◌, ◌<◌, ◌^◌, true, List, refl, ap, sym, ◌∙◌, subst, arith, Option, Some, None, unwrap_or, is_some, if◌then◌else◌, Ok, slice_index, IsUserPage, page_number, offset_number, byte_count, EachTouched, Size, is_some-map, byte-frame, Access, Read, Write, walk_of, directory_at, is_lazy_at, takes_stores, Cell, at_page, slot_at, byte_at, value_of, cell_or_fresh, fresh, WalkEndsBy, each_byte, walk_named, loaded, memory_of, as_account, is_live, is_mapped, View, touched_user, plan_of, plan_at, goes_on, takes_no_frame, Plan, plan_of_call, answer, answer_of, completes, planned_or, IsCore, finds_call, finds_event, reply_found, Call, Event, Reply, finds_at, finds, byte_place, number_found, found_at, same_each, finds_first, finds_second, walk_completes}
 use Rattle.kernel_calls.proofs.CoreMemory.{walks_of, ways_of}
 use Rattle.kernel_calls.proofs.Decided.{goes-event}
 use Rattle.kernel_calls.proofs.Translated.{way_mapped, walk_takes}

@@ -1,9 +1,6 @@
 -- What an event leaves of the frames that aren't its process's.
-use Rattle.kernel_calls.proofs.Prelude
-use Prelude.{◌≡◌, ◌≢◌, ℕ, ◌+◌, ◌*◌, ◌<◌, ◌^◌, Bool, true, false, ◌&&◌, ◌==◌, cond, List, [], ◌∷◌, length, refl, ap, sym, ◌∙◌, subst, arith, inl, inr, Option, Some, None, is_some, unwrap_or, IsTrue, if◌then◌else◌, nat_lt, slice_index, Ok, slice_get, eqb-true, option_map, option_and_then, ne_eqb, and_parts, nat_tests, same_lists, get_or_default, slice_get_within, page_number, slot_number, index_number, start_number, Size, frame_number, is_present, is_lazy, IsKernelDirWord, NamesPage, Order, Set, same-true, same_itself, frame_bytes, Reserved, Free, Directory, Table, Page, Read, walk_of, directory_at, table_at, word_of, named_by, is_user_slot, present_word, page_word, page_frame, is_lazy_at, SlotStands, CellStands, Slot, Cell, at_page, slot_at, is_slot, way_of, WalkEndsBy, way_parts, from_then, memory_of, State, is_live, View, Plan, Flags, flags_of, flags_at, IsStoreInto, next, IsCore, is_ended, is_all_of, of_pages, of_call, ended_by, Ends, ends_in_region, MapsInRegion, Call, Event, Ended}
-use Rattle.page_words.proofs.Flags.{table_words_by_fields}
+use Rattle.kernel_calls.proofs.Prelude.{◌≡◌, ◌≢◌, ℕ, ◌+◌, ◌*◌, ◌<◌, ◌^◌, Bool, true, false, ◌&&◌, ◌==◌, cond, List, [], ◌∷◌, length, refl, ap, sym, ◌∙◌, subst, arith, inl, inr, Option, Some, None, is_some, unwrap_or, IsTrue, if◌then◌else◌, nat_lt, slice_index, Ok, slice_get, eqb-true, option_map, option_and_then, ne_eqb, and_parts, nat_tests, same_lists, get_or_default, slice_get_within, page_number, slot_number, index_number, start_number, Size, frame_number, is_present, is_lazy, IsKernelDirWord, NamesPage, Order, Set, same-true, same_itself, frame_bytes, Reserved, Free, Directory, Table, Page, Read, walk_of, directory_at, table_at, word_of, named_by, is_user_slot, present_word, page_word, page_frame, is_lazy_at, SlotStands, CellStands, Slot, Cell, at_page, slot_at, is_slot, way_of, WalkEndsBy, way_parts, from_then, memory_of, State, is_live, View, Plan, Flags, flags_of, flags_at, IsStoreInto, next, IsCore, is_ended, is_all_of, of_pages, of_call, ended_by, Ends, ends_in_region, MapsInRegion, Call, Event, Ended, table_words_by_fields, HasNone, TakesLazy, IsSameButAccessed, StandsAsBefore, WritesItsOwn, EventsWriteTheirOwn, Role, own_frame, IsTableWord, owned, own_is}
 use Rattle.std.specs.FinMap.Entries.{find}
-use Rattle.kernel_calls.specs.Written.{HasNone, TakesLazy, IsSameButAccessed, StandsAsBefore, WritesItsOwn, EventsWriteTheirOwn}
 use Rattle.kernel_calls.proofs.Births.{child_dead}
 use Rattle.kernel_calls.proofs.CoreMemory.{walks_of, ways_of}
 use Rattle.kernel_calls.proofs.Effects.{slots_come}
@@ -14,9 +11,6 @@ use Rattle.kernel_calls.proofs.Untouched.{integrity}
 use Rattle.kernel_calls.proofs.WalkedReplies.{lives}
 use Rattle.page_words.specs.FiniteMap as map
 use Rattle.page_words.specs.FiniteSet as set
-use Rattle.alloc_table.specs.declared.Role.{Role}
-use Rattle.address_space.specs.ImageWords.{own_frame, IsTableWord}
-use Rattle.address_space.proofs.standing.TablesStand.{owned, own_is}
 
 -- ---- What an event ends of others
 

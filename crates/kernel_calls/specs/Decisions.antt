@@ -1,26 +1,14 @@
 -- What is decided of an event before anything changes: its plan, its reply, and the charge of its process afterwards.
-use Rattle.std.proofs.Common.{ℕ, false, if◌then◌else◌, Option, Some, None, Result, Ok, Err}
-use Rattle.page_words.specs.declared.addresses.Pid.{Pid}
-use Rattle.page_words.specs.declared.addresses.Size.{Size}
-use Rattle.address_space.specs.Spaces.{cost}
-use Rattle.quota_tree.specs.declared.Container.{Container}
-use Rattle.process_table.specs.State.{State, is_live}
-use Rattle.process_table.specs.View.{View}
-use Rattle.process_table.specs.Calls.{map_refusal, unmap_refusal, protect_refusal, offer_refusal, withdraw_refusal, accept_refusal, spawn_refusal, fork_refusal, exit_refusal}
-use Rattle.process_table.specs.declared.causes.Cause.{Cause}
-use Rattle.process_table.specs.declared.causes.Cause.TheVariants as cause
-use Rattle.fault_handler.specs.Plans.{plan_at, at_once}
-use Rattle.fault_handler.specs.declared.plans.Plan.{Plan}
-use Rattle.fault_handler.specs.declared.plans.Plan.TheVariants as plan
-use Rattle.table_walk.specs.declared.Access.{Access}
-use Rattle.table_walk.specs.declared.Access.TheVariants.{Read, Write}
+use Rattle.kernel_calls.specs.Below.{ℕ, false, if◌then◌else◌, Option, Some, None, Result, Ok, Err, Pid, Size, cost, Container, State, is_live, View, map_refusal, unmap_refusal, protect_refusal, offer_refusal, withdraw_refusal, accept_refusal, spawn_refusal, fork_refusal, exit_refusal, Cause, plan_at, at_once, Plan, Access, Read, Write}
 use Rattle.kernel_calls.specs.Machine.{answer, next}
 use Rattle.kernel_calls.specs.declared.decisions.Judgement.{Judgement}
 use Rattle.kernel_calls.specs.declared.calls.Call.{Call}
-use Rattle.kernel_calls.specs.declared.calls.Call.TheVariants as call
 use Rattle.kernel_calls.specs.declared.calls.Event.{Event}
 use Rattle.kernel_calls.specs.declared.calls.Decision.{Decision}
 use Rattle.kernel_calls.specs.declared.calls.Reply.{Reply}
+use Rattle.process_table.specs.declared.causes.Cause.TheVariants as cause
+use Rattle.fault_handler.specs.declared.plans.Plan.TheVariants as plan
+use Rattle.kernel_calls.specs.declared.calls.Call.TheVariants as call
 use Rattle.kernel_calls.specs.declared.calls.Reply.TheVariants as reply
 
 -- a refusal where there is a cause
@@ -91,7 +79,7 @@ planned (plan.Fault fault) r charge = record { plan = plan.Fault fault; reply = 
 planned (plan.Ready first second) r charge = record { plan = plan.Ready first second; reply = r; used_after = charge }
 
 -- the reply to a call with this result: Done, or the refusal
-abbrev pub done_told : Result (Unit {0}) Cause → Reply
+abbrev pub done_told : {A : Type 0} → Result A Cause → Reply
 done_told (Ok done) = reply.Done
 done_told (Err cause) = reply.Refused cause
 

@@ -1,12 +1,9 @@
 -- Which slots' ways go with an event, whatever was kept of them.
-use Rattle.std.proofs.Common.{ℕ, Bool, true, false, if◌then◌else◌}
-use Rattle.address_space.specs.Stays.{Gone, of_page, of_process, of_lazy}
-use Rattle.fault_handler.specs.Fills.{lazy_touched}
-use Rattle.process_table.specs.State.{State}
+use Rattle.kernel_calls.specs.Below.{ℕ, Bool, true, false, if◌then◌else◌, Gone, of_page, of_process, of_lazy, lazy_touched, State}
 use Rattle.kernel_calls.specs.Machine.{answer, completes}
 use Rattle.kernel_calls.specs.declared.calls.Call.{Call}
-use Rattle.kernel_calls.specs.declared.calls.Call.TheVariants as call
 use Rattle.kernel_calls.specs.declared.calls.Event.{Event}
+use Rattle.kernel_calls.specs.declared.calls.Call.TheVariants as call
 
 -- the frames that a completed call takes from slots
 abbrev pub gone_of_call : ℕ → Call → Gone

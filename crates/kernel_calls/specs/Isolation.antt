@@ -1,16 +1,11 @@
 -- The replies that a process gets in a run, and what they depend on.
-use Rattle.std.proofs.Common.{◌≡◌, ℕ, ◌+◌, Bool, true, false, if◌then◌else◌, ◌==◌, List, [], ◌∷◌, ◌++◌, length, map, filter, drop}
-use Rattle.std.specs.List.{All, zip}
-use Rattle.page_words.specs.FiniteMap as map
-use Rattle.page_words.specs.FiniteMap.{Map, nat_order}
-use Rattle.process_table.specs.Apart.{FirstPage, pages_held, alone_with}
-use Rattle.process_table.specs.State.{State}
-use Rattle.process_table.specs.WellFormed.{IsWellFormed}
+use Rattle.kernel_calls.specs.Below.{◌≡◌, ℕ, ◌+◌, Bool, true, false, if◌then◌else◌, ◌==◌, List, [], ◌∷◌, ◌++◌, length, map, filter, drop, All, zip, Map, nat_order, FirstPage, pages_held, alone_with, State, IsWellFormed}
 use Rattle.kernel_calls.specs.Machine.{answer, answers, end_of}
 use Rattle.kernel_calls.specs.declared.calls.Call.{Call}
-use Rattle.kernel_calls.specs.declared.calls.Call.TheVariants as call
 use Rattle.kernel_calls.specs.declared.calls.Event.{Event}
 use Rattle.kernel_calls.specs.declared.calls.Reply.{Reply}
+use Rattle.page_words.specs.FiniteMap as map
+use Rattle.kernel_calls.specs.declared.calls.Call.TheVariants as call
 use Rattle.kernel_calls.specs.declared.calls.Reply.TheVariants as reply
 
 -- an event of a run, and the reply to it

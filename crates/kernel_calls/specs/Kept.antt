@@ -1,21 +1,12 @@
 -- Accesses that a processor makes by translations that it kept.
-use Rattle.std.specs.Prelude.{◌≡◌, ℕ, true, List, Some}
-use Rattle.page_words.specs.Addresses.{byte_count, EachTouched}
-use Rattle.table_walk.specs.declared.Access.{Access}
-use Rattle.table_walk.specs.declared.Access.TheVariants.{Read, Write}
-use Rattle.address_space.specs.Image.{directory_at}
-use Rattle.address_space.specs.Kept.{is_marked, number_at, written_at}
-use Rattle.address_space.specs.Spaces.{at_page, bytes_of}
-use Rattle.process_table.specs.Image.{memory_of}
-use Rattle.process_table.specs.State.{State}
-use Rattle.process_table.specs.View.{View}
+use Rattle.kernel_calls.specs.Below.{◌≡◌, ℕ, true, List, Some, byte_count, EachTouched, Access, Read, Write, directory_at, is_marked, number_at, written_at, at_page, bytes_of, memory_of, State, View}
 use Rattle.kernel_calls.specs.Machine.{next}
 use Rattle.kernel_calls.specs.Translations.{Translation, IsGiven}
 use Rattle.kernel_calls.specs.Walked.{finds_event, reply_found}
 use Rattle.kernel_calls.specs.declared.calls.Call.{Call}
-use Rattle.kernel_calls.specs.declared.calls.Call.TheVariants as call
 use Rattle.kernel_calls.specs.declared.calls.Event.{Event}
 use Rattle.kernel_calls.specs.declared.calls.Reply.{Reply}
+use Rattle.kernel_calls.specs.declared.calls.Call.TheVariants as call
 use Rattle.kernel_calls.specs.declared.calls.Reply.TheVariants as reply
 
 -- a translation is kept that serves an access to a page: the walks give it still, and for a write it lets writes

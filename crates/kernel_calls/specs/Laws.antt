@@ -1,7 +1,5 @@
 -- Laws on runs: every state of one is well formed, and its processes cost no more than there are frames.
-use Rattle.std.proofs.Common.{ℕ, ◌+◌, ◌≤◌, List}
-use Rattle.process_table.specs.State.{open_with}
-use Rattle.process_table.specs.WellFormed.{IsWellFormed, total}
+use Rattle.kernel_calls.specs.Below.{ℕ, ◌+◌, ◌≤◌, List, open_with, IsWellFormed, total}
 use Rattle.kernel_calls.specs.Machine.{end_of}
 use Rattle.kernel_calls.specs.declared.calls.Event.{Event}
 

@@ -1,12 +1,8 @@
 -- Which pages an event leaves lazy.
-use Rattle.std.specs.Prelude.{◌≡◌, ℕ, Bool, true}
-use Rattle.address_space.specs.Image.{is_lazy_at}
-use Rattle.address_space.specs.Spaces.{at_page}
-use Rattle.process_table.specs.Image.{memory_of}
-use Rattle.process_table.specs.View.{View}
-use Rattle.kernel_calls.specs.declared.calls.Call.TheVariants as call
+use Rattle.kernel_calls.specs.Below.{◌≡◌, ℕ, Bool, true, is_lazy_at, at_page, memory_of, View}
 use Rattle.kernel_calls.specs.declared.calls.Event.{Event}
 use Rattle.kernel_calls.specs.declared.calls.Reply.{Reply}
+use Rattle.kernel_calls.specs.declared.calls.Call.TheVariants as call
 use Rattle.kernel_calls.specs.declared.calls.Reply.TheVariants as reply
 
 -- the page of a Map that completes is lazy, and a page of a Fork's child exactly if its parent's is

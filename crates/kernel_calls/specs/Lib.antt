@@ -1,10 +1,10 @@
 pub mod Along
-pub mod Authority
+pub mod Below
 pub mod Cleaned
 pub mod Decisions
 pub mod Effects
-pub mod Families
 pub mod Gone
+pub mod Integrity
 pub mod Isolation
 pub mod Kept
 pub mod Laws

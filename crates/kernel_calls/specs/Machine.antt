@@ -1,20 +1,12 @@
 -- The machine: the answer to an event, the next state, and runs.
-use Rattle.std.proofs.Common.{ℕ, Bool, true, false, not, ◌&&◌, if◌then◌else◌, List, [], ◌∷◌, Option, Some, None}
-use Rattle.page_words.specs.FiniteSet as set
-use Rattle.address_space.specs.Spaces.{Cell, cell_or_fresh, cost, at_page}
-use Rattle.quota_tree.specs.Book.{given, quota_of}
-use Rattle.process_table.specs.State.{State, is_live, child_of}
-use Rattle.process_table.specs.Calls.{map_refusal, unmap_refusal, protect_refusal, offer_refusal, withdraw_refusal, accept_refusal, spawn_refusal, fork_refusal, exit_refusal, loaded, after_load, after_store, after_map, after_unmap, after_protect, after_offer, after_withdraw, after_accept, after_spawn, after_fork, after_exit}
-use Rattle.process_table.specs.declared.causes.Cause.{Cause}
-use Rattle.process_table.specs.declared.causes.Cause.TheVariants as cause
-use Rattle.fault_handler.specs.Plans.{plan_of}
-use Rattle.fault_handler.specs.declared.plans.Plan.{Plan}
-use Rattle.fault_handler.specs.declared.plans.Plan.TheVariants as plan
-use Rattle.table_walk.specs.declared.Access.TheVariants.{Read, Write}
+use Rattle.kernel_calls.specs.Below.{ℕ, Bool, true, false, not, ◌&&◌, if◌then◌else◌, List, [], ◌∷◌, Option, Some, None, Cell, cell_or_fresh, cost, at_page, given, quota_of, State, is_live, child_of, map_refusal, unmap_refusal, protect_refusal, offer_refusal, withdraw_refusal, accept_refusal, spawn_refusal, fork_refusal, exit_refusal, loaded, after_load, after_store, after_map, after_unmap, after_protect, after_offer, after_withdraw, after_accept, after_spawn, after_fork, after_exit, Cause, plan_of, Plan, Read, Write}
 use Rattle.kernel_calls.specs.declared.calls.Call.{Call}
-use Rattle.kernel_calls.specs.declared.calls.Call.TheVariants as call
 use Rattle.kernel_calls.specs.declared.calls.Event.{Event}
 use Rattle.kernel_calls.specs.declared.calls.Reply.{Reply}
+use Rattle.page_words.specs.FiniteSet as set
+use Rattle.process_table.specs.declared.causes.Cause.TheVariants as cause
+use Rattle.fault_handler.specs.declared.plans.Plan.TheVariants as plan
+use Rattle.kernel_calls.specs.declared.calls.Call.TheVariants as call
 use Rattle.kernel_calls.specs.declared.calls.Reply.TheVariants as reply
 
 -- a refusal where there is a cause, and else this reply

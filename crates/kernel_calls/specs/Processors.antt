@@ -1,33 +1,15 @@
 -- What a core and any number of processors do with one memory, one step after another, and which events that is.
-use Rattle.std.specs.Prelude.{◌≡◌, ℕ, ◌==◌, ◌≤◌, length, Bool, true, not, ◌&&◌, if◌then◌else◌, List, [], ◌∷◌, ◌++◌, Some, Result, Ok, Err, slice_get}
-use Rattle.page_words.specs.Addresses.{IsUserPage, EachTouched, page_number, slot_number, index_number}
-use Rattle.page_words.specs.Words.{frame_number, is_present, is_writable, is_user}
-use Rattle.phys_memory.specs.Bytes.{word_at, word_place}
-use Rattle.table_walk.specs.declared.Access.{Access}
-use Rattle.table_walk.specs.declared.Access.TheVariants.{Read, Write}
-use Rattle.table_walk.specs.declared.WalkEnd.{WalkEnd}
-use Rattle.table_walk.specs.declared.WalkEnd.TheVariants.{Outside}
-use Rattle.table_walk.specs.Walk.{walk_of, first_that_applies, is_outside, is_write, not_present, not_allowed}
-use Rattle.address_space.specs.ByWalk.{with_walked}
-use Rattle.address_space.specs.Image.{directory_at}
-use Rattle.address_space.specs.Spaces.{at_page}
-use Rattle.address_space.specs.Stays.{WaysAgree}
-use Rattle.address_space.specs.Walks.{WalksAgree}
-use Rattle.process_table.specs.Image.{StandsFor, image_of, memory_of}
-use Rattle.process_table.specs.State.{State, container_of}
-use Rattle.process_table.specs.View.{View}
-use Rattle.process_table.specs.WellFormed.{IsWellFormed}
-use Rattle.fault_handler.specs.Plans.{takes_no_frame}
+use Rattle.kernel_calls.specs.Below.{◌≡◌, ℕ, ◌==◌, ◌≤◌, length, Bool, true, not, ◌&&◌, if◌then◌else◌, List, [], ◌∷◌, ◌++◌, Some, Result, Ok, Err, slice_get, IsUserPage, EachTouched, page_number, slot_number, index_number, frame_number, is_present, is_writable, is_user, word_at, word_place, Access, Read, Write, WalkEnd, Outside, walk_of, first_that_applies, is_outside, is_write, not_present, not_allowed, with_walked, directory_at, at_page, WaysAgree, WalksAgree, StandsFor, image_of, memory_of, State, container_of, View, IsWellFormed, takes_no_frame}
 use Rattle.kernel_calls.specs.Decisions.{plan_of_event}
 use Rattle.kernel_calls.specs.Kept.{reply_kept, bytes_kept, ServesEvent, IsLoad, IsStore}
 use Rattle.kernel_calls.specs.Machine.{answer, answers, next, end_of}
 use Rattle.kernel_calls.specs.Translations.{Kept, translation, DirectoryEntry, directory_entry, IsRead, AreRead, Ends, ended_by, left_by}
 use Rattle.kernel_calls.specs.Walked.{finds_event, reply_found, bytes_accessed}
 use Rattle.kernel_calls.specs.declared.calls.Call.{Call}
-use Rattle.kernel_calls.specs.declared.calls.Call.TheVariants as call
 use Rattle.kernel_calls.specs.declared.calls.Event.{Event}
 use Rattle.kernel_calls.specs.declared.calls.Reply.{Reply}
 use Rattle.kernel_calls.specs.declared.translations.Ended.{Ended}
+use Rattle.kernel_calls.specs.declared.calls.Call.TheVariants as call
 use Rattle.kernel_calls.specs.declared.translations.Ended.TheVariants as end
 
 -- at most 1,048,576 frames, and a place for each process

@@ -1,8 +1,5 @@
 -- What the function of each call shows (`reply_map` and the others).
-use Rattle.std.specs.Prelude.{◌≡◌, false}
-use Rattle.address_space.specs.Stays.{FramesStay}
-use Rattle.process_table.specs.Image.{memory_of}
-use Rattle.process_table.specs.View.{View}
+use Rattle.kernel_calls.specs.Below.{◌≡◌, false, FramesStay, memory_of, View}
 use Rattle.kernel_calls.specs.Gone.{gone_by}
 use Rattle.kernel_calls.specs.Machine.{answer, next, completes}
 use Rattle.kernel_calls.specs.declared.calls.Event.{Event}

@@ -1,26 +1,14 @@
 -- The translations that an event ends: those that a walk gave before it and gives no longer, so that a processor that
 -- keeps them has to invalidate them. A translation is what a walk gives for a page of a process: a frame, and whether
 -- it allows writes.
-use Rattle.std.specs.Prelude.{◌⊎◌}
-use Rattle.std.proofs.Common.{◌≡◌, ◌==◌, ◌<◌, ◌^◌, ℕ, Bool, true, false, not, ◌&&◌, ◌||◌, if◌then◌else◌, List, [], ◌∷◌, Option, Some, None, Ok}
-use Rattle.std.specs.Option.{option_and_then}
-use Rattle.page_words.specs.FiniteMap as map
-use Rattle.page_words.specs.Addresses.{page_number, slot_number, second_page}
-use Rattle.page_words.specs.declared.addresses.Size.{Size}
-use Rattle.table_walk.specs.declared.Access.{Access}
-use Rattle.table_walk.specs.declared.Access.TheVariants.{Read, Write}
-use Rattle.table_walk.specs.Walk.{walk_of}
-use Rattle.address_space.specs.Image as memory
-use Rattle.address_space.specs.Image.{directory_at, table_at, is_lazy_at, takes_stores}
-use Rattle.address_space.specs.Spaces.{Slot, Cell, at_page, slot_at, is_slot, is_of}
-use Rattle.process_table.specs.Image.{memory_of, image_of, StandsFor}
-use Rattle.process_table.specs.State.{State}
-use Rattle.process_table.specs.View.{View}
+use Rattle.kernel_calls.specs.Below.{◌⊎◌, ◌≡◌, ◌==◌, ◌<◌, ◌^◌, ℕ, Bool, true, false, not, ◌&&◌, ◌||◌, if◌then◌else◌, List, [], ◌∷◌, Option, Some, None, Ok, option_and_then, page_number, slot_number, second_page, Size, Access, Read, Write, walk_of, directory_at, table_at, is_lazy_at, takes_stores, Slot, Cell, at_page, slot_at, is_slot, is_of, memory_of, image_of, StandsFor, State, View}
 use Rattle.kernel_calls.specs.Machine.{answer, next, completes}
 use Rattle.kernel_calls.specs.declared.calls.Call.{Call}
-use Rattle.kernel_calls.specs.declared.calls.Call.TheVariants as call
 use Rattle.kernel_calls.specs.declared.calls.Event.{Event}
 use Rattle.kernel_calls.specs.declared.translations.Ended.{Ended}
+use Rattle.page_words.specs.FiniteMap as map
+use Rattle.address_space.specs.Image as memory
+use Rattle.kernel_calls.specs.declared.calls.Call.TheVariants as call
 use Rattle.kernel_calls.specs.declared.translations.Ended.TheVariants as end
 
 -- whether the translation of a slot is one of them

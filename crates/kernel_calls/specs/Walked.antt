@@ -1,15 +1,9 @@
 -- Events that a processor carries out by itself: its walks find a frame for each page of a load or a store.
-use Rattle.std.proofs.Common.{ℕ, Bool, false, List}
-use Rattle.page_words.specs.Addresses.{second_page, byte_count}
-use Rattle.address_space.specs.ByWalk.{finds, number_found, after_walked_load, after_walked_store}
-use Rattle.address_space.specs.Spaces.{bytes_of}
-use Rattle.process_table.specs.Image.{memory_of}
-use Rattle.process_table.specs.View.{View}
-use Rattle.table_walk.specs.declared.Access.TheVariants.{Read, Write}
+use Rattle.kernel_calls.specs.Below.{ℕ, Bool, false, List, second_page, byte_count, finds, number_found, after_walked_load, after_walked_store, bytes_of, memory_of, View, Read, Write}
 use Rattle.kernel_calls.specs.declared.calls.Call.{Call}
-use Rattle.kernel_calls.specs.declared.calls.Call.TheVariants as call
 use Rattle.kernel_calls.specs.declared.calls.Event.{Event}
 use Rattle.kernel_calls.specs.declared.calls.Reply.{Reply}
+use Rattle.kernel_calls.specs.declared.calls.Call.TheVariants as call
 use Rattle.kernel_calls.specs.declared.calls.Reply.TheVariants as reply
 
 -- the event is a load or a store whose walks find a frame for each page that it touches

@@ -1,40 +1,22 @@
 //! The kernel's core: one machine's memory and its processes.
 
-ghost use Rattle.std.specs.Prelude.{◌≡◌, ◌↔◌, ℕ, ◌+◌, ◌*◌, ◌<◌, ◌≤◌, true, false, Some, IfOk, IfErr, IfSome, IfNone, IsErrOf, length, map, slice_get, slice_index};
-ghost use Rattle.std.specs.List.{range_with_len};
-ghost use Rattle.address_space.specs.View.{directory_of};
-ghost use Rattle.page_words.specs.Addresses.{page_number, offset_number, IsUserPage};
-ghost use Rattle.address_space.specs.Stays.{FramesStay, LooseStay, WaysAgree, none_goes};
-ghost use Rattle.address_space.specs.Walks.{WalksAgree};
-ghost use Rattle.address_space.specs.ByWalk.{with_walked};
-ghost use Rattle.process_table.specs.State.{open_with, container_of, is_live, is_mapped};
-ghost use Rattle.process_table.specs.Parts.{after_loads, after_stores};
-ghost use Rattle.page_words.specs.FiniteMap as finite_map;
-ghost use Rattle.page_sharing.specs.Offers.{offer_key, offer_number};
-ghost use Rattle.process_table.specs.Restored.{image_in, RootIsItsParent};
-ghost use Rattle.process_table.specs.Image.{StandsFor, IsSoundImage, image_of, memory_of};
-ghost use Rattle.process_table.specs.WellFormed.{IsWellFormed, total};
-ghost use Rattle.address_space.specs.Image.{LeavesRoom, takes_stores};
-ghost use Rattle.address_space.specs.Spaces.{zeros, need, at_page, slot_at, byte_at};
-ghost use Rattle.phys_memory.specs.Bytes.{frame_bytes};
-ghost use Rattle.kernel_calls.specs.Authority.{HearTheirOwn, KeepsBorders};
+ghost use Rattle.kernel_calls.specs.Below.{◌≡◌, ◌↔◌, ℕ, ◌+◌, ◌*◌, ◌<◌, ◌≤◌, true, false, Some, IfOk, IfErr, IfSome, IfNone, IsErrOf, length, map, slice_get, slice_index, range_with_len, directory_of, page_number, offset_number, IsUserPage, FramesStay, LooseStay, WaysAgree, none_goes, WalksAgree, with_walked, open_with, container_of, is_live, is_mapped, after_loads, after_stores, offer_key, offer_number, image_in, RootIsItsParent, StandsFor, IsSoundImage, image_of, memory_of, IsWellFormed, total, LeavesRoom, takes_stores, zeros, need, at_page, slot_at, byte_at, frame_bytes};
 ghost use Rattle.kernel_calls.specs.Cleaned.{is_dirty_at, cleaned, EndsMarks};
-ghost use Rattle.kernel_calls.specs.Effects.{IsServed};
-ghost use Rattle.kernel_calls.specs.Families.{IsUnreached};
 ghost use Rattle.kernel_calls.specs.Isolation.{IsIsolated};
 ghost use Rattle.kernel_calls.specs.Lazy.{LeavesLazy};
 ghost use Rattle.kernel_calls.specs.Pages.{page_in};
 ghost use Rattle.kernel_calls.specs.Machine.{answer, next, answers, end_of, completes, none_completes};
 ghost use Rattle.kernel_calls.specs.Decisions.{decision_of, charge_in, charge_after};
-ghost use Rattle.kernel_calls.specs.declared.translations.Ended.TheVariants as end;
 ghost use Rattle.kernel_calls.specs.Gone.{gone_by, gives_back};
 ghost use Rattle.kernel_calls.specs.Along.{EndsInOrder};
 ghost use Rattle.kernel_calls.specs.Processors.{IsCore};
 ghost use Rattle.kernel_calls.specs.Translations.{ended_by, of_call, Ends};
 ghost use Rattle.kernel_calls.specs.Written.{WritesItsOwn};
+ghost use Rattle.page_words.specs.FiniteMap as finite_map;
+ghost use Rattle.kernel_calls.specs.declared.translations.Ended.TheVariants as end;
 
 use crate::calls::{Decision, Event, Outcome, Reply};
-use crate::decisions::{decided, judge};
+use crate::decisions::judge;
 use crate::pages::PageState;
 use crate::replies::reply_once;
 use crate::translations::{self, Ended};
@@ -137,7 +119,12 @@ impl Core {
         ensures charge { result.used_after ≡ charge_after self.now.state event.now }
     {
         let judged = judge(&self.processes, event);
-        decided(event, &judged)
+        Decision {
+            event: *event,
+            plan: judged.plan,
+            reply: judged.reply,
+            used_after: judged.used_after,
+        }
     }
 
     /// Which cached translations an event ends: a processor that keeps what its walks gave has to invalidate these
@@ -171,24 +158,6 @@ impl Core {
         ensures writes { WritesItsOwn self.old self.new decision.event }
     {
         self.step(&decision.event)
-    }
-
-    /// The reply to an event, which is carried out.
-    #[inline(always)]
-    pub(crate) fn reply_to(&mut self, event: &Event) -> Reply
-        ensures reply { result ≡ answer self.old.state event.now }
-        ensures state { self.new.state ≡ next self.old.state event.now }
-        ensures stay { FramesStay (gone_by self.old.state event.now) (memory_of self.old) (memory_of self.new) }
-        ensures loose { gives_back event.now.call ≡ true → LooseStay (memory_of self.old) (memory_of self.new) }
-        ensures stands { StandsFor (image_of self.new) self.new.state }
-        ensures ends { Ends (ended_by self.old event.now) self.old self.new }
-        ensures kept { completes result ≡ false → self.new ≡ self.old }
-        ensures lazy { LeavesLazy self.old event.now result self.new }
-    {
-        self.stands();
-        let reply = reply_once(&mut self.processes, event);
-        self.stands();
-        reply
     }
 
     /// Decides an event and carries it out, as `step` does, and gives the charge too: what `decide` says of the state
@@ -228,46 +197,29 @@ impl Core {
         ensures writes { WritesItsOwn self.old self.new event.now }
     {
         self.stands();
-        let reply = self.reply_to(event);
+        let reply = reply_once(&mut self.processes, event);
         self.stands();
         reply
     }
 
     /// Carries out events in order, and writes each reply in its place. If no event completes, nothing changes, not
     /// even a byte of memory. A process that the run made, and that involves no other, gets the replies that it would
-    /// get alone. Members of any set get the replies that they would get in any other run in which they make the same
-    /// calls, find the same, and others use no channel to them. A set that keeps within itself stays confined. Such a
-    /// family gets the same replies, whatever others do. A call that would complete still completes after events of
-    /// others, except for the calls that these can make impossible.
+    /// get alone.
     pub fn run(&mut self, events: &[Event], replies: &mut [Reply])
         requires { length events.now ≡ length replies.old }
         ensures replies { replies.new ≡ answers self.old.state events.now }
         ensures state { self.new.state ≡ end_of self.old.state events.now }
         ensures stands { StandsFor (image_of self.new) self.new.state }
         ensures isolated { IsIsolated self.old.state events.now replies.new }
-        ensures heard { HearTheirOwn self.old.state events.now replies.new }
-        ensures borders { KeepsBorders self.old.state events.now self.new.state }
-        ensures unreached { IsUnreached self.old.state events.now replies.new }
-        ensures served { IsServed self.old.state events.now replies.new }
         ensures ends { EndsInOrder events.now self.old self.new }
         ensures kept { none_completes replies.new ≡ true → self.new ≡ self.old }
     {
         self.stands();
-        self.run_all(events, replies);
-        self.stands();
-    }
-
-    fn run_all(&mut self, events: &[Event], replies: &mut [Reply])
-        requires { length events.now ≡ length replies.old }
-        ensures replies { replies.new ≡ answers self.old.state events.now }
-        ensures state { self.new.state ≡ end_of self.old.state events.now }
-        ensures ends { EndsInOrder events.now self.old self.new }
-        ensures kept { none_completes replies.new ≡ true → self.new ≡ self.old }
-    {
         for (i, event) in events.iter().enumerate() {
             replies[i] = self.step(event);
             self.stands();
         }
+        self.stands();
     }
 
     /// Decides an event and carries it out, and reports which translations it ended. Each processor that cached what

@@ -1,15 +1,10 @@
 //! What is decided of an event: its plan, its reply and the charge of its process afterwards.
 
-ghost use Rattle.std.specs.Prelude.{◌≡◌, true, Some};
-ghost use Rattle.address_space.specs.Spaces.{cost};
-ghost use Rattle.process_table.specs.State.{is_live, container_of};
-ghost use Rattle.process_table.specs.Calls.{loaded};
-ghost use Rattle.fault_handler.specs.Plans.{plan_at, goes_on};
+ghost use Rattle.kernel_calls.specs.Below.{◌≡◌, true, Some, cost, is_live, container_of, loaded, plan_at, goes_on, access_places};
+ghost use Rattle.kernel_calls.specs.Decisions.{judged_of, refusal_of, reply_of, reply_to, tested, spawned, planned, quota_told};
 ghost use Rattle.table_walk.specs.declared.Access.TheVariants as access;
 ghost use Rattle.kernel_calls.specs.declared.calls.Call.TheVariants as call;
 ghost use Rattle.kernel_calls.specs.declared.calls.Reply.TheVariants as reply;
-ghost use Rattle.process_table.specs.Places.{access_places};
-ghost use Rattle.kernel_calls.specs.Decisions.{judged_of, refusal_of, reply_of, reply_to, tested, spawned, planned, quota_told};
 
 use crate::calls::{Call, Decision, Event, Reply};
 use address_space::Cell;
@@ -282,23 +277,5 @@ pub(crate) fn judge(processes: &Processes, event: &Event) -> Judgement
     match processes.container(event.pid) {
         Some(container) => decide_live(processes, event, &container),
         None => refusal(Cause::NoProcess, 0),
-    }
-}
-
-/// The decision of an event, from its judgement.
-pub(crate) fn decided(event: &Event, judged: &Judgement) -> Decision
-    ensures { result ≡ record {
-      event = event.now;
-      plan = judged.now.plan;
-      reply = judged.now.reply;
-      used_after =
-          judged.now.used_after;
-    } }
-{
-    Decision {
-        event: *event,
-        plan: judged.plan,
-        reply: judged.reply,
-        used_after: judged.used_after,
     }
 }

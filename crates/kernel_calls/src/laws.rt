@@ -3,9 +3,7 @@
 ghost use Rattle.kernel_calls.specs.Along.{KeptThroughRuns};
 ghost use Rattle.kernel_calls.specs.Laws.{RunsStayWellFormed};
 ghost use Rattle.kernel_calls.specs.Kept.{KeptFind, KeptReply, KeptLoads, KeptStores};
-ghost use Rattle.kernel_calls.specs.Processors.{ProcessorsMakeEvents, EntriesLeadThere, CoresAreWalked};
-ghost use Rattle.kernel_calls.specs.Processors.{WalksLeaveCores, StoresLeaveCores, MarksLeaveCores};
-ghost use Rattle.kernel_calls.specs.Processors.{WalksTakeNoFrame, WalksKeepContainers};
+ghost use Rattle.kernel_calls.specs.Processors.{ProcessorsMakeEvents, EntriesLeadThere, CoresAreWalked, WalksLeaveCores, StoresLeaveCores, MarksLeaveCores, WalksTakeNoFrame, WalksKeepContainers};
 ghost use Rattle.kernel_calls.specs.Translations.{KeptAreGiven};
 
 /// Every state of a run of a machine that boots is well formed, and all its live processes together

@@ -1,15 +1,13 @@
 //! The reply to an event, which is carried out: each call is tested and made by one function.
 
-ghost use Rattle.std.specs.Prelude.{◌≡◌, false, true};
-ghost use Rattle.address_space.specs.Stays.{LooseStay};
-ghost use Rattle.process_table.specs.Image.{memory_of};
+ghost use Rattle.kernel_calls.specs.Below.{◌≡◌, false, true, LooseStay, memory_of};
 ghost use Rattle.kernel_calls.specs.Decisions.{call_of, done_told, child_told};
 ghost use Rattle.kernel_calls.specs.Lazy.{LeavesLazy};
 ghost use Rattle.kernel_calls.specs.Gone.{gives_back};
 ghost use Rattle.kernel_calls.specs.Machine.{answer};
 ghost use Rattle.kernel_calls.specs.Replied.{IsReplied};
-ghost use Rattle.kernel_calls.specs.declared.calls.Call.TheVariants as call;
 ghost use Rattle.kernel_calls.specs.declared.calls.Event.{Event};
+ghost use Rattle.kernel_calls.specs.declared.calls.Call.TheVariants as call;
 
 use crate::calls::{Call, Event, Reply};
 use crate::decisions::{fault_told, info_told, quota_told, value_told};
@@ -20,11 +18,11 @@ use table_walk::Access;
 
 /// The reply to a call that is done, or refused.
 #[inline(always)]
-fn done_told(done: Result<(), Cause>) -> Reply
+fn done_told<T: Drop>(done: Result<T, Cause>) -> Reply
     ensures { result ≡ done_told done }
 {
     match done {
-        Ok(()) => Reply::Done,
+        Ok(_) => Reply::Done,
         Err(cause) => Reply::Refused(cause),
     }
 }
@@ -92,106 +90,6 @@ fn reply_store(
     }
 }
 
-/// The reply to a map.
-#[inline(always)]
-fn reply_map(processes: &mut Processes, event: &Event, page: Page, write: bool) -> Reply
-    requires { event.now.call ≡ call.Map page write }
-    ensures made { IsReplied processes.old event.now result processes.new }
-    ensures lazy { LeavesLazy processes.old event.now result processes.new }
-{
-    done_told(processes.try_map(event.pid, page, write))
-}
-
-/// The reply to an unmap.
-#[inline(always)]
-fn reply_unmap(processes: &mut Processes, event: &Event, page: Page) -> Reply
-    requires { event.now.call ≡ call.Unmap page }
-    ensures made { IsReplied processes.old event.now result processes.new }
-    ensures loose { LooseStay (memory_of processes.old) (memory_of processes.new) }
-{
-    done_told(processes.try_unmap(event.pid, page))
-}
-
-/// The reply to a protect.
-#[inline(always)]
-fn reply_protect(processes: &mut Processes, event: &Event, page: Page, write: bool) -> Reply
-    requires { event.now.call ≡ call.Protect page write }
-    ensures { IsReplied processes.old event.now result processes.new }
-{
-    done_told(processes.try_protect(event.pid, page, write))
-}
-
-/// The reply to an offer.
-#[inline(always)]
-fn reply_offer(
-    processes: &mut Processes,
-    event: &Event,
-    page: Page,
-    target: Pid,
-    write: bool,
-) -> Reply
-    requires { event.now.call ≡ call.Offer page target write }
-    ensures { IsReplied processes.old event.now result processes.new }
-{
-    done_told(processes.try_offer(event.pid, page, target, write))
-}
-
-/// The reply to a withdraw.
-#[inline(always)]
-fn reply_withdraw(processes: &mut Processes, event: &Event, page: Page, target: Pid) -> Reply
-    requires { event.now.call ≡ call.Withdraw page target }
-    ensures { IsReplied processes.old event.now result processes.new }
-{
-    done_told(processes.try_withdraw(event.pid, page, target))
-}
-
-/// The reply to an accept.
-#[inline(always)]
-fn reply_accept(
-    processes: &mut Processes,
-    event: &Event,
-    giver: Pid,
-    giver_page: Page,
-    page: Page,
-) -> Reply
-    requires { event.now.call ≡ call.Accept giver giver_page page }
-    ensures { IsReplied processes.old event.now result processes.new }
-{
-    match processes.try_accept(event.pid, giver, giver_page, page) {
-        Ok(_) => Reply::Done,
-        Err(cause) => Reply::Refused(cause),
-    }
-}
-
-/// The reply to a spawn.
-#[inline(always)]
-fn reply_spawn(processes: &mut Processes, event: &Event, quota: u32) -> Reply
-    requires { event.now.call ≡ call.Spawn quota }
-    ensures { IsReplied processes.old event.now result processes.new }
-{
-    child_told(processes.try_spawn(event.pid, quota))
-}
-
-/// The reply to a fork.
-#[inline(always)]
-fn reply_fork(processes: &mut Processes, event: &Event, quota: u32) -> Reply
-    requires { event.now.call ≡ call.Fork quota }
-    ensures made { IsReplied processes.old event.now result processes.new }
-    ensures lazy { LeavesLazy processes.old event.now result processes.new }
-{
-    child_told(processes.try_fork(event.pid, quota))
-}
-
-/// The reply to an exit.
-#[inline(always)]
-fn reply_exit(processes: &mut Processes, event: &Event) -> Reply
-    requires { event.now.call ≡ call.Exit }
-    ensures made { IsReplied processes.old event.now result processes.new }
-    ensures loose { LooseStay (memory_of processes.old) (memory_of processes.new) }
-{
-    done_told(processes.try_exit(event.pid))
-}
-
 /// The reply to a process that asks about a page.
 #[inline(never)]
 fn info_of(processes: &Processes, pid: Pid, page: Page) -> Reply
@@ -208,18 +106,6 @@ fn info_of(processes: &Processes, pid: Pid, page: Page) -> Reply
     }
 }
 
-/// The reply to a Quota call.
-#[inline(always)]
-fn reply_quota(processes: &Processes, event: &Event) -> Reply
-    requires { event.now.call ≡ call.Quota }
-    ensures { result ≡ answer processes.now.state event.now }
-{
-    match processes.container(event.pid) {
-        Some(container) => quota_told(&container),
-        None => Reply::Refused(Cause::NoProcess),
-    }
-}
-
 /// The reply to an event, which is carried out.
 #[inline(always)]
 pub(crate) fn reply_once(processes: &mut Processes, event: &Event) -> Reply
@@ -227,27 +113,31 @@ pub(crate) fn reply_once(processes: &mut Processes, event: &Event) -> Reply
     ensures loose { gives_back event.now.call ≡ true → LooseStay (memory_of processes.old) (memory_of processes.new) }
     ensures lazy { LeavesLazy processes.old event.now result processes.new }
 {
+    let pid = event.pid;
     match event.call {
         Call::Load { addr, size } => reply_load(processes, event, addr, size),
         Call::Store { addr, size, value } => reply_store(processes, event, addr, size, value),
-        Call::Map { page, write } => reply_map(processes, event, page, write),
-        Call::Unmap { page } => reply_unmap(processes, event, page),
-        Call::Protect { page, write } => reply_protect(processes, event, page, write),
-        Call::Info { page } => info_of(processes, event.pid, page),
+        Call::Map { page, write } => done_told(processes.try_map(pid, page, write)),
+        Call::Unmap { page } => done_told(processes.try_unmap(pid, page)),
+        Call::Protect { page, write } => done_told(processes.try_protect(pid, page, write)),
+        Call::Info { page } => info_of(processes, pid, page),
         Call::Offer {
             page,
             target,
             write,
-        } => reply_offer(processes, event, page, target, write),
-        Call::Withdraw { page, target } => reply_withdraw(processes, event, page, target),
+        } => done_told(processes.try_offer(pid, page, target, write)),
+        Call::Withdraw { page, target } => done_told(processes.try_withdraw(pid, page, target)),
         Call::Accept {
             giver,
             giver_page,
             page,
-        } => reply_accept(processes, event, giver, giver_page, page),
-        Call::Spawn { quota } => reply_spawn(processes, event, quota),
-        Call::Fork { quota } => reply_fork(processes, event, quota),
-        Call::Exit => reply_exit(processes, event),
-        Call::Quota => reply_quota(processes, event),
+        } => done_told(processes.try_accept(pid, giver, giver_page, page)),
+        Call::Spawn { quota } => child_told(processes.try_spawn(pid, quota)),
+        Call::Fork { quota } => child_told(processes.try_fork(pid, quota)),
+        Call::Exit => done_told(processes.try_exit(pid)),
+        Call::Quota => match processes.container(pid) {
+            Some(container) => quota_told(&container),
+            None => Reply::Refused(Cause::NoProcess),
+        },
     }
 }

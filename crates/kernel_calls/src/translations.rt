@@ -1,15 +1,9 @@
 //! Which cached translations an event ends.
 
-ghost use Rattle.std.specs.Prelude.{◌≡◌, if◌then◌else◌};
-ghost use Rattle.std.specs.Option.{option_and_then};
-ghost use Rattle.page_words.specs.Addresses.{second_page};
-ghost use Rattle.address_space.specs.Spaces.{at_page};
-ghost use Rattle.address_space.specs.Image.{takes_stores};
-ghost use Rattle.process_table.specs.Image.{memory_of};
-ghost use Rattle.process_table.specs.WellFormed.{IsWellFormed};
-ghost use Rattle.kernel_calls.specs.declared.translations.Ended.TheVariants as end;
+ghost use Rattle.kernel_calls.specs.Below.{◌≡◌, if◌then◌else◌, option_and_then, second_page, at_page, takes_stores, memory_of, IsWellFormed};
 ghost use Rattle.kernel_calls.specs.Machine.{completes};
 ghost use Rattle.kernel_calls.specs.Translations.{if_lazy, of_pages, of_call};
+ghost use Rattle.kernel_calls.specs.declared.translations.Ended.TheVariants as end;
 
 use crate::calls::{Call, Event, Reply};
 use page_words::{Page, Pid, Size, Vaddr, page_of, second_page};

@@ -1,21 +1,5 @@
 -- The first cause that applies to a call, and the first byte of an access that faults.
-use Rattle.kernel_laws.proofs.Prelude
-use Prelude.{◌≡◌, ℕ, zero, suc, ◌+◌, ◌<◌, ◌≤◌, ◌++◌, ◌==◌, ◌&&◌, Bool, true, false, not, List, [], ◌∷◌, refl, sym, ap}
-use Prelude.{subst, ◌∙◌, Option, Some, None, is_some, is_none, unwrap_or, arith, inl, inr, nat_lt, nat_le, ◌⊎◌, ◌↔◌}
-use Prelude.{if◌then◌else◌, IfSome, All, range_with_len, option_map, not-false, ltb-true, leb-true, lt-ltb, le-leb}
-use Prelude.{cases_eq, cases_lt, eqb-true, eq-eqb, same_Some, All-nil, All-cons, All-tail, covered, page_number}
-use Prelude.{second_page, is_user_page, IsUserPage, Size, Slot, Cell, cell_or_fresh, fresh, cost, at_page, slot_at}
-use Prelude.{Book, given, quota_of, next_number, number_of_children, pending, Access, Read, Write, error_code, State}
-use Prelude.{is_live, is_mapped, room, child_of, loaded, Cause, page_is_user, user_page, outside, is_read_only}
-use Prelude.{read_only, fault_or, step_of, Flags, flags_of, flags_at, IsCovered, answer, completes, refused_or}
-use Prelude.{planned_or, info_of, Call, Event, Reply}
-use Rattle.std.proofs.Common.{drop}
-use Rattle.std.specs.Prelude.{find}
-use Rattle.fault_handler.specs.declared.plans.PageStep.{PageStep}
-use Rattle.kernel_laws.specs.Causes.{own_page, asks_to_write, target_of, key_of, frames_asked, causes_of, Applies}
-use Rattle.kernel_laws.specs.Causes.{IsOutside, IsReadOnly, IsLowest, Faults}
-use Rattle.kernel_laws.specs.Causes.{CompletesUnless, RefusedByTheFirst, FaultsAtTheFirstByte}
-use Rattle.kernel_calls.proofs.UntouchedSlots.{none_in}
+use Rattle.kernel_laws.proofs.Prelude.{◌≡◌, ℕ, zero, suc, ◌+◌, ◌<◌, ◌≤◌, ◌++◌, ◌==◌, ◌&&◌, Bool, true, false, not, List, [], ◌∷◌, refl, sym, ap, subst, ◌∙◌, Option, Some, None, is_some, is_none, unwrap_or, arith, inl, inr, nat_lt, nat_le, ◌⊎◌, ◌↔◌, if◌then◌else◌, IfSome, All, range_with_len, option_map, not-false, ltb-true, leb-true, lt-ltb, le-leb, cases_eq, cases_lt, eqb-true, eq-eqb, same_Some, All-nil, All-cons, All-tail, covered, page_number, second_page, is_user_page, IsUserPage, Size, Slot, Cell, cell_or_fresh, fresh, cost, at_page, slot_at, Book, given, quota_of, next_number, number_of_children, pending, Access, Read, Write, error_code, State, is_live, is_mapped, room, child_of, loaded, Cause, page_is_user, user_page, outside, is_read_only, read_only, fault_or, step_of, Flags, flags_of, flags_at, IsCovered, answer, completes, refused_or, planned_or, info_of, Call, Event, Reply, drop, find, PageStep, own_page, asks_to_write, target_of, key_of, frames_asked, causes_of, Applies, IsOutside, IsReadOnly, IsLowest, Faults, CompletesUnless, RefusedByTheFirst, FaultsAtTheFirstByte, none_in}
 use Rattle.page_words.specs.FiniteMap as map
 use Rattle.process_table.specs.declared.causes.Cause.TheVariants as cause
 use Rattle.fault_handler.specs.declared.plans.Plan.TheVariants as plan

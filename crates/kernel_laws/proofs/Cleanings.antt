@@ -1,15 +1,5 @@
 -- What clearing accessed and dirty of a slot leaves and breaks.
-use Rattle.kernel_laws.proofs.Prelude
-use Prelude.{◌≡◌, ℕ, ◌^◌, ◌<◌, not, Bool, true, false, [], ◌∷◌, refl, sym, ap, ◌∙◌, is_some, Some, None, arith}
-use Prelude.{if◌then◌else◌, page_number, start_number, some_value, kept, Read, Write, Cell, at_page, slot_at, is_live}
-use Prelude.{View, get-inserted_other, page_is_user, cleaned, EndsMarks, answer, refused_or, info_of, info_of_page}
-use Prelude.{is_ended, Translation, IsGiven, Kept, translation, directory_entry, IsRead, AreRead, is_invalidated}
-use Prelude.{left_by, Reply, Ended}
-use Rattle.kernel_calls.specs.Cleaned.{CleaningKeepsStates, CleaningIsUnseen, KeptThroughMarks, KeptAmongMarks}
-use Rattle.kernel_calls.specs.Cleaned.{CleaningIsNoEvent, CleaningShows}
-use Rattle.process_table.proofs.SpaceLaws.{well_formed-cleaned}
-use Rattle.kernel_calls.proofs.Leaving.{entry_left, through}
-use Rattle.kernel_calls.proofs.Cleanings.{clean, there, get_clean, same_at}
+use Rattle.kernel_laws.proofs.Prelude.{◌≡◌, ℕ, ◌^◌, ◌<◌, not, Bool, true, false, [], ◌∷◌, refl, sym, ap, ◌∙◌, is_some, Some, None, arith, if◌then◌else◌, page_number, start_number, some_value, kept, Read, Write, Cell, at_page, slot_at, is_live, View, get-inserted_other, page_is_user, cleaned, EndsMarks, answer, refused_or, info_of, info_of_page, is_ended, Translation, IsGiven, Kept, translation, directory_entry, IsRead, AreRead, is_invalidated, left_by, Reply, Ended, CleaningKeepsStates, CleaningIsUnseen, KeptThroughMarks, KeptAmongMarks, CleaningIsNoEvent, CleaningShows, well_formed-cleaned, entry_left, through, clean, there, get_clean, same_at}
 use Rattle.page_words.specs.FiniteMap as map
 use Rattle.process_table.specs.declared.causes.Cause.TheVariants as cause
 use Rattle.kernel_calls.specs.declared.calls.Reply.TheVariants as reply

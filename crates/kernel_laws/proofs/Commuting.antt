@@ -1,11 +1,5 @@
 -- Changes of slots of one process and accesses of another, in either order.
-use Rattle.kernel_laws.proofs.Prelude
-use Prelude.{◌≡◌, ◌≢◌, ℕ, suc, ◌+◌, ◌<◌, Bool, true, false, cond, List, [], ◌∷◌, length, refl, ap, sym, ◌∙◌, subst}
-use Prelude.{arith, Option, Some, None, unwrap_or, is_some, ◌⊎◌, if◌then◌else◌, option_map, page_number, offset_number}
-use Prelude.{same, Set, same_or_not, same_map, get-insert, get-map_values, same_cases, Slot, slot_order, Cell, Spaces}
-use Prelude.{at_page, slot_at, cell_or_fresh, fresh, with_bytes, set_bytes, write_at, store_in, stored, all_stored}
-use Prelude.{accessed, all_accessed, with_page, with_pages, insert_there, get-inserted, get-inserted_other}
-use Rattle.kernel_calls.proofs.Commuting.{at_slot, back, swap, two_slots, group_at, SameGroups, group_stored}
+use Rattle.kernel_laws.proofs.Prelude.{◌≡◌, ◌≢◌, ℕ, suc, ◌+◌, ◌<◌, Bool, true, false, cond, List, [], ◌∷◌, length, refl, ap, sym, ◌∙◌, subst, arith, Option, Some, None, unwrap_or, is_some, ◌⊎◌, if◌then◌else◌, option_map, page_number, offset_number, same, Set, same_or_not, same_map, get-insert, get-map_values, same_cases, Slot, slot_order, Cell, Spaces, at_page, slot_at, cell_or_fresh, fresh, with_bytes, set_bytes, write_at, store_in, stored, all_stored, accessed, all_accessed, with_page, with_pages, insert_there, get-inserted, get-inserted_other, at_slot, back, swap, two_slots, group_at, SameGroups, group_stored}
 use Rattle.page_words.specs.FiniteMap as map
 use Rattle.page_words.specs.FiniteSet as set
 

@@ -1,10 +1,5 @@
 -- Pages that are copied to a new process, and accesses of another, in either order.
-use Rattle.kernel_laws.proofs.Prelude
-use Prelude.{◌≡◌, ◌≢◌, ℕ, Bool, true, false, cond, List, refl, ap, sym, ◌∙◌, subst, arith, Option, Some, unwrap_or}
-use Prelude.{ne_eqb, eqb-true, ◌⊎◌, if◌then◌else◌, option_map, same, Set, same_map, same_or_not, get-insert}
-use Prelude.{get-map_values, Slot, slot_order, Cell, Spaces, at_page, cell_or_fresh, fresh, with_bytes, set_bytes}
-use Prelude.{write_at, store_in, stored, copy_of, copied, is_of, get-copied, copied-other, get-inserted_other}
-use Rattle.kernel_calls.proofs.Commuting.{at_slot, group_at}
+use Rattle.kernel_laws.proofs.Prelude.{◌≡◌, ◌≢◌, ℕ, Bool, true, false, cond, List, refl, ap, sym, ◌∙◌, subst, arith, Option, Some, unwrap_or, ne_eqb, eqb-true, ◌⊎◌, if◌then◌else◌, option_map, same, Set, same_map, same_or_not, get-insert, get-map_values, Slot, slot_order, Cell, Spaces, at_page, cell_or_fresh, fresh, with_bytes, set_bytes, write_at, store_in, stored, copy_of, copied, is_of, get-copied, copied-other, get-inserted_other, at_slot, group_at}
 use Rattle.kernel_laws.proofs.Commuting.{unchanged, Commutes}
 use Rattle.page_words.specs.FiniteMap as map
 use Rattle.page_words.specs.FiniteSet as set

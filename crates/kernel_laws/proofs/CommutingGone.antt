@@ -1,11 +1,6 @@
 -- Slots that go and accesses of another process, in either order.
-use Rattle.kernel_laws.proofs.Prelude
-use Prelude.{◌≡◌, ℕ, Bool, true, false, not, cond, ◌&&◌, List, refl, ap, sym, ◌∙◌, subst, Option, Some, None, arith}
-use Prelude.{◌⊎◌, option_map, same, Set, same_map, same_set, same_or_not, get-insert, contains-retain, Slot, slot_order}
-use Prelude.{Cell, Spaces, at_page, cell_or_fresh, with_holders, set_bytes, write_at, stored, without}
-use Rattle.kernel_calls.proofs.Commuting.{at_slot, group_at, group_set}
+use Rattle.kernel_laws.proofs.Prelude.{◌≡◌, ℕ, Bool, true, false, not, cond, ◌&&◌, List, refl, ap, sym, ◌∙◌, subst, Option, Some, None, arith, ◌⊎◌, option_map, same, Set, same_map, same_set, same_or_not, get-insert, contains-retain, Slot, slot_order, Cell, Spaces, at_page, cell_or_fresh, with_holders, set_bytes, write_at, stored, without, at_slot, group_at, group_set, fewer, get_gone, bytes_gone}
 use Rattle.kernel_laws.proofs.Commuting.{Commutes}
-use Rattle.kernel_calls.proofs.CommutingGone.{fewer, get_gone, bytes_gone}
 use Rattle.page_words.specs.FiniteMap as map
 use Rattle.page_words.specs.FiniteSet as set
 

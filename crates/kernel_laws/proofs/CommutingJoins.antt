@@ -1,10 +1,5 @@
 -- A slot that joins a group, and accesses of another process, in either order.
-use Rattle.kernel_laws.proofs.Prelude
-use Prelude.{◌≡◌, ◌≢◌, ℕ, Bool, true, false, cond, List, ap, sym, ◌∙◌, arith, Option, Some, unwrap_or, ◌⊎◌}
-use Prelude.{if◌then◌else◌, option_map, same, Set, same_map, same_or_not, get-insert, get-map_values, Slot, slot_order}
-use Prelude.{Cell, Spaces, at_page, cell_or_fresh, fresh, with_bytes, with_holders, set_bytes, set_holders, write_at}
-use Prelude.{store_in, stored, join_in, joined, get-inserted_other}
-use Rattle.kernel_calls.proofs.Commuting.{at_slot, swap, group_at}
+use Rattle.kernel_laws.proofs.Prelude.{◌≡◌, ◌≢◌, ℕ, Bool, true, false, cond, List, ap, sym, ◌∙◌, arith, Option, Some, unwrap_or, ◌⊎◌, if◌then◌else◌, option_map, same, Set, same_map, same_or_not, get-insert, get-map_values, Slot, slot_order, Cell, Spaces, at_page, cell_or_fresh, fresh, with_bytes, with_holders, set_bytes, set_holders, write_at, store_in, stored, join_in, joined, get-inserted_other, at_slot, swap, group_at}
 use Rattle.kernel_laws.proofs.Commuting.{group_apart, unchanged, Commutes, IsOut}
 use Rattle.page_words.specs.FiniteMap as map
 use Rattle.page_words.specs.FiniteSet as set

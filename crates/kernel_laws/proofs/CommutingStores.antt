@@ -1,11 +1,6 @@
 -- Stores of two processes into groups that have nothing in common, in either order.
-use Rattle.kernel_laws.proofs.Prelude
-use Prelude.{◌≡◌, ◌≢◌, ℕ, Bool, true, false, List, ap, sym, ◌∙◌, arith, Option, unwrap_or, if◌then◌else◌, option_map}
-use Prelude.{Set, same_map, get-map_values, Slot, slot_order, Cell, Spaces, at_page, cell_or_fresh, fresh, with_bytes}
-use Prelude.{set_bytes, write_at, store_in, stored, all_stored, with_pages, get-inserted_other}
-use Rattle.kernel_laws.proofs.Commuting.{unchanged, group_apart, stored_apart, Commutes, EachFree, IsOut, slot_commutes}
-use Rattle.kernel_laws.proofs.Commuting.{store_through}
-use Rattle.kernel_calls.proofs.Commuting.{swap, group_at}
+use Rattle.kernel_laws.proofs.Prelude.{◌≡◌, ◌≢◌, ℕ, Bool, true, false, List, ap, sym, ◌∙◌, arith, Option, unwrap_or, if◌then◌else◌, option_map, Set, same_map, get-map_values, Slot, slot_order, Cell, Spaces, at_page, cell_or_fresh, fresh, with_bytes, set_bytes, write_at, store_in, stored, all_stored, with_pages, get-inserted_other, swap, group_at}
+use Rattle.kernel_laws.proofs.Commuting.{unchanged, group_apart, stored_apart, Commutes, EachFree, IsOut, slot_commutes, store_through}
 use Rattle.page_words.specs.FiniteMap as map
 use Rattle.page_words.specs.FiniteSet as set
 

@@ -1,25 +1,5 @@
 -- The effect of each call that completes, and the slots that become unmapped.
-use Rattle.kernel_laws.proofs.Prelude
-use Prelude.{◌≡◌, ◌≢◌, ℕ, zero, suc, ◌+◌, ◌-◌, ◌<◌, ◌≤◌, ◌/◌, ◌%◌, Bool, true, false, List, [], ◌∷◌, length, replicate}
-use Prelude.{refl, sym, ap, subst, ◌∙◌, Option, Some, None, is_some, unwrap_or, arith, inl, inr, IsTrue, ◌⊎◌}
-use Prelude.{slice_index, IfSome, option_map, page_number, offset_number, byte_count, second_page, page_and, touched}
-use Prelude.{EachTouched, Size, same, same_itself, get-insert, contains-insert, some_value, no_value, same_cases, Slot}
-use Prelude.{slot_order, Cell, Spaces, at_page, slot_at, fresh, cell_or_fresh, bytes_of, with_pages, set_holders}
-use Prelude.{set_bytes, write_at, accessed, stored, all_accessed, all_stored, AreThere, IsThere, first_there}
-use Prelude.{rest_there, touched-there, bytes_there, each_byte, offer_key, Write, State, is_live, is_mapped}
-use Prelude.{map_refusal, accept_refusal, offered, after_load, after_store, after_accept, IsWellFormed, get-inserted}
-use Prelude.{get-inserted_other, may_map, may_accept, well_formed-bytes, well_formed-touched, plan_of, step_of, Goes}
-use Prelude.{ready, all_user, same_cells, flags_of, flags_at, byte_in, shares, Tells, IsCovered, IsStoredAt, IsTogether}
-use Prelude.{Does, DoneMeansDone, SlotsGo, answer, answer_of, after, next, completes, Call, Event, in_lone}
-use Rattle.kernel_calls.proofs.Consent.{sharing_by_consent}
-use Rattle.kernel_calls.proofs.Decided.{next-goes}
-use Rattle.kernel_laws.proofs.GivenUp.{exits_end, unmaps_end, offers_end}
-use Rattle.kernel_calls.proofs.RightfulChanges.{marks_all_stored}
-use Rattle.kernel_calls.proofs.Runs.{not-refused, went-on}
-use Rattle.kernel_calls.proofs.Stays.{sharing_stays}
-use Rattle.kernel_calls.proofs.Tellings.{completes_by_kind}
-use Rattle.kernel_calls.proofs.Untouched.{caller_live}
-use Rattle.kernel_calls.proofs.UntouchedSlots.{own_byte, new_in, own_cell, still_there, many_bytes}
+use Rattle.kernel_laws.proofs.Prelude.{◌≡◌, ◌≢◌, ℕ, zero, suc, ◌+◌, ◌-◌, ◌<◌, ◌≤◌, ◌/◌, ◌%◌, Bool, true, false, List, [], ◌∷◌, length, replicate, refl, sym, ap, subst, ◌∙◌, Option, Some, None, is_some, unwrap_or, arith, inl, inr, IsTrue, ◌⊎◌, slice_index, IfSome, option_map, page_number, offset_number, byte_count, second_page, page_and, touched, EachTouched, Size, same, same_itself, get-insert, contains-insert, some_value, no_value, same_cases, Slot, slot_order, Cell, Spaces, at_page, slot_at, fresh, cell_or_fresh, bytes_of, with_pages, set_holders, set_bytes, write_at, accessed, stored, all_accessed, all_stored, AreThere, IsThere, first_there, rest_there, touched-there, bytes_there, each_byte, offer_key, Write, State, is_live, is_mapped, map_refusal, accept_refusal, offered, after_load, after_store, after_accept, IsWellFormed, get-inserted, get-inserted_other, may_map, may_accept, well_formed-bytes, well_formed-touched, plan_of, step_of, Goes, ready, all_user, same_cells, flags_of, flags_at, byte_in, shares, Tells, IsCovered, IsStoredAt, IsTogether, Does, DoneMeansDone, SlotsGo, answer, answer_of, after, next, completes, Call, Event, in_lone, sharing_by_consent, next-goes, exits_end, unmaps_end, offers_end, marks_all_stored, not-refused, went-on, sharing_stays, completes_by_kind, caller_live, own_byte, new_in, own_cell, still_there, many_bytes}
 use Rattle.page_words.specs.FiniteMap as map
 use Rattle.page_words.specs.FiniteSet as set
 use Rattle.kernel_calls.specs.declared.calls.Call.TheVariants as call

@@ -1,25 +1,10 @@
 -- An access and an event of another process, in either order.
-use Rattle.kernel_laws.proofs.Prelude
-use Prelude.{◌≡◌, ◌≢◌, ℕ, ◌+◌, ◌<◌, ◌≤◌, ◌||◌, Bool, true, false, refl, ap, sym, ◌∙◌, inr, arith, Option, Some, None}
-use Prelude.{unwrap_or, is_some, subst, length, eq-eqb, eqb-true, ne_eqb, option_map, byte_count, touched, Size, same}
-use Prelude.{Set, contains-insert, same-true, same_apart, Slot, slot_order, Cell, Spaces, at_page, slot_at}
-use Prelude.{cell_or_fresh, fresh, bytes_of, without, is_slot, is_of, length-bytes_of, offer_key, State, is_live}
-use Prelude.{child_of, IsWellFormed, HaveTheSame, LooksSame, Sees, IsUnseen, IsQuietCall, is_offered, found}
-use Prelude.{accept_refusal, offered, fork_refusal, child_free, no_page, may_fork, may_accept, answer, answer_of, after}
-use Prelude.{next, completes, Call, Event, or-true}
-use Rattle.kernel_laws.specs.Beside.{only, InEitherOrder, AccessesBeside, OrdersEndTheSame, is_access}
-use Rattle.kernel_calls.proofs.Commuting.{at_slot, group_at}
-use Rattle.kernel_laws.proofs.Commuting.{Commutes, EachFree, IsOut, load_through, store_through, slot_commutes}
-use Rattle.kernel_laws.proofs.Commuting.{load_commutes}
+use Rattle.kernel_laws.proofs.Prelude.{◌≡◌, ◌≢◌, ℕ, ◌+◌, ◌<◌, ◌≤◌, ◌||◌, Bool, true, false, refl, ap, sym, ◌∙◌, inr, arith, Option, Some, None, unwrap_or, is_some, subst, length, eq-eqb, eqb-true, ne_eqb, option_map, byte_count, touched, Size, same, Set, contains-insert, same-true, same_apart, Slot, slot_order, Cell, Spaces, at_page, slot_at, cell_or_fresh, fresh, bytes_of, without, is_slot, is_of, length-bytes_of, offer_key, State, is_live, child_of, IsWellFormed, HaveTheSame, LooksSame, Sees, IsUnseen, IsQuietCall, is_offered, found, accept_refusal, offered, fork_refusal, child_free, no_page, may_fork, may_accept, answer, answer_of, after, next, completes, Call, Event, or-true, only, InEitherOrder, AccessesBeside, OrdersEndTheSame, is_access, at_slot, group_at, next-stays, next-goes, outsiders_unseen, not-refused, caller_live, members_told_the_same}
+use Rattle.kernel_laws.proofs.Commuting.{Commutes, EachFree, IsOut, load_through, store_through, slot_commutes, load_commutes}
 use Rattle.kernel_laws.proofs.CommutingForks.{copied_commutes}
 use Rattle.kernel_laws.proofs.CommutingGone.{NoneWith, gone_commutes}
 use Rattle.kernel_laws.proofs.CommutingJoins.{joined_commutes}
 use Rattle.kernel_laws.proofs.CommutingStores.{IsBeside, store_commutes}
-use Rattle.kernel_calls.proofs.Decided.{next-stays, next-goes}
-use Rattle.kernel_calls.proofs.Outsiders.{outsiders_unseen}
-use Rattle.kernel_calls.proofs.Runs.{not-refused}
-use Rattle.kernel_calls.proofs.Untouched.{caller_live}
-use Rattle.kernel_laws.proofs.OwnViews.{members_told_the_same}
 use Rattle.page_words.specs.FiniteMap as map
 use Rattle.page_words.specs.FiniteSet as set
 use Rattle.kernel_calls.specs.declared.calls.Call.TheVariants as call

@@ -1,17 +1,5 @@
 -- The flags of a slot that stays mapped change only if its process accesses or protects it.
-use Rattle.kernel_laws.proofs.Prelude
-use Prelude.{◌≡◌, ℕ, zero, suc, ◌+◌, ◌<◌, ◌≤◌, ◌/◌, ◌%◌, Bool, true, false, List, [], ◌∷◌, refl, sym, ap, ◌∙◌, Option}
-use Prelude.{Some, None, arith, inl, inr, ◌⊎◌, if◌then◌else◌, IfSome, option_map, page_number, offset_number}
-use Prelude.{second_page, page_and, touched, Size, Set, get-map_values, some_value, same_cases, Slot, slot_order, Cell}
-use Prelude.{Spaces, at_page, slot_at, cell_or_fresh, bytes_of, with_page, with_pages, with_bytes, with_holders}
-use Prelude.{set_holders, set_bytes, write_at, accessed, stored, all_accessed, all_stored, without, copied-other}
-use Prelude.{with_page-keeps, left, get-without, State, is_mapped, child_of, fork_refusal, offered, IsWellFormed}
-use Prelude.{fork_free, live_differ, get-inserted_other, Flags, flags_of, flags_at, Maps, FlagsChange, answer}
-use Prelude.{answer_of, after, next, completes, Call, Event}
-use Rattle.kernel_calls.proofs.Decided.{next-stays, next-goes}
-use Rattle.kernel_calls.proofs.Effects.{Touches, first_touched, second_touched}
-use Rattle.kernel_calls.proofs.Runs.{not-refused}
-use Rattle.kernel_calls.proofs.Untouched.{caller_live}
+use Rattle.kernel_laws.proofs.Prelude.{◌≡◌, ℕ, zero, suc, ◌+◌, ◌<◌, ◌≤◌, ◌/◌, ◌%◌, Bool, true, false, List, [], ◌∷◌, refl, sym, ap, ◌∙◌, Option, Some, None, arith, inl, inr, ◌⊎◌, if◌then◌else◌, IfSome, option_map, page_number, offset_number, second_page, page_and, touched, Size, Set, get-map_values, some_value, same_cases, Slot, slot_order, Cell, Spaces, at_page, slot_at, cell_or_fresh, bytes_of, with_page, with_pages, with_bytes, with_holders, set_holders, set_bytes, write_at, accessed, stored, all_accessed, all_stored, without, copied-other, with_page-keeps, left, get-without, State, is_mapped, child_of, fork_refusal, offered, IsWellFormed, fork_free, live_differ, get-inserted_other, Flags, flags_of, flags_at, Maps, FlagsChange, answer, answer_of, after, next, completes, Call, Event, next-stays, next-goes, Touches, first_touched, second_touched, not-refused, caller_live}
 use Rattle.page_words.specs.FiniteMap as map
 use Rattle.page_words.specs.FiniteSet as set
 use Rattle.kernel_calls.specs.declared.calls.Call.TheVariants as call

@@ -1,4 +1,3 @@
-pub mod Availability
 pub mod Causes
 pub mod Cleanings
 pub mod Commuting
@@ -7,15 +6,11 @@ pub mod CommutingGone
 pub mod CommutingJoins
 pub mod CommutingStores
 pub mod Cpus
-pub mod Discreet
 pub mod Effects
 pub mod EitherOrder
 pub mod FlagChanges
-pub mod GivenUp
-pub mod Newborns
 pub mod OthersKeep
 pub mod OthersStand
 pub mod OwnActs
 pub mod OwnRuns
-pub mod OwnViews
 pub mod Prelude

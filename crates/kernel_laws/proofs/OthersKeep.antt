@@ -1,22 +1,8 @@
 -- What runs of some processes' events leave of the state to all others.
-use Rattle.kernel_laws.proofs.Prelude
-use Prelude.{◌≡◌, ◌≢◌, ◌∙◌, ℕ, Bool, true, false, List, [], ◌∷◌, Option, Some, None, refl, sym, ap, inl, inr, arith}
-use Prelude.{is_some, unwrap_or, option_map, slice_index, Slot, Cell, slot_at, cell_or_fresh, get-inserted_other}
-use Prelude.{Flags, flags_of, flags_at, shares, cleaned, next, Event}
-use Rattle.std.proofs.lemmas.List.{get_or_default, same_lists}
+use Rattle.kernel_laws.proofs.Prelude.{◌≡◌, ◌≢◌, ◌∙◌, ℕ, Bool, true, false, List, [], ◌∷◌, Option, Some, None, refl, sym, ap, inl, inr, arith, is_some, unwrap_or, option_map, slice_index, Slot, Cell, slot_at, cell_or_fresh, get-inserted_other, Flags, flags_of, flags_at, shares, cleaned, next, Event, get_or_default, same_lists, Member, quota_of, State, is_live, IsWellFormed, end_of, IsUntouched, sharing_by_consent, changes_are_rightful, kept-next, integrity, AreOwn, IsOwn}
+use Rattle.authority_laws.proofs.Confined.{back}
 use Rattle.page_words.specs.FiniteMap as map
 use Rattle.page_words.specs.FiniteSet as set
-use Rattle.quota_tree.specs.Book.{Member, quota_of}
-use Rattle.process_table.specs.State.{State, is_live}
-use Rattle.process_table.specs.WellFormed.{IsWellFormed}
-use Rattle.kernel_calls.specs.Machine.{end_of}
-use Rattle.kernel_calls.specs.Authority.{IsUntouched}
-use Rattle.kernel_calls.proofs.Confined.{back}
-use Rattle.kernel_calls.proofs.Consent.{sharing_by_consent}
-use Rattle.kernel_calls.proofs.RightfulChanges.{changes_are_rightful}
-use Rattle.kernel_calls.proofs.Runs.{kept-next}
-use Rattle.kernel_calls.proofs.Untouched.{integrity}
-use Rattle.kernel_laws.specs.OwnRuns.{AreOwn, IsOwn}
 
 -- none of these processes has a page of the slot's group
 abbrev pub IsAlone : State → (ℕ → Bool) → Slot → Type 0

@@ -7,8 +7,6 @@ use Rattle.alloc_table.specs.declared.Role.{Role}
 use Rattle.alloc_table.specs.declared.Role.TheVariants.{Reserved, Free, Directory, Table, Page}
 use Rattle.page_words.proofs.Flags.{table_words_by_fields}
 use Rattle.page_words.specs.Addresses.{index_number, page_number, slot_number, start_number}
-use Rattle.page_words.specs.FiniteMap as map
-use Rattle.page_words.specs.FiniteSet as set
 use Rattle.page_words.specs.Words.{frame_number, is_present, is_lazy}
 use Rattle.phys_memory.specs.Bytes.{frame_bytes}
 use Rattle.table_walk.specs.declared.Access.TheVariants.{Read}
@@ -25,7 +23,7 @@ use Rattle.kernel_calls.proofs.CoreMemory.{root_quota, walks_of, ways_of}
 use Rattle.kernel_calls.proofs.Linked.{mapped_way, tables_map}
 use Rattle.kernel_calls.proofs.WalkedReplies.{lives}
 use Rattle.kernel_calls.proofs.Writings.{Mapped, mapped_slot, slot_word, some_member, two_dir_words, two_words, unmapped_slot, word_at_slot}
-use Rattle.kernel_calls.specs.Authority.{Flags, flags_of, shares}
+use Rattle.kernel_calls.specs.Integrity.{Flags, flags_of, shares}
 use Rattle.kernel_calls.specs.Cleaned.{EndsMarks}
 use Rattle.kernel_calls.specs.Processors.{IsCore}
 use Rattle.kernel_calls.specs.Translations.{MapsInRegion, is_all_of, is_ended}
@@ -36,6 +34,8 @@ use Rattle.process_table.specs.State.{is_live}
 use Rattle.process_table.specs.View.{View}
 use Rattle.kernel_laws.proofs.OthersKeep.{IsAlone, OthersKeep}
 use Rattle.kernel_laws.specs.OwnRuns.{Leaves, MayWriteAlong, ServesAlike, WriteTheirOwn}
+use Rattle.page_words.specs.FiniteMap as map
+use Rattle.page_words.specs.FiniteSet as set
 
 -- the ways of others' pages, with their directories and tables
 pub record WaysKeep (own : ℕ → Bool) (v w : View) : Type 0 where

@@ -11,7 +11,6 @@ use Rattle.kernel_acts.specs.Transfers.{carried, loads, of_lazy_pages, stores}
 use Rattle.kernel_calls.specs.Machine.{answer, completes, end_of, next}
 use Rattle.kernel_calls.specs.Processors.{IsCore}
 use Rattle.kernel_calls.specs.declared.calls.Event.{Event}
-use Rattle.kernel_calls.specs.declared.translations.Ended.TheVariants as end
 use Rattle.process_table.specs.State.{State, is_mapped}
 use Rattle.process_table.specs.View.{View}
 use Rattle.kernel_laws.proofs.OthersKeep.{OthersKeep, cleaning_keeps, run_keeps}
@@ -19,6 +18,7 @@ use Rattle.kernel_laws.proofs.OthersStand.{EndOfThese, GoOfThese, leaves, ways_b
 use Rattle.kernel_laws.proofs.OwnRuns.{leaving_composes}
 use Rattle.kernel_laws.specs.OwnActs.{CleaningWritesItsOwn, CopiesWriteTheirOwn, InstallsWriteTheirOwn, LoadsWriteTheirOwn, ReadsWriteTheirOwn, only}
 use Rattle.kernel_laws.specs.OwnRuns.{AreOwn, WriteTheirOwn}
+use Rattle.kernel_calls.specs.declared.translations.Ended.TheVariants as end
 
 -- ---- Whose events they are
 

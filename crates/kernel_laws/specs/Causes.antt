@@ -9,7 +9,7 @@ use Rattle.quota_tree.specs.Book.{number_of_children}
 use Rattle.page_sharing.specs.Offers.{OfferKey, offer_key, pending}
 use Rattle.process_table.specs.State.{State, is_live, is_mapped, room, extra_cost}
 use Rattle.process_table.specs.declared.causes.Cause.{Cause}
-use Rattle.kernel_calls.specs.Authority.{Flags, flags_at}
+use Rattle.kernel_calls.specs.Integrity.{Flags, flags_at}
 use Rattle.kernel_calls.specs.Effects.{IsCovered}
 use Rattle.kernel_calls.specs.Machine.{answer, completes}
 use Rattle.kernel_calls.specs.declared.calls.Call.{Call}

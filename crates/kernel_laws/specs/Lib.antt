@@ -1,7 +1,10 @@
 pub mod Beside
 pub mod Causes
+pub mod Cleaning
 pub mod Cpus
+pub mod Effects
 pub mod OwnActs
+pub mod OwnEvents
 pub mod OwnRuns
 pub mod WorkedAccesses
 pub mod WorkedAuthority

@@ -12,8 +12,8 @@ use Rattle.kernel_acts.specs.Transfers.{carried, loads, of_lazy_pages, stores}
 use Rattle.kernel_calls.specs.Cleaned.{EndsMarks, cleaned}
 use Rattle.kernel_calls.specs.Machine.{end_of}
 use Rattle.kernel_calls.specs.Processors.{IsCore}
-use Rattle.kernel_calls.specs.declared.translations.Ended.TheVariants as end
 use Rattle.kernel_laws.specs.OwnRuns.{WriteTheirOwn}
+use Rattle.kernel_calls.specs.declared.translations.Ended.TheVariants as end
 
 -- this process alone
 abbrev pub only : ℕ → ℕ → Bool

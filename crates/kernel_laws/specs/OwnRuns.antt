@@ -5,11 +5,11 @@ use Rattle.alloc_table.specs.declared.Role.TheVariants.{Free, Page}
 use Rattle.kernel_calls.specs.Along.{EndAlong, EndsInOrder}
 use Rattle.kernel_calls.specs.Processors.{IsCore}
 use Rattle.kernel_calls.specs.Written.{IsOf, StandsAsBefore}
-use Rattle.kernel_calls.specs.declared.calls.Call.TheVariants as call
 use Rattle.kernel_calls.specs.declared.calls.Event.{Event}
 use Rattle.kernel_calls.specs.declared.translations.Ended.{Ended}
 use Rattle.process_table.specs.Image.{memory_of}
 use Rattle.process_table.specs.View.{View}
+use Rattle.kernel_calls.specs.declared.calls.Call.TheVariants as call
 
 -- the event is of one of these processes, and no Accept, which may take a lazy page of another
 pub record IsOwn (own : ℕ → Bool) (e : Event) : Type 0 where

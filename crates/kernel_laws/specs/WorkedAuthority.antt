@@ -2,7 +2,7 @@
 use Rattle.std.proofs.Common.{◌≡◌, ◌==◌, Bool, true, false, List, [], ◌∷◌, map as each, Some, None}
 use Rattle.page_words.specs.declared.addresses.Size.TheVariants.{Four}
 use Rattle.process_table.specs.State.{State, open_with}
-use Rattle.kernel_calls.specs.Authority.{members_at_end, heard}
+use Rattle.authority_laws.specs.Authority.{members_at_end, heard}
 use Rattle.kernel_calls.specs.Isolation.{exchanges}
 use Rattle.kernel_calls.specs.Machine.{end_of}
 use Rattle.kernel_calls.specs.declared.calls.Event.{Event}

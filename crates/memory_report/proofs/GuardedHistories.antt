@@ -1,14 +1,14 @@
 -- The replies of members of sets in a legal history, and that confined sets stay so.
 use Rattle.std.proofs.Common.{◌≡◌, ℕ, List, ◌++◌, sym, ap, subst, ◌∙◌}
-use Rattle.kernel_calls.specs.Authority.{HearTheirOwn, KeepsBorders}
-use Rattle.kernel_calls.specs.Effects.{IsServed}
-use Rattle.kernel_calls.specs.Families.{IsUnreached}
+use Rattle.authority_laws.specs.Authority.{HearTheirOwn, KeepsBorders}
+use Rattle.authority_laws.specs.Availability.{IsServed}
+use Rattle.authority_laws.specs.Families.{IsUnreached}
 use Rattle.kernel_calls.specs.Machine.{end_of}
 use Rattle.kernel_calls.specs.declared.calls.Reply.{Reply}
-use Rattle.kernel_calls.proofs.Confined.{runs_keep_borders}
-use Rattle.kernel_calls.proofs.Hearing.{members_hear_the_same, families_hear_their_own}
+use Rattle.authority_laws.proofs.Confined.{runs_keep_borders}
+use Rattle.authority_laws.proofs.Hearing.{members_hear_the_same, families_hear_their_own}
 use Rattle.kernel_calls.proofs.Runs.{kept-run, end_of-append}
-use Rattle.kernel_calls.proofs.Served.{runs_are_served}
+use Rattle.authority_laws.proofs.Served.{runs_are_served}
 use Rattle.memory_report.proofs.HistoryLemmas.{events-append, later_replies}
 use Rattle.memory_report.proofs.IsolatedHistories.{opens_well}
 use Rattle.memory_report.specs.Histories.{events_of, state_after, Legal}

@@ -1,9 +1,9 @@
 -- Histories: lists of log entries, their states, and which of them are legal.
 use Rattle.std.specs.Prelude.{◌≡◌, ◌≤◌, ℕ, ◌==◌, List, ◌∷◌, ◌++◌, map, length, filter, nat_lt, if◌then◌else◌}
-use Rattle.kernel_calls.specs.Authority.{HearTheirOwn, KeepsBorders}
+use Rattle.authority_laws.specs.Authority.{HearTheirOwn, KeepsBorders}
 use Rattle.kernel_calls.specs.Decisions.{charge_after}
-use Rattle.kernel_calls.specs.Effects.{IsServed}
-use Rattle.kernel_calls.specs.Families.{IsUnreached}
+use Rattle.authority_laws.specs.Availability.{IsServed}
+use Rattle.authority_laws.specs.Families.{IsUnreached}
 use Rattle.kernel_calls.specs.Isolation.{Exchange, IsIsolated}
 use Rattle.kernel_calls.specs.Machine.{answer, answers, end_of}
 use Rattle.kernel_calls.specs.declared.calls.Call.{Call}

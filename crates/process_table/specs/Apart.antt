@@ -1,14 +1,8 @@
 -- Processes that have nothing to do with the others, and when two such have the same.
-use Rattle.std.proofs.Common.{◌≡◌, ◌≢◌, ℕ, Bool, false, IsTrue, List, map, Option, Some}
-use Rattle.std.specs.Option.{option_map}
-use Rattle.page_words.specs.FiniteMap as map
-use Rattle.page_words.specs.FiniteMap.{Map, nat_order}
-use Rattle.page_words.specs.FiniteSet as set
-use Rattle.page_words.specs.FiniteSet.{Set}
-use Rattle.address_space.specs.Spaces.{Slot, slot_order, Cell, pages_of, at_page}
-use Rattle.quota_tree.specs.Book.{number_of_children, quota_of}
-use Rattle.page_sharing.specs.Offers.{OfferKey}
+use Rattle.process_table.specs.Below.{◌≡◌, ◌≢◌, ℕ, Bool, false, IsTrue, List, map, Option, Some, option_map, Map, nat_order, Set, Slot, slot_order, Cell, pages_of, at_page, number_of_children, quota_of, OfferKey}
 use Rattle.process_table.specs.State.{State, is_live}
+use Rattle.page_words.specs.FiniteMap as map
+use Rattle.page_words.specs.FiniteSet as set
 
 -- what a process has at a mapped page, whoever shares it
 pub record Held : Type 0 where

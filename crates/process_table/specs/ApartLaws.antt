@@ -1,17 +1,13 @@
 -- Laws on processes apart: a process's replies and the effects of its calls depend on what it has alone, and the calls
 -- of others leave it as it was.
-use Rattle.std.proofs.Common.{◌≡◌, ◌≢◌, ℕ, Bool, true, [], ◌∷◌, Option, None}
-use Rattle.page_words.specs.FiniteMap as map
-use Rattle.page_words.specs.FiniteSet as set
-use Rattle.page_words.specs.Addresses.{touched}
-use Rattle.page_words.specs.declared.addresses.Size.{Size}
-use Rattle.quota_tree.specs.Book.{given}
-use Rattle.address_space.specs.Spaces.{cost, at_page, cell_or_fresh}
+use Rattle.process_table.specs.Below.{◌≡◌, ◌≢◌, ℕ, Bool, true, [], ◌∷◌, Option, None, touched, Size, given, cost, at_page, cell_or_fresh}
 use Rattle.process_table.specs.State.{State, is_live, is_mapped, overdrawn, child_of}
 use Rattle.process_table.specs.Calls.{map_refusal, unmap_refusal, protect_refusal, withdraw_refusal, accept_refusal, spawn_refusal, fork_refusal, exit_refusal, loaded, after_map, after_unmap, after_protect, after_offer, after_withdraw, after_accept, after_spawn, after_fork, after_exit, after_load, after_store}
 use Rattle.process_table.specs.WellFormed.{IsWellFormed}
 use Rattle.process_table.specs.Apart.{IsApart, AreAlike, held_in, pages_held, alone_with}
 use Rattle.process_table.specs.declared.causes.Cause.{Cause}
+use Rattle.page_words.specs.FiniteMap as map
+use Rattle.page_words.specs.FiniteSet as set
 
 -- two alike processes get the same
 abbrev pub IsToldAlike : {A : Type 0} → (State → ℕ → A) → Type 0

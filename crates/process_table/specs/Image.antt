@@ -1,15 +1,9 @@
 -- What a machine shows outside, when that is sound, and which state it represents.
-use Rattle.std.specs.Prelude.{◌≡◌, ℕ, ◌+◌, ◌≤◌, ◌&&◌, ◌==◌, not, true, if◌then◌else◌, IsTrue, length, Option, Some, None, is_some, sum_by}
-use Rattle.std.specs.Option.{option_map}
-use Rattle.std.specs.List.{range_with_len}
-use Rattle.page_words.specs.FiniteMap as map
-use Rattle.page_words.specs.FiniteMap.{nat_order}
-use Rattle.address_space.specs.Image as memory
-use Rattle.address_space.specs.Image.{directory_at, table_at, page_word, IsCount}
-use Rattle.quota_tree.specs.Book.{Member, given}
+use Rattle.process_table.specs.Below.{◌≡◌, ℕ, ◌+◌, ◌≤◌, ◌&&◌, ◌==◌, not, true, if◌then◌else◌, IsTrue, length, Option, Some, None, is_some, sum_by, option_map, range_with_len, nat_order, directory_at, table_at, page_word, IsCount, Member, given, cost, at_page}
 use Rattle.process_table.specs.State.{State}
 use Rattle.process_table.specs.View.{View}
-use Rattle.address_space.specs.Spaces.{cost, at_page}
+use Rattle.page_words.specs.FiniteMap as map
+use Rattle.address_space.specs.Image as memory
 
 -- what an image has of a live process
 pub record Account : Type 0 where

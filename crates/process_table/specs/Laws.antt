@@ -1,13 +1,10 @@
 -- Laws on the calls: each that is not refused keeps states well formed, and such states cost no more than the root's
 -- quota.
-use Rattle.std.proofs.Common.{◌≡◌, ◌≤◌, ℕ, Bool, true, false, None}
-use Rattle.page_words.specs.Addresses.{touched, IsUserPage, EachTouched}
-use Rattle.page_words.specs.declared.addresses.Size.{Size}
-use Rattle.page_words.specs.FiniteMap as map
-use Rattle.quota_tree.specs.Book.{quota_of}
+use Rattle.process_table.specs.Below.{◌≡◌, ◌≤◌, ℕ, Bool, true, false, None, touched, IsUserPage, EachTouched, Size, quota_of}
 use Rattle.process_table.specs.State.{State, open_with, is_live, overdrawn}
 use Rattle.process_table.specs.Calls.{map_refusal, protect_refusal, offer_refusal, accept_refusal, spawn_refusal, exit_refusal, after_map, after_unmap, after_protect, after_offer, after_withdraw, after_accept, after_spawn, after_exit, after_load, after_store, fork_refusal, after_fork}
 use Rattle.process_table.specs.WellFormed.{IsWellFormed, total}
+use Rattle.page_words.specs.FiniteMap as map
 
 -- a machine of two frames or more, as it boots
 abbrev pub OpeningIsWellFormed : Type 0

@@ -1,13 +1,14 @@
 pub mod Apart
 pub mod ApartLaws
+pub mod Below
 pub mod Calls
 pub mod Image
 pub mod Laws
 pub mod Parts
 pub mod Places
+pub mod Restored
 pub mod State
+pub mod TestAnswers
 pub mod View
 pub mod WellFormed
-pub mod TestAnswers
-pub mod Restored
 pub mod Words

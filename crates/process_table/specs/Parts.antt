@@ -1,7 +1,5 @@
 -- The state after accesses to bytes in a row, of one mapped page.
-use Rattle.std.proofs.Common.{ℕ, List}
-use Rattle.page_words.specs.Addresses.{offset_number}
-use Rattle.address_space.specs.Spaces.{accessed, stored, slot_at}
+use Rattle.process_table.specs.Below.{ℕ, List, offset_number, accessed, stored, slot_at}
 use Rattle.process_table.specs.State.{State}
 
 -- after loads of bytes from an address on

@@ -1,10 +1,5 @@
 -- The places of the pages of a call, each found by one lookup.
-use Rattle.std.specs.Prelude.{ℕ, if◌then◌else◌, Option, Some, None}
-use Rattle.std.specs.Option.{option_and_then}
-use Rattle.page_words.specs.Addresses.{page_number, second_page, is_user_page}
-use Rattle.page_words.specs.declared.addresses.Size.{Size}
-use Rattle.address_space.specs.declared.place.Place.{Place}
-use Rattle.address_space.specs.Places.{place_in}
+use Rattle.process_table.specs.Below.{ℕ, if◌then◌else◌, Option, Some, None, option_and_then, page_number, second_page, is_user_page, Size, Place, place_in}
 use Rattle.process_table.specs.View.{View}
 use Rattle.process_table.specs.declared.places.Places.{Places}
 

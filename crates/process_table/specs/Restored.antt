@@ -1,11 +1,7 @@
 -- An image by the fields that a machine is made of.
-use Rattle.std.specs.Prelude.{◌≡◌, ℕ, List, Option, Some}
-use Rattle.std.specs.Option.{option_map}
-use Rattle.alloc_table.specs.declared.Role.{Role}
-use Rattle.address_space.specs.Image.{image_from}
-use Rattle.quota_tree.specs.declared.accounts.Account as quota_tree
-use Rattle.quota_tree.specs.Accounts.{account_at}
+use Rattle.process_table.specs.Below.{◌≡◌, ℕ, List, Option, Some, option_map, Role, image_from, account_at}
 use Rattle.process_table.specs.Image.{Account, Image}
+use Rattle.quota_tree.specs.declared.accounts.Account as quota_tree
 
 -- the account of an image's record
 abbrev pub account_told : quota_tree.Account → Account

@@ -1,11 +1,6 @@
 -- The machine's state: spaces, book and offers, what a process has room for, and what is known of it.
-use Rattle.std.proofs.Common.{ℕ, ◌-◌, Bool, nat_lt, List, Option}
-use Rattle.std.specs.Option.{option_map, unwrap_or}
+use Rattle.process_table.specs.Below.{ℕ, ◌-◌, Bool, nat_lt, List, Option, option_map, unwrap_or, Slot, Spaces, cost, with_pages, Book, Member, given, quota_of, number_of_children, next_number, Container, Offers}
 use Rattle.page_words.specs.FiniteMap as map
-use Rattle.address_space.specs.Spaces.{Slot, Spaces, cost, with_pages}
-use Rattle.quota_tree.specs.Book.{Book, Member, given, quota_of, number_of_children, next_number}
-use Rattle.quota_tree.specs.declared.Container.{Container}
-use Rattle.page_sharing.specs.Offers.{Offers}
 
 -- the state: the spaces, the book and the offers
 pub record State : Type 0 where

@@ -1,18 +1,9 @@
 -- What the processes are seen as: the machine's state, and what memory itself holds of it.
-use Rattle.std.proofs.Common.{◌≡◌, ℕ, ◌+◌, List, Option, refl, length}
-use Rattle.std.specs.Prelude.{is_some}
-use Rattle.std.specs.Coded.{Coded, code_by, coded×, coded_list, coded_ℕ, coded_option}
-use Rattle.page_words.specs.FiniteMap as map
-use Rattle.alloc_table.specs.declared.Role.{Role}
-use Rattle.address_space.specs.Spaces.{Spaces, cost}
-use Rattle.address_space.specs.Codes.{spaces_code}
-use Rattle.address_space.specs.View as frames
-use Rattle.address_space.specs.View.{role_code, directory_of}
-use Rattle.quota_tree.specs.Book.{Book, book_code, quota_of}
-use Rattle.quota_tree.specs.Containers.{Containers, IsLive, used_of}
-use Rattle.page_sharing.specs.Offers.{Offers, offers_code}
+use Rattle.process_table.specs.Below.{◌≡◌, ℕ, ◌+◌, List, Option, refl, length, is_some, Coded, code_by, coded×, coded_list, coded_ℕ, coded_option, Role, Spaces, cost, spaces_code, role_code, directory_of, Book, book_code, quota_of, Containers, IsLive, used_of, Offers, offers_code}
 use Rattle.process_table.specs.State.{State}
 use Rattle.process_table.specs.WellFormed.{IsWellFormed}
+use Rattle.page_words.specs.FiniteMap as map
+use Rattle.address_space.specs.View as frames
 
 -- a process table's model: the state, and the memory that represents it
 pub record View : Type 0 where

@@ -1,13 +1,8 @@
 -- Which states are well formed.
-use Rattle.std.proofs.Common.{◌≡◌, ℕ, ◌+◌, ◌<◌, ◌≤◌, ◌≢◌, Bool, IsTrue, length, Some, sum_by}
-use Rattle.std.specs.List.{All}
+use Rattle.process_table.specs.Below.{◌≡◌, ℕ, ◌+◌, ◌<◌, ◌≤◌, ◌≢◌, Bool, IsTrue, length, Some, sum_by, All, IsUserPage, Slot, Cell, Spaces, cost, at_page, Member, given, quota_of, OfferKey, pending}
+use Rattle.process_table.specs.State.{State, is_live}
 use Rattle.page_words.specs.FiniteMap as map
 use Rattle.page_words.specs.FiniteSet as set
-use Rattle.page_words.specs.Addresses.{IsUserPage}
-use Rattle.address_space.specs.Spaces.{Slot, Cell, Spaces, cost, at_page}
-use Rattle.quota_tree.specs.Book.{Member, given, quota_of}
-use Rattle.page_sharing.specs.Offers.{OfferKey, pending}
-use Rattle.process_table.specs.State.{State, is_live}
 
 -- a cell at its slot: 4,096 bytes, flags that agree, and a group in which each slot has the same bytes and the same
 -- group

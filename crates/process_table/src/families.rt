@@ -1,9 +1,7 @@
 //! Children, copies and exits: of each call its test and its change.
 
-ghost use Rattle.std.specs.Prelude.{Err, IfErr, IfOk, IsErr, IsOk, Ok, Some, true, ℕ, ◌≡◌};
-ghost use Rattle.process_table.specs.Words.{FramesStay, LooseStay, after_exit, after_fork, after_spawn, at_page, container_of, cost, done_unless};
-ghost use Rattle.process_table.specs.Words.{exit_answer, exit_refusal, first_cause, for_copy, fork_answer, is_lazy_at, is_live, memory_of, none_goes};
-ghost use Rattle.process_table.specs.Words.{of_process, spawn_answer, translated};
+ghost use Rattle.process_table.specs.Below.{Err, IfErr, IfOk, IsErr, IsOk, Ok, Some, true, ℕ, ◌≡◌, FramesStay, LooseStay, at_page, cost, is_lazy_at, none_goes, of_process};
+ghost use Rattle.process_table.specs.Words.{after_exit, after_fork, after_spawn, container_of, done_unless, exit_answer, exit_refusal, first_cause, for_copy, fork_answer, is_live, memory_of, spawn_answer, translated};
 
 use crate::causes::Cause;
 use crate::charges::charge_of;

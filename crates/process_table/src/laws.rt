@@ -1,8 +1,6 @@
 //! Laws of the machine's definitions. Each is the contract of a function that computes nothing.
 
-ghost use Rattle.process_table.specs.Words.{AcceptKeeps, CallsKeepAlike, CallsLeaveOthers, ChildrenBeginAlone, ExitKeeps, ForkKeeps, LoadKeeps};
-ghost use Rattle.process_table.specs.Words.{MapKeeps, OfferKeeps, OpeningIsWellFormed, ProtectKeeps, RefusalsAlike, RootStays, SpawnKeeps};
-ghost use Rattle.process_table.specs.Words.{StandsForOne, StoreKeeps, TotalIsWithin, UnmapKeeps, ValuesAlike, WithdrawKeeps};
+ghost use Rattle.process_table.specs.Words.{AcceptKeeps, CallsKeepAlike, CallsLeaveOthers, ChildrenBeginAlone, ExitKeeps, ForkKeeps, LoadKeeps, MapKeeps, OfferKeeps, OpeningIsWellFormed, ProtectKeeps, RefusalsAlike, RootStays, SpawnKeeps, StandsForOne, StoreKeeps, TotalIsWithin, UnmapKeeps, ValuesAlike, WithdrawKeeps};
 
 /// States that an image represents at most one pair of spaces and book. It computes nothing.
 pub fn images_stand_for_one()

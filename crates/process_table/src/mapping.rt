@@ -1,9 +1,7 @@
 //! Pages of a process that are mapped, unmapped and protected: of each call its test and its change.
 
-ghost use Rattle.std.specs.Prelude.{Err, IfErr, IfOk, IsErr, IsOk, None, Ok, Some, is_some, true, ℕ, ◌≡◌, ◌≢◌};
-ghost use Rattle.process_table.specs.Words.{FramesStay, LooseStay, after_map, after_protect, after_unmap, at_page, done_unless, first_cause, found_of};
-ghost use Rattle.process_table.specs.Words.{is_lazy_at, map_answer, map_refusal, memory_of, need, none_goes, of_page, place_in, protect_answer};
-ghost use Rattle.process_table.specs.Words.{protect_refusal, unmap_answer, unmap_refusal};
+ghost use Rattle.process_table.specs.Below.{Err, IfErr, IfOk, IsErr, IsOk, None, Ok, Some, is_some, true, ℕ, ◌≡◌, ◌≢◌, FramesStay, LooseStay, at_page, found_of, is_lazy_at, need, none_goes, of_page, place_in};
+ghost use Rattle.process_table.specs.Words.{after_map, after_protect, after_unmap, done_unless, first_cause, map_answer, map_refusal, memory_of, protect_answer, protect_refusal, unmap_answer, unmap_refusal};
 
 use crate::causes::Cause;
 use crate::charges::{charge_of, charge_with, take_room};
@@ -12,14 +10,13 @@ use address_space::Place;
 use page_words::{Page, Pid};
 
 impl Processes {
-    /// The place of a page that a process may map, what it needs for it, and what it would be charged for then; or the
-    /// first cause against it: NoProcess, BadPage, Mapped, Quota.
+    /// The place of a page that a process may map, and what it would be charged for then; or the first cause against
+    /// it: NoProcess, BadPage, Mapped, Quota.
     #[tactic(auto, using(crate::proofs::Refusals::test_map))]
     #[inline(always)]
-    fn place_to_map(&self, pid: Pid, page: Page) -> Result<(Place, u32, u32), Cause>
+    fn place_to_map(&self, pid: Pid, page: Page) -> Result<(Place, u32), Cause>
         ensures place { IfOk result (λ found. found.0 ≡ place_in self.now.directories self.now.bytes pid page) }
-        ensures need { IfOk result (λ found. found.1 ≡ need self.now.state.spaces pid page) }
-        ensures charge { IfOk result (λ found. map_answer self.now.state pid page ≡ Ok found.2) }
+        ensures charge { IfOk result (λ found. map_answer self.now.state pid page ≡ Ok found.1) }
         ensures cause { IfErr result (λ cause. map_answer self.now.state pid page ≡ Err cause) }
     {
         let Some(container) = self.container(pid) else {
@@ -28,8 +25,8 @@ impl Processes {
         let Some(place) = self.place(pid, page) else {
             return Err(Cause::BadPage);
         };
-        let (frames, charge) = charge_with(self, &container, pid, page, &place)?;
-        Ok((place, frames, charge))
+        let (_, charge) = charge_with(self, &container, pid, page, &place)?;
+        Ok((place, charge))
     }
 
     /// What a process would be charged for once it has mapped a page, or the first cause against it:
@@ -38,7 +35,7 @@ impl Processes {
     pub fn can_map(&self, pid: Pid, page: Page) -> Result<u32, Cause>
         ensures { result ≡ map_answer self.now.state pid page }
     {
-        Ok(self.place_to_map(pid, page)?.2)
+        Ok(self.place_to_map(pid, page)?.1)
     }
 
     /// Maps a page of zeros that the process may map, with the right to write as asked. The page is lazy. The place is
@@ -57,25 +54,7 @@ impl Processes {
             ≡ place_in self.old.directories self.old.bytes p other }
     {
         self.tells(pid, page, place);
-        self.map_with(pid, page, write, place, place.need())
-    }
-
-    /// Does what `map_at` does, with what the process needs for the page.
-    #[inline(always)]
-    fn map_with(&mut self, pid: Pid, page: Page, write: bool, place: &Place, frames: u32) -> Place
-        requires may { IsOk (map_answer self.old.state pid page) }
-        requires place { place.now ≡ place_in self.old.directories self.old.bytes pid page }
-        requires need { frames ≡ need self.old.state.spaces pid page }
-        ensures state { self.new.state ≡ after_map self.old.state pid page write }
-        ensures stay { FramesStay none_goes (memory_of self.old) (memory_of self.new) }
-        ensures lazy { is_lazy_at (memory_of self.new) (at_page pid page) ≡ true }
-        ensures place { result ≡ place_in self.new.directories self.new.bytes pid page }
-        ensures beside { (p other : ℕ) → at_page p other ≢ at_page pid page
-            → is_some (found_of (place_in self.old.directories self.old.bytes p other)) ≡ true
-            → place_in self.new.directories self.new.bytes p other
-            ≡ place_in self.old.directories self.old.bytes p other }
-    {
-        take_room(&mut self.quotas, pid, frames);
+        take_room(&mut self.quotas, pid, place.need());
         self.spaces.map_at(pid, page, write, place)
     }
 
@@ -100,8 +79,8 @@ impl Processes {
         ensures lazy { IsOk result → is_lazy_at (memory_of self.new) (at_page pid page) ≡ true }
         ensures kept { IsErr result → self.new ≡ self.old }
     {
-        let (place, frames, _) = self.place_to_map(pid, page)?;
-        self.map_with(pid, page, write, &place, frames);
+        let (place, _) = self.place_to_map(pid, page)?;
+        self.map_at(pid, page, write, &place);
         Ok(())
     }
 

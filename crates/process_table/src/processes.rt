@@ -1,16 +1,8 @@
 //! The type of the processes, and its calls.
 
-ghost use Rattle.std.specs.Prelude.{◌≡◌, ◌↔◌, ◌+◌, ◌≤◌, None, IfOk, IsErrOf, length, replicate};
+ghost use Rattle.process_table.specs.Below.{◌≡◌, ◌↔◌, ◌+◌, ◌≤◌, None, IfOk, IsErrOf, length, replicate, total_cost, opening, LeavesRoom, WaysAgree, PlacesTell, WalksAgree};
+ghost use Rattle.process_table.specs.Words.{is_live, container_of, open_with, StandsFor, image_of, memory_of, IsWellFormed, total};
 ghost use Rattle.page_words.specs.FiniteMap as map;
-ghost use Rattle.address_space.specs.View.{total_cost};
-ghost use Rattle.quota_tree.specs.Containers.{opening};
-ghost use Rattle.process_table.specs.State.{is_live, container_of, open_with};
-ghost use Rattle.process_table.specs.Image.{StandsFor, image_of, memory_of};
-ghost use Rattle.address_space.specs.Image.{LeavesRoom};
-ghost use Rattle.process_table.specs.WellFormed.{IsWellFormed, total};
-ghost use Rattle.address_space.specs.Stays.{WaysAgree};
-ghost use Rattle.address_space.specs.Places.{PlacesTell};
-ghost use Rattle.address_space.specs.Walks.{WalksAgree};
 
 use address_space::Spaces;
 use page_sharing::Offers;

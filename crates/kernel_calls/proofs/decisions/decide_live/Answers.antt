@@ -1,6 +1,4 @@
-use Rattle.kernel_calls.proofs.Prelude
-use Prelude.{ap, ◌∙◌, tested, spawned}
-use Rattle.process_table.proofs.Charged.{used-container}
+use Rattle.kernel_calls.proofs.Prelude.{ap, ◌∙◌, tested, spawned, used-container}
 use Rattle.kernel_calls.proofs.Decided.{decided-map, decided-protect, decided-offer, decided-spawn, decided-fork}
 use Rattle.kernel_calls.proofs.decisions.decide_live.Goals as goal
 

@@ -1,5 +1,4 @@
-use Rattle.kernel_calls.proofs.Prelude
-use Prelude.{arith}
+use Rattle.kernel_calls.proofs.Prelude.{arith}
 use Rattle.kernel_calls.proofs.Planned.{decided-load}
 use Rattle.kernel_calls.proofs.decisions.decide_load.Goals as goal
 

@@ -1,5 +1,4 @@
-use Rattle.kernel_calls.proofs.Prelude
-use Prelude.{arith}
+use Rattle.kernel_calls.proofs.Prelude.{arith}
 use Rattle.kernel_calls.proofs.Planned.{decided-store}
 use Rattle.kernel_calls.proofs.decisions.decide_store.Goals as goal
 

@@ -1,9 +1,5 @@
-use Rattle.kernel_calls.proofs.Prelude
-use Prelude.{ap, sym, ◌∙◌, arith, option_map, page_number, second_page, Read, goes_on, step_at, ready, all_user}
-use Rattle.address_space.specs.Places.{place_in}
-use Rattle.process_table.specs.declared.places.Places.{Places}
+use Rattle.kernel_calls.proofs.Prelude.{ap, sym, ◌∙◌, arith, option_map, page_number, second_page, Read, goes_on, step_at, ready, all_user, place_in, Places, has_place, place_known, placed_second}
 use Rattle.kernel_calls.proofs.decisions.value_by.Goals as goal
-use Rattle.process_table.proofs.Placed.{has_place, place_known, placed_second}
 
 pub unwrap-place-requires : goal.unwrap-place-requires
 unwrap-place-requires c = grind (arith, has_place, all_user, ready, c.requires.places, c.requires.plan, c.in-Ready.is)

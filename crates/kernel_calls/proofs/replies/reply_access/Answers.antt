@@ -1,6 +1,4 @@
-use Rattle.kernel_calls.proofs.Prelude
-use Prelude.{ap, sym, ◌∙◌, Err}
-use Rattle.table_walk.specs.declared.PageFault.{PageFault}
+use Rattle.kernel_calls.proofs.Prelude.{ap, sym, ◌∙◌, Err, PageFault}
 use Rattle.kernel_calls.proofs.InPage.{is_accessed, reply_by}
 use Rattle.kernel_calls.specs.declared.calls.Reply.TheVariants as reply
 use Rattle.kernel_calls.proofs.replies.reply_access.Goals as goal

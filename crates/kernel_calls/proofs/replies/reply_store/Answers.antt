@@ -1,5 +1,4 @@
-use Rattle.kernel_calls.proofs.Prelude
-use Prelude.{stays_most, rules}
+use Rattle.kernel_calls.proofs.Prelude.{stays_most, rules}
 use Rattle.kernel_calls.proofs.replies.reply_store.Goals as goal
 
 pub returns-in-Some : goal.returns-in-Some

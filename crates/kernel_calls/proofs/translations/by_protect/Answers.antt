@@ -1,5 +1,4 @@
-use Rattle.kernel_calls.proofs.Prelude
-use Prelude.{◌∙◌, ℕ, ap, sym, if◌then◌else◌, memory_of}
+use Rattle.kernel_calls.proofs.Prelude.{◌∙◌, ℕ, ap, sym, if◌then◌else◌, memory_of}
 use Rattle.kernel_calls.proofs.MayEnd.{no_place, outside_takes}
 use Rattle.kernel_calls.proofs.translations.by_protect.Goals as goal
 use Rattle.kernel_calls.specs.declared.translations.Ended.TheVariants as end

@@ -1,5 +1,4 @@
-use Rattle.kernel_laws.proofs.OwnActs.{cleaning_writes_its_own, copies_write_their_own, installs_write_their_own}
-use Rattle.kernel_laws.proofs.OwnActs.{loads_write_their_own, reads_write_their_own}
+use Rattle.kernel_laws.proofs.OwnActs.{cleaning_writes_its_own, copies_write_their_own, installs_write_their_own, loads_write_their_own, reads_write_their_own}
 use Rattle.kernel_laws.proofs.laws.acts_write_their_own.Goals as goal
 
 pub returns-clause-reads : goal.returns-clause-reads

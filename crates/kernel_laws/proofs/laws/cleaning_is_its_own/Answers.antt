@@ -1,6 +1,5 @@
-use Rattle.kernel_laws.proofs.Cleanings.{cleaning_keeps_states, cleaning_is_unseen}
+use Rattle.kernel_laws.proofs.Cleanings.{cleaning_keeps_states, cleaning_is_unseen, kept_through_marks, kept_among_marks, cleaning_is_no_event, cleaning_shows}
 use Rattle.kernel_calls.proofs.Cleanings.{events_end_marks}
-use Rattle.kernel_laws.proofs.Cleanings.{kept_through_marks, kept_among_marks, cleaning_is_no_event, cleaning_shows}
 use Rattle.kernel_laws.proofs.laws.cleaning_is_its_own.Goals as goal
 
 pub returns-clause-states : goal.returns-clause-states

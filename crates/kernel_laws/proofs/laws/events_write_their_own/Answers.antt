@@ -1,6 +1,5 @@
-use Rattle.kernel_calls.specs.Written.{EventsLeaveToOthers}
-use Rattle.kernel_calls.proofs.Writings.{events_write_their_own, ended_takes, tables_stay, directories_stay, pages_stay}
-use Rattle.kernel_calls.proofs.Writings.{zero_stays}
+use Rattle.kernel_laws.specs.OwnEvents.{EventsLeaveToOthers}
+use Rattle.kernel_calls.proofs.Writings.{events_write_their_own, ended_takes, tables_stay, directories_stay, pages_stay, zero_stays}
 use Rattle.kernel_laws.proofs.laws.events_write_their_own.Goals as goal
 
 events_leave_to_others : EventsLeaveToOthers

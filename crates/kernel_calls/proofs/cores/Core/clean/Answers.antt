@@ -1,5 +1,4 @@
-use Rattle.kernel_calls.proofs.Prelude
-use Prelude.{◌≡◌, subst, at_page, FramesStay, none_goes, memory_of, View, cleaned}
+use Rattle.kernel_calls.proofs.Prelude.{◌≡◌, subst, at_page, FramesStay, none_goes, memory_of, View, cleaned}
 use Rattle.kernel_calls.proofs.Cleanings.{cleaning_ends}
 use Rattle.kernel_calls.proofs.cores.Core.clean.Goals as goal
 

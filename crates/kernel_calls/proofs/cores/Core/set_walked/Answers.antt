@@ -1,5 +1,4 @@
-use Rattle.kernel_calls.proofs.Prelude
-use Prelude.{◌≡◌, subst, FramesStay, none_goes, memory_of, View}
+use Rattle.kernel_calls.proofs.Prelude.{◌≡◌, subst, FramesStay, none_goes, memory_of, View}
 use Rattle.kernel_calls.proofs.Leaving.{nothing_ends}
 use Rattle.kernel_calls.proofs.cores.Core.set_walked.Goals as goal
 

@@ -1,5 +1,4 @@
-use Rattle.kernel_calls.proofs.Prelude
-use Prelude.{subst, IsCore, WalksAgree, image_of, memory_of, View, WaysAgree}
+use Rattle.kernel_calls.proofs.Prelude.{subst, IsCore, WalksAgree, image_of, memory_of, View, WaysAgree}
 use Rattle.kernel_calls.proofs.cores.Core.stands.Goals as goal
 
 pub returns-clause-walks : goal.returns-clause-walks

@@ -1,9 +1,0 @@
-use Rattle.kernel_calls.proofs.Prelude
-use Prelude.{refl}
-use Rattle.kernel_calls.proofs.Tried.{is_done}
-use Rattle.kernel_calls.proofs.replies.reply_offer.Goals as goal
-
-pub returns : goal.returns
-returns c =
-    let made = c.try_offer.ensures in
-    is_done _ _ _ _ _ _ _ c.requires _ refl (λ slot f. refl) made.result made.state made.stay made.kept c.done_told.ensures

@@ -1,9 +1,0 @@
-use Rattle.kernel_laws.proofs.Newborns.{families_end_the_same}
-use Rattle.kernel_laws.proofs.Newborns.{newborns_are_families}
-use Rattle.kernel_laws.proofs.laws.newborns_are_families.Goals as goal
-
-pub returns-clause-newborns : goal.returns-clause-newborns
-returns-clause-newborns c = newborns_are_families
-
-pub returns-clause-ends : goal.returns-clause-ends
-returns-clause-ends c = families_end_the_same
