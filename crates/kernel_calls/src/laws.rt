@@ -15,6 +15,7 @@ pub fn runs_stay_well_formed()
 /// States what holds of translations that processors cached from walks of memory. Each event's are invalidated on all
 /// of them before anything else is done, and more are cached only if a walk gives them. Then walks of memory give all
 /// that is cached, at each moment. Each event leaves of them what `Core::step` says (`ends`). It computes nothing.
+#[tactic(auto, using(crate::proofs::Leaving::kept_given, crate::proofs::Leaving::kept_through_runs))]
 pub fn kept_translations_are_given()
     ensures moments { KeptAreGiven }
     ensures runs { KeptThroughRuns }
@@ -23,6 +24,7 @@ pub fn kept_translations_are_given()
 /// States which accesses kept translations that the walks give still serve. The walks find a frame for each page of
 /// such an access, so a processor makes it by itself. A load finds what is at the end of the walks, which is the reply,
 /// and the event changes nothing. Of a store, accessed and dirty of each page are already set. It computes nothing.
+#[tactic(auto, using(crate::proofs::KeptAccesses::kept_find, crate::proofs::KeptAccesses::kept_reply, crate::proofs::KeptAccesses::kept_loads, crate::proofs::KeptAccesses::kept_stores))]
 pub fn kept_translations_serve_accesses()
     ensures find { KeptFind }
     ensures reply { KeptReply }
@@ -53,6 +55,7 @@ pub fn processors_leave_cores()
 /// order of the steps. Memory is a core's in the state after them. At each moment the walks read all that any processor
 /// caches. So a walk that begins at a cached directory entry ends as the walk of the directory does. It computes
 /// nothing.
+#[tactic(auto, using(crate::proofs::MixedRuns::processors_make_events, crate::proofs::KeptEntries::entries_lead_there))]
 pub fn processors_make_events()
     ensures steps { ProcessorsMakeEvents }
     ensures entries { EntriesLeadThere }

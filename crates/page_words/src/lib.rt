@@ -19,4 +19,6 @@ pub use faults::{MachineFault, WideFault, is_frame_count, is_wide_frame_count};
 pub use maps::{
     keys_are_told_apart, maps_are_their_answers, sets_are_their_members, values_change_by_key,
 };
-pub use words::{DirWord, TableWord, fields_stand_alone, kernel_words_by_fields};
+pub use words::{
+    DirWord, OfDirectory, OfTable, TableWord, Word, fields_stand_alone, kernel_words_by_fields,
+};

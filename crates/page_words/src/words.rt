@@ -4,7 +4,7 @@ ghost use Rattle.page_words.specs.Words.{flag, with_flag, frame_number, word_wit
 ghost use Rattle.page_words.specs.Words.{DirWordsByFields, TableWordsByFields, FlagsStandAlone, FrameStandsAlone};
 
 use super::addresses::Frame;
-use std::marker::Model;
+use std::marker::{Model, PhantomData};
 
 const PRESENT: u32 = 0;
 
@@ -58,31 +58,49 @@ fn naming(word: u32, frame: Frame) -> u32
     (frame.0 << 12) | (word & 0xfff)
 }
 
-/// A word of a page directory: it leads to the table of 1,024 pages.
-///
-/// Source of the bits: Intel SDM, volume 3, 32-bit paging, format of a page-directory entry that
-/// references a page table.
+/// A kind of words: of page directories, or of page tables.
 #[derive(Clone, Copy, Debug, PartialEq, Eq)]
-pub struct DirWord {
+pub struct OfDirectory;
+
+/// The kind of the words of page tables.
+#[derive(Clone, Copy, Debug, PartialEq, Eq)]
+pub struct OfTable;
+
+/// A word of a page directory, which leads to the table of 1,024 pages, or of a page table, which leads to one page.
+///
+/// Source of the bits: Intel SDM, volume 3, 32-bit paging, formats of a page-directory entry that references a page
+/// table, and of a page-table entry that maps a 4-KByte page. Of the latter the processor ignores bits 11 to 9.
+#[derive(Clone, Copy, Debug, PartialEq, Eq)]
+pub struct Word<K> {
     word: u32,
+    kind: PhantomData<K>,
 }
 
-impl Model for DirWord {
+/// A word of a page directory.
+pub type DirWord = Word<OfDirectory>;
+
+/// A word of a page table.
+pub type TableWord = Word<OfTable>;
+
+impl<K> Model for Word<K> {
     ghost use Rattle.std.specs.Prelude.{ℕ};
 
     ghost Value = { ℕ };
 
     ghost view = { λ w. w.word };
 
-    ghost inverse = { λ n. record { word = n } };
+    ghost inverse = { λ n. record { word = n; kind = record {} } };
 }
 
-impl DirWord {
+impl<K> Word<K> {
     /// The word with these 32 bits; every number is one.
-    pub fn read(word: u32) -> DirWord
+    pub fn read(word: u32) -> Word<K>
         ensures { result ≡ word }
     {
-        DirWord { word }
+        Word {
+            word,
+            kind: PhantomData,
+        }
     }
 
     /// The 32 bits.
@@ -165,84 +183,7 @@ impl DirWord {
     }
 }
 
-/// A word of a page table: it leads to one page.
-///
-/// Source of the bits: Intel SDM, volume 3, 32-bit paging, format of a page-table entry that maps a
-/// 4-KByte page. Bits 11 to 9 are ignored by the processor.
-#[derive(Clone, Copy, Debug, PartialEq, Eq)]
-pub struct TableWord {
-    word: u32,
-}
-
-impl Model for TableWord {
-    ghost use Rattle.std.specs.Prelude.{ℕ};
-
-    ghost Value = { ℕ };
-
-    ghost view = { λ w. w.word };
-
-    ghost inverse = { λ n. record { word = n } };
-}
-
-impl TableWord {
-    /// The word with these 32 bits; every number is one.
-    pub fn read(word: u32) -> TableWord
-        ensures { result ≡ word }
-    {
-        TableWord { word }
-    }
-
-    /// The 32 bits.
-    pub fn word(self) -> u32
-        ensures { result ≡ self }
-    {
-        self.word
-    }
-
-    /// The frame that it names (bits 31 to 12).
-    pub fn frame(self) -> Frame
-        ensures value { result ≡ frame_number self }
-        ensures bound { result < 2 ^ 20 }
-    {
-        frame_in(self.word)
-    }
-
-    /// Names another frame, below 2 to the 20; all flags stay.
-    pub fn set_frame(&mut self, frame: Frame)
-        requires { frame < 2 ^ 20 }
-        ensures { self.new ≡ word_with_frame self.old frame }
-    {
-        self.word = naming(self.word, frame);
-    }
-
-    /// Whether it is present (bit 0, P): else the processor reads nothing else of it.
-    pub fn present(self) -> bool
-        ensures { result ≡ is_present self }
-    {
-        bit(self.word, PRESENT)
-    }
-
-    /// Whether it lets accesses write (bit 1, R/W).
-    pub fn writable(self) -> bool
-        ensures { result ≡ is_writable self }
-    {
-        bit(self.word, WRITABLE)
-    }
-
-    /// Whether it lets accesses in user mode through (bit 2, U/S).
-    pub fn user(self) -> bool
-        ensures { result ≡ is_user self }
-    {
-        bit(self.word, USER)
-    }
-
-    /// Whether an access has gone through it (bit 5, A).
-    pub fn accessed(self) -> bool
-        ensures { result ≡ is_accessed self }
-    {
-        bit(self.word, ACCESSED)
-    }
-
+impl Word<OfTable> {
     /// Whether a write has gone to its page (bit 6, D).
     pub fn dirty(self) -> bool
         ensures { result ≡ is_dirty self }
@@ -272,34 +213,6 @@ impl TableWord {
         ensures { result ≡ is_granted self }
     {
         bit(self.word, GRANTED)
-    }
-
-    /// Sets or clears bit 0, and no other bit.
-    pub fn set_present(&mut self, value: bool)
-        ensures { self.new ≡ with_flag self.old 0 value }
-    {
-        self.word = set_bit(self.word, PRESENT, value);
-    }
-
-    /// Sets or clears bit 1, and no other bit.
-    pub fn set_writable(&mut self, value: bool)
-        ensures { self.new ≡ with_flag self.old 1 value }
-    {
-        self.word = set_bit(self.word, WRITABLE, value);
-    }
-
-    /// Sets or clears bit 2, and no other bit.
-    pub fn set_user(&mut self, value: bool)
-        ensures { self.new ≡ with_flag self.old 2 value }
-    {
-        self.word = set_bit(self.word, USER, value);
-    }
-
-    /// Sets or clears bit 5, and no other bit.
-    pub fn set_accessed(&mut self, value: bool)
-        ensures { self.new ≡ with_flag self.old 5 value }
-    {
-        self.word = set_bit(self.word, ACCESSED, value);
     }
 
     /// Sets or clears bit 6, and no other bit.
