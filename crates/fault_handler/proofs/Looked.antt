@@ -1,6 +1,5 @@
 -- One lookup of each page of an access gives its plan and its charge.
-use Rattle.fault_handler.proofs.Prelude
-use Prelude.{◌≡◌, ℕ, ◌+◌, nat_lt, arith, Bool, true, not, ◌&&◌, cond, refl, sym, ap, ◌∙◌, Option, Some, None, if◌then◌else◌, option_map, option_and_then, page_number, slot_number, start_number, second_page, touched, Size, first_by_page, crosses, Spaces, at_page, cost, page_need, access_need, regions_of, pages_of, Access, Read, Write, extra_touched, View, Quota, Plan, outside, is_read_only, forbidden, fault_or, goes_on, look_of, planned_by_looks, ◌-◌, ◌==◌, look_behind, barred, need_by, fault_by, planned_at, need-in_one, need-in_two, second_need, Container, State, room, extra_cost, container_of}
+use Rattle.fault_handler.proofs.Prelude.{◌≡◌, ℕ, ◌+◌, nat_lt, arith, Bool, true, not, ◌&&◌, cond, refl, sym, ap, ◌∙◌, Option, Some, None, if◌then◌else◌, option_map, option_and_then, page_number, slot_number, start_number, second_page, touched, Size, first_by_page, crosses, Spaces, at_page, cost, page_need, access_need, regions_of, pages_of, Access, Read, Write, extra_touched, View, Quota, Plan, outside, is_read_only, forbidden, fault_or, goes_on, look_of, planned_by_looks, ◌-◌, ◌==◌, look_behind, barred, need_by, fault_by, planned_at, need-in_one, need-in_two, second_need, Container, State, room, extra_cost, container_of}
 use Rattle.process_table.proofs.Charged.{used-container}
 use Rattle.fault_handler.specs.declared.plans.Look.{Look}
 use Rattle.page_words.specs.FiniteMap as map

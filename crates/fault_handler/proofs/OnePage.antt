@@ -1,6 +1,5 @@
 -- An access in one page of the user range: what it plans, by whether its page is mapped.
-use Rattle.fault_handler.proofs.Prelude
-use Prelude.{◌≡◌, ℕ, nat_lt, arith, true, false, [], ◌∷◌, refl, Some, None, first_by_page, if◌then◌else◌, page_number, second_page, touched, IsUserPage, Size, Spaces, at_page, cell_or_fresh, need, Access, Read, Write, State, is_mapped, overdrawn, View, Quota, access_value, Plan, is_read_only, forbidden, plan_at, ◌-◌, Ok, Err, extra_page, container_of, is_live, room, Container, access_result, settled, NoProcess, Slot, no_value}
+use Rattle.fault_handler.proofs.Prelude.{◌≡◌, ℕ, nat_lt, arith, true, false, [], ◌∷◌, refl, Some, None, first_by_page, if◌then◌else◌, page_number, second_page, touched, IsUserPage, Size, Spaces, at_page, cell_or_fresh, need, Access, Read, Write, State, is_mapped, overdrawn, View, Quota, access_value, Plan, is_read_only, forbidden, plan_at, ◌-◌, Ok, Err, extra_page, container_of, is_live, room, Container, access_result, settled, NoProcess, Slot, no_value}
 use Rattle.fault_handler.proofs.Settled.{inside_by_page}
 use Rattle.page_words.specs.FiniteMap as map
 use Rattle.fault_handler.specs.declared.plans.Stop.TheVariants as stop

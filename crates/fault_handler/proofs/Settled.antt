@@ -1,6 +1,5 @@
 -- An access whose plan is Ready: what its plan says, and that its pages, mapped first, leave what the definition says.
-use Rattle.fault_handler.proofs.Prelude
-use Prelude.{◌≡◌, ℕ, arith, Bool, true, false, not, ◌&&◌, [], ◌∷◌, refl, sym, ap, ◌∙◌, Option, Some, None, option_map, page_number, covered, second_page, touched, EachTouched, IsUserPage, Size, first_by_page, no_value, Slot, Spaces, at_page, cell_or_fresh, need, page_need, access_need, with_page, is_lazy_at, with_touched-same, touched-there, Access, Read, Write, View, memory_of, access_value, after_access, page_is_user, Plan, outside, is_read_only, forbidden, step_at, maps_page, plan_at, goes_on, takes_no_frame, ◌≢◌, ◌≤◌, List, inl, inr, is_some, Cell, with_pages, planned_by, takes_at, IfSome, find, cases_Bool, false≢true, le-ltb, lt-ltb, not-false, need-in_one, need-in_two, cost-with_page, extra_page, extra_touched, State, is_live, is_mapped, room, overdrawn, user_page, not_less}
+use Rattle.fault_handler.proofs.Prelude.{◌≡◌, ℕ, arith, Bool, true, false, not, ◌&&◌, [], ◌∷◌, refl, sym, ap, ◌∙◌, Option, Some, None, option_map, page_number, covered, second_page, touched, EachTouched, IsUserPage, Size, first_by_page, no_value, Slot, Spaces, at_page, cell_or_fresh, need, page_need, access_need, with_page, is_lazy_at, with_touched-same, touched-there, Access, Read, Write, View, memory_of, access_value, after_access, page_is_user, Plan, outside, is_read_only, forbidden, step_at, maps_page, plan_at, goes_on, takes_no_frame, ◌≢◌, ◌≤◌, List, inl, inr, is_some, Cell, with_pages, planned_by, takes_at, IfSome, find, cases_Bool, false≢true, le-ltb, lt-ltb, not-false, need-in_one, need-in_two, cost-with_page, extra_page, extra_touched, State, is_live, is_mapped, room, overdrawn, user_page, not_less}
 use Rattle.std.specs.Prelude.{nat_lt}
 use Rattle.process_table.specs.WellFormed.{IsWellFormed}
 use Rattle.page_words.proofs.MapLemmas.{same_or_not, get-insert}

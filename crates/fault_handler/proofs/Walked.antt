@@ -1,6 +1,5 @@
 -- An access whose walks find a frame for each of its pages completes as memory stands.
-use Rattle.fault_handler.proofs.Prelude
-use Prelude.{◌≡◌, ℕ, nat_lt, arith, Bool, true, false, None, if◌then◌else◌, find, option_map, page_number, covered, second_page, touched, EachTouched, IsUserPage, Size, first_by_page, slot_at, at_page, cell_or_fresh, is_lazy_at, takes_stores, with_touched-same, Access, Read, Write, extra_touched, State, is_mapped, overdrawn, View, memory_of, Quota, page_is_user, outside, forbidden, fault_or, step_at, plan_at, takes_no_frame, access_result, at_once, settled, takes_at, Err, Ok, ap, ◌∙◌, not-true, le-ltb, and_parts, access_value, is_live, NoProcess, Plan, cost-with_touched}
+use Rattle.fault_handler.proofs.Prelude.{◌≡◌, ℕ, nat_lt, arith, Bool, true, false, None, if◌then◌else◌, find, option_map, page_number, covered, second_page, touched, EachTouched, IsUserPage, Size, first_by_page, slot_at, at_page, cell_or_fresh, is_lazy_at, takes_stores, with_touched-same, Access, Read, Write, extra_touched, State, is_mapped, overdrawn, View, memory_of, Quota, page_is_user, outside, forbidden, fault_or, step_at, plan_at, takes_no_frame, access_result, at_once, settled, takes_at, Err, Ok, ap, ◌∙◌, not-true, le-ltb, and_parts, access_value, is_live, NoProcess, Plan, cost-with_touched}
 use Rattle.fault_handler.specs.declared.plans.Stop.TheVariants as stop
 use Rattle.fault_handler.proofs.Settled.{all_user, each_page}
 use Rattle.fault_handler.specs.declared.plans.PageStep.TheVariants as step

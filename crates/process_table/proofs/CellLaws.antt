@@ -1,6 +1,5 @@
 -- Cells stay well formed where one is mapped, where a group gets other bytes, and where some slots go.
-use Rattle.process_table.proofs.Prelude
-use Prelude.{arith, ◌≡◌, ◌≢◌, ℕ, ◌<◌, ◌&&◌, ◌||◌, not, Bool, true, false, cond, List, length, refl, sym, ap, subst, ◌∙◌, Option, Some, None, inl, inr, IsTrue, option_map, All, IsUserPage, Set, same_itself, same-true, get-insert, get-retain_keys, get-map_values, contains-insert, contains-retain, same_cases, Slot, slot_order, Cell, Spaces, without, with_holders, IsCellAt, not-true, same_Some, or-false}
+use Rattle.process_table.proofs.Prelude.{arith, ◌≡◌, ◌≢◌, ℕ, ◌<◌, ◌&&◌, ◌||◌, not, Bool, true, false, cond, List, length, refl, sym, ap, subst, ◌∙◌, Option, Some, None, inl, inr, IsTrue, option_map, All, IsUserPage, Set, same_itself, same-true, get-insert, get-retain_keys, get-map_values, contains-insert, contains-retain, same_cases, Slot, slot_order, Cell, Spaces, without, with_holders, IsCellAt, not-true, same_Some, or-false}
 use Rattle.page_words.specs.FiniteMap as map
 use Rattle.page_words.specs.FiniteSet as set
 

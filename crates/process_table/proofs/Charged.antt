@@ -1,6 +1,5 @@
 -- What each call leaves of the charges, and that the frames it needs are there.
-use Rattle.process_table.proofs.Prelude
-use Prelude.{◌≡◌, ◌≢◌, ℕ, ◌+◌, ◌<◌, ◌≤◌, true, false, cond, not, ap, ◌∙◌, Option, Some, None, unwrap_or, is_some, length, arith, same, nat_order, same_or_not, same_itself, get-insert, get-retain_keys, cost, without, is_of, directory_of, live_cost, total_cost, sum_one, cost-without_other, Member, quota_of, State, container_of, IsProcesses, ne_eqb, Containers, IsLive, used_of, with_used, after_close, total_used}
+use Rattle.process_table.proofs.Prelude.{◌≡◌, ◌≢◌, ℕ, ◌+◌, ◌<◌, ◌≤◌, true, false, cond, not, ap, ◌∙◌, Option, Some, None, unwrap_or, is_some, length, arith, same, nat_order, same_or_not, same_itself, get-insert, get-retain_keys, cost, without, is_of, directory_of, live_cost, total_cost, sum_one, cost-without_other, Member, quota_of, State, container_of, IsProcesses, ne_eqb, Containers, IsLive, used_of, with_used, after_close, total_used}
 use Rattle.quota_tree.specs.declared.Container.{Container}
 use Rattle.process_table.proofs.Ranges.{found, sum-range}
 use Rattle.page_words.specs.FiniteMap as map

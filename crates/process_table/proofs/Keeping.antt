@@ -1,6 +1,5 @@
 -- Each call whose test passes keeps states well formed.
-use Rattle.process_table.proofs.Prelude
-use Prelude.{◌≡◌, ℕ, Bool, true, false, refl, sym, ap, subst, ◌∙◌, length, Option, Some, None, arith, if◌then◌else◌, IsOk, IfSome, byte_count, page_number, offset_number, second_page, touched, EachTouched, Size, Spaces, cost, slot_at, stored, with_pages, all_accessed, all_stored, bytes_of, IsThere, bytes_there, key-all_accessed, key-all_stored, with_touched-same, cost-same, Containers, Offers, Read, Write, State, is_live, child_of, container_of, map_refusal, accept_refusal, spawn_refusal, exit_refusal, after_map, after_accept, after_spawn, after_exit, after_access, child_unless, map_answer, accept_answer, spawn_answer, exit_answer, IsProcesses, IsWhole, state_of, IsWellFormed, Cause, NoProcess}
+use Rattle.process_table.proofs.Prelude.{◌≡◌, ℕ, Bool, true, false, refl, sym, ap, subst, ◌∙◌, length, Option, Some, None, arith, if◌then◌else◌, IsOk, IfSome, byte_count, page_number, offset_number, second_page, touched, EachTouched, Size, Spaces, cost, slot_at, stored, with_pages, all_accessed, all_stored, bytes_of, IsThere, bytes_there, key-all_accessed, key-all_stored, with_touched-same, cost-same, Containers, Offers, Read, Write, State, is_live, child_of, container_of, map_refusal, accept_refusal, spawn_refusal, exit_refusal, after_map, after_accept, after_spawn, after_exit, after_access, child_unless, map_answer, accept_answer, spawn_answer, exit_answer, IsProcesses, IsWhole, state_of, IsWellFormed, Cause, NoProcess}
 use Rattle.address_space.proofs.steps.Bytes.{stored_in_page}
 use Rattle.table_walk.specs.declared.Access.{Access}
 use Rattle.process_table.proofs.BookLaws.{well_formed-spawn, well_formed-exit}

@@ -1,6 +1,5 @@
 -- Sums over a map's entries as sums over the numbers below a bound.
-use Rattle.process_table.proofs.Prelude
-use Prelude.{◌≡◌, ◌≢◌, ℕ, ◌+◌, ◌<◌, ◌&&◌, Bool, true, cond, List, [], ◌∷◌, refl, sym, ap, subst, ◌∙◌, Option, Some, None, is_some, sum_by, arith, inl, inr, T, nat_cmp, range_with_len, cases_eq, sum_by-cons, Map, nat_order, cost, directory_of, live_cost, total_cost, sum_one, Member, State, is_live, total, eqb-true, eq-eqb, unsigned_tied, below_all, is_sorted, lt_not_eq}
+use Rattle.process_table.proofs.Prelude.{◌≡◌, ◌≢◌, ℕ, ◌+◌, ◌<◌, ◌&&◌, Bool, true, cond, List, [], ◌∷◌, refl, sym, ap, subst, ◌∙◌, Option, Some, None, is_some, sum_by, arith, inl, inr, T, nat_cmp, range_with_len, cases_eq, sum_by-cons, Map, nat_order, cost, directory_of, live_cost, total_cost, sum_one, Member, State, is_live, total, eqb-true, eq-eqb, unsigned_tied, below_all, is_sorted, lt_not_eq}
 use Rattle.std.specs.FinMap.Entries.{find}
 use Rattle.page_words.specs.FiniteMap as map
 

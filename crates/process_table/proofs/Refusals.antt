@@ -1,6 +1,5 @@
 -- What follows where a call is not refused.
-use Rattle.process_table.proofs.Prelude
-use Prelude.{◌≡◌, ◌≢◌, ℕ, ◌+◌, ◌<◌, Bool, true, false, [], ◌∷◌, sym, ap, ◌∙◌, Option, Some, None, Ok, Err, arith, is_some, if◌then◌else◌, IsOk, is_user_page, fresh, cell_or_fresh, cost, need, at_page, cost-insert, cost-joined, offer_key, pending, State, is_live, is_mapped, overdrawn, map_refusal, unmap_refusal, protect_refusal, offer_refusal, accept_refusal, Cause, NoProcess, Mapped, Quota, no_value, first_cause, number_unless, done_unless, map_answer, accept_answer, not-false, eqb-false}
+use Rattle.process_table.proofs.Prelude.{◌≡◌, ◌≢◌, ℕ, ◌+◌, ◌<◌, Bool, true, false, [], ◌∷◌, sym, ap, ◌∙◌, Option, Some, None, Ok, Err, arith, is_some, if◌then◌else◌, IsOk, is_user_page, fresh, cell_or_fresh, cost, need, at_page, cost-insert, cost-joined, offer_key, pending, State, is_live, is_mapped, overdrawn, map_refusal, unmap_refusal, protect_refusal, offer_refusal, accept_refusal, Cause, NoProcess, Mapped, Quota, no_value, first_cause, number_unless, done_unless, map_answer, accept_answer, not-false, eqb-false}
 use Rattle.page_words.specs.FiniteMap as map
 
 choice : (b : Bool) (c : Cause) (y : Option Cause) → (if b then Some c else y) ≡ None → (b ≡ false) × (y ≡ None)

@@ -1,6 +1,5 @@
 -- States stay well formed by a change of a right, and by an offer, its withdrawal and its acceptance.
-use Rattle.process_table.proofs.Prelude
-use Prelude.{◌≡◌, ◌≢◌, ℕ, ◌+◌, ◌<◌, ◌≤◌, ◌||◌, ◌==◌, not, Bool, true, false, cond, refl, sym, ap, subst, ◌∙◌, Option, Some, None, is_some, unwrap_or, arith, inl, inr, if◌then◌else◌, nat_lt, option_map, cases_eq, or_cases, or_right, IsUserPage, EachTouched, Size, IsThere, same, Set, same_itself, same-true, get-insert, get-map_values, contains-insert, retain-insert, len-insert, retain-insert_other, same_cases, Slot, slot_order, Cell, Spaces, cost, need, fresh, cell_or_fresh, with_holders, set_holders, joined, at_page, join_in, cost-joined, cost-joined_other, given, quota_of, OfferKey, Offers, offer_order, offer_key, pending, State, is_live, room, protect_refusal, offer_refusal, accept_refusal, offered, after_protect, after_offer, after_withdraw, after_accept, IsCellAt, IsOfferIn, IsWellFormed, eqb-true, same_Some, some_value}
+use Rattle.process_table.proofs.Prelude.{◌≡◌, ◌≢◌, ℕ, ◌+◌, ◌<◌, ◌≤◌, ◌||◌, ◌==◌, not, Bool, true, false, cond, refl, sym, ap, subst, ◌∙◌, Option, Some, None, is_some, unwrap_or, arith, inl, inr, if◌then◌else◌, nat_lt, option_map, cases_eq, or_cases, or_right, IsUserPage, EachTouched, Size, IsThere, same, Set, same_itself, same-true, get-insert, get-map_values, contains-insert, retain-insert, len-insert, retain-insert_other, same_cases, Slot, slot_order, Cell, Spaces, cost, need, fresh, cell_or_fresh, with_holders, set_holders, joined, at_page, join_in, cost-joined, cost-joined_other, given, quota_of, OfferKey, Offers, offer_order, offer_key, pending, State, is_live, room, protect_refusal, offer_refusal, accept_refusal, offered, after_protect, after_offer, after_withdraw, after_accept, IsCellAt, IsOfferIn, IsWellFormed, eqb-true, same_Some, some_value}
 use Rattle.process_table.proofs.Overdrawn.{extra_new}
 use Rattle.process_table.proofs.CellLaws.{AreCells, get-inserted, get-inserted_other}
 use Rattle.process_table.proofs.BookLaws.{retained}

@@ -1,6 +1,5 @@
 -- What fewer members, offers or pages leave of sizes and costs.
-use Rattle.process_table.proofs.Prelude
-use Prelude.{◌≡◌, ℕ, ◌+◌, ◌≤◌, Bool, true, false, cond, List, [], ◌∷◌, length, ap, ◌∙◌, arith, Order, Map, nat_order, Set, same_set, Slot, Spaces, cost, pages_of, regions_of, at_page, contains-pages_of, where_key}
+use Rattle.process_table.proofs.Prelude.{◌≡◌, ℕ, ◌+◌, ◌≤◌, Bool, true, false, cond, List, [], ◌∷◌, length, ap, ◌∙◌, arith, Order, Map, nat_order, Set, same_set, Slot, Spaces, cost, pages_of, regions_of, at_page, contains-pages_of, where_key}
 use Rattle.std.specs.declared.cmp.Ordering.{Ordering}
 use Rattle.address_space.proofs.costs.Sizes.{cost-within}
 use Rattle.page_words.specs.FiniteMap as map

@@ -1,6 +1,5 @@
 -- What the test of a spawn answers, and what a child's charge is.
-use Rattle.process_table.proofs.Prelude
-use Prelude.{◌≡◌, ◌≢◌, ℕ, ◌+◌, ◌-◌, ◌<◌, ◌≤◌, ◌==◌, Bool, true, false, cond, not, refl, sym, ap, subst, ◌∙◌, inl, inr, List, [], ◌∷◌, Option, Some, None, unwrap_or, is_some, is_none, length, Ok, Err, arith, Result, if◌then◌else◌, nat_lt, range_with_len, option_map, same, nat_order, same_or_not, same_itself, get-insert, Slot, Cell, Spaces, cost, at_page, directory_of, total_cost, Member, given, quota_of, next_number, Containers, IsLive, used_of, total_used, split_answer, after_split, room_of, fitting, opening, Offers, room, child_of, container_of, spawn_refusal, state_of, IsProcesses, Cause, not-true, Image, SlotStands, directory_at, page_word, image_of, translated, child_unless, spawn_answer, find}
+use Rattle.process_table.proofs.Prelude.{◌≡◌, ◌≢◌, ℕ, ◌+◌, ◌-◌, ◌<◌, ◌≤◌, ◌==◌, Bool, true, false, cond, not, refl, sym, ap, subst, ◌∙◌, inl, inr, List, [], ◌∷◌, Option, Some, None, unwrap_or, is_some, is_none, length, Ok, Err, arith, Result, if◌then◌else◌, nat_lt, range_with_len, option_map, same, nat_order, same_or_not, same_itself, get-insert, Slot, Cell, Spaces, cost, at_page, directory_of, total_cost, Member, given, quota_of, next_number, Containers, IsLive, used_of, total_used, split_answer, after_split, room_of, fitting, opening, Offers, room, child_of, container_of, spawn_refusal, state_of, IsProcesses, Cause, not-true, Image, SlotStands, directory_at, page_word, image_of, translated, child_unless, spawn_answer, find}
 use Rattle.page_words.specs.declared.addresses.Pid.{Pid}
 use Rattle.address_space.specs.Image.{StandsFor}
 use Rattle.quota_tree.specs.declared.QuotaFault.{QuotaFault}

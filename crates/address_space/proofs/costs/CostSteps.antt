@@ -1,6 +1,5 @@
 -- The costs of all processes, and what one more page adds.
-use Rattle.address_space.proofs.Prelude
-use Prelude.{◌≡◌, ◌≢◌, ℕ, zero, suc, ◌+◌, ◌<◌, ◌≤◌, Bool, true, false, cond, ◌||◌, List, [], ◌∷◌, map, refl, ap, sym, ◌∙◌, arith, inl, inr, Option, Some, None, ◌*◌, ◌⊎◌, is_some, if◌then◌else◌, sum_by, option_map, option_and_then, list_any, range_with_len, is_some-find, cases_eq, sum_by-cons, slot_number, index_number, Frames, word_entry, entry_from, PageEntry, word_in, Set, nat_order, same, Slot, slot_order, Cell, Spaces, cost, cost_of, need, pages_of, regions_of, at_page, same_itself, same_or_not, get-insert, contains-from_list, list_any-map, same-true, Entries, cell_of, spaces_of, Directories, directory_of, table_in, entry_in, entries_in, live_cost, total_cost, InUseAt, or-true, is_some-map}
+use Rattle.address_space.proofs.Prelude.{◌≡◌, ◌≢◌, ℕ, zero, suc, ◌+◌, ◌<◌, ◌≤◌, Bool, true, false, cond, ◌||◌, List, [], ◌∷◌, map, refl, ap, sym, ◌∙◌, arith, inl, inr, Option, Some, None, ◌*◌, ◌⊎◌, is_some, if◌then◌else◌, sum_by, option_map, option_and_then, list_any, range_with_len, is_some-find, cases_eq, sum_by-cons, slot_number, index_number, Frames, word_entry, entry_from, PageEntry, word_in, Set, nat_order, same, Slot, slot_order, Cell, Spaces, cost, cost_of, need, pages_of, regions_of, at_page, same_itself, same_or_not, get-insert, contains-from_list, list_any-map, same-true, Entries, cell_of, spaces_of, Directories, directory_of, table_in, entry_in, entries_in, live_cost, total_cost, InUseAt, or-true, is_some-map}
 use Rattle.address_space.proofs.entries.UserSlots.{in_user_slots}
 use Rattle.address_space.proofs.costs.Costs.{contains-pages_of, same_pages, cost-insert}
 use Rattle.address_space.proofs.entries.EntrySteps.{get-entries_in, entry_by_table}

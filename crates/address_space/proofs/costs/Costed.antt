@@ -1,6 +1,5 @@
 -- The frames in use stay within the costs.
-use Rattle.address_space.proofs.Prelude
-use Prelude.{◌≡◌, ℕ, ◌+◌, ◌<◌, ◌≤◌, List, length, ap, sym, ◌∙◌, arith, inl, inr, Option, slot_number, frame_bytes, Role, free_frames, frames_weight, Spaces, need, directory_of, table_in, spaces_in, total_cost, IsSound, IsSpaces, table_need, TableGiven, SlotAdded, free-by-weight}
+use Rattle.address_space.proofs.Prelude.{◌≡◌, ℕ, ◌+◌, ◌<◌, ◌≤◌, List, length, ap, sym, ◌∙◌, arith, inl, inr, Option, slot_number, frame_bytes, Role, free_frames, frames_weight, Spaces, need, directory_of, table_in, spaces_in, total_cost, IsSound, IsSpaces, table_need, TableGiven, SlotAdded, free-by-weight}
 use Rattle.address_space.proofs.costs.CostSteps.{need-two, need-least}
 use Rattle.address_space.proofs.frames.FrameSteps.{here_or_not}
 

@@ -1,6 +1,5 @@
 -- The pages of a process, and what one more page adds to the costs.
-use Rattle.address_space.proofs.Prelude
-use Prelude.{◌≡◌, ℕ, ◌+◌, Bool, true, false, cond, ◌||◌, ◌==◌, List, [], ◌∷◌, map, refl, sym, ap, ◌∙◌, Option, Some, None, arith, ◌&&◌, if◌then◌else◌, is_some, list_any, where_key, is_some-find, nat_order, same, Set, slot_number, Slot, slot_order, slot_cmp, Cell, Spaces, cost, cost_of, need, pages_of, regions_of, at_page, get-insert, same_set, contains-insert, contains-from_list, len-insert, list_any-map, list_any-put, unsigned_tied, eq_by_cmp_equiv, tied_then}
+use Rattle.address_space.proofs.Prelude.{◌≡◌, ℕ, ◌+◌, Bool, true, false, cond, ◌||◌, ◌==◌, List, [], ◌∷◌, map, refl, sym, ap, ◌∙◌, Option, Some, None, arith, ◌&&◌, if◌then◌else◌, is_some, list_any, where_key, is_some-find, nat_order, same, Set, slot_number, Slot, slot_order, slot_cmp, Cell, Spaces, cost, cost_of, need, pages_of, regions_of, at_page, get-insert, same_set, contains-insert, contains-from_list, len-insert, list_any-map, list_any-put, unsigned_tied, eq_by_cmp_equiv, tied_then}
 use Rattle.page_words.specs.FiniteMap as map
 use Rattle.page_words.specs.FiniteSet as set
 use Rattle.std.specs.Ordering.{is_eq, nat_cmp}

@@ -1,6 +1,5 @@
 -- How often a frame is in a list, and that all frames together are there no more often than the list is long.
-use Rattle.address_space.proofs.Prelude
-use Prelude.{◌≡◌, ℕ, zero, suc, ◌+◌, ◌≤◌, ◌==◌, Bool, true, cond, ◌||◌, List, [], ◌∷◌, ◌++◌, map, length, refl, ap, sym, subst, ◌∙◌, arith, inl, inr, Some, slice_get, list_any, cases_eq, ne_eqb, sum_by-cons, Order, same, same_or_not, Role, weight, frames_weight, eq-eqb}
+use Rattle.address_space.proofs.Prelude.{◌≡◌, ℕ, zero, suc, ◌+◌, ◌≤◌, ◌==◌, Bool, true, cond, ◌||◌, List, [], ◌∷◌, ◌++◌, map, length, refl, ap, sym, subst, ◌∙◌, arith, inl, inr, Some, slice_get, list_any, cases_eq, ne_eqb, sum_by-cons, Order, same, same_or_not, Role, weight, frames_weight, eq-eqb}
 
 abbrev pub once : Bool → ℕ
 once b = cond b 1 0

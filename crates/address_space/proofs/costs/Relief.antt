@@ -1,6 +1,5 @@
 -- What a process's cost falls by when one of its pages goes.
-use Rattle.address_space.proofs.Prelude
-use Prelude.{◌≡◌, ◌≢◌, ℕ, ◌+◌, ◌*◌, ◌%◌, ◌<◌, ◌≤◌, Bool, true, false, cond, not, List, refl, ap, sym, ◌∙◌, arith, inl, inr, Option, Some, None, is_some, if◌then◌else◌, option_and_then, list_any, slot_number, same, same_or_not, same_itself, get-insert, get-retain_keys, get-map_values, frame_bytes, PageEntry, entry_at, Slot, slot_order, Cell, Spaces, cost, cost_of, need, pages_of, regions_of, without, is_slot, with_holders, at_page, user_slots, directory_of, entry_in, entries_in, spaces_in, IsAlone, IsShared, is_some-map, no_value}
+use Rattle.address_space.proofs.Prelude.{◌≡◌, ◌≢◌, ℕ, ◌+◌, ◌*◌, ◌%◌, ◌<◌, ◌≤◌, Bool, true, false, cond, not, List, refl, ap, sym, ◌∙◌, arith, inl, inr, Option, Some, None, is_some, if◌then◌else◌, option_and_then, list_any, slot_number, same, same_or_not, same_itself, get-insert, get-retain_keys, get-map_values, frame_bytes, PageEntry, entry_at, Slot, slot_order, Cell, Spaces, cost, cost_of, need, pages_of, regions_of, without, is_slot, with_holders, at_page, user_slots, directory_of, entry_in, entries_in, spaces_in, IsAlone, IsShared, is_some-map, no_value}
 use Rattle.address_space.proofs.costs.Costs.{contains-pages_of, same_pages, cost-insert}
 use Rattle.address_space.proofs.costs.CostSteps.{need-least, region_there, region_member, keys}
 use Rattle.address_space.proofs.entries.EntrySteps.{get-entries_in}

@@ -1,6 +1,5 @@
 -- A set of some of another's members is no larger, and fewer pages cost no more.
-use Rattle.address_space.proofs.Prelude
-use Prelude.{◌≡◌, ℕ, suc, ◌≤◌, Bool, true, cond, List, [], ◌∷◌, length, sym, subst, ◌∙◌, arith, ◌&&◌, where_key, Order, Set, same_set, contains-retain, Spaces, cost, pages_of, regions_of, at_page}
+use Rattle.address_space.proofs.Prelude.{◌≡◌, ℕ, suc, ◌≤◌, Bool, true, cond, List, [], ◌∷◌, length, sym, subst, ◌∙◌, arith, ◌&&◌, where_key, Order, Set, same_set, contains-retain, Spaces, cost, pages_of, regions_of, at_page}
 use Rattle.std.specs.declared.cmp.Ordering.{Ordering}
 use Rattle.address_space.proofs.costs.Costs.{contains-pages_of}
 use Rattle.address_space.proofs.costs.CostSteps.{region_member, region_there}

@@ -1,7 +1,6 @@
 -- Where frames agree, they and the lazy pages weigh no more than the costs: each process has as many uses as it costs,
 -- and a frame has a use for each of its slots.
-use Rattle.address_space.proofs.Prelude
-use Prelude.{◌≡◌, ℕ, zero, suc, ◌+◌, ◌*◌, ◌<◌, ◌≤◌, ◌==◌, Bool, true, cond, ◌||◌, List, [], ◌∷◌, ◌++◌, length, length-append, refl, ap, sym, subst, ◌∙◌, arith, inl, inr, Option, Some, None, slice_get, is_some, if◌then◌else◌, sum_by, unwrap_or, option_map, option_and_then, list_any, range_with_len, is_some-find, cases_eq, cases_lt, or_right, length-map, sum_by-cons, slot_number, index_number, Order, nat_order, same, Set, same_or_not, same_itself, contains-from_list, len-insert, frame_bytes, word_in, Role, Reserved, Free, Directory, Table, Page, weight, frames_weight, PageEntry, Frames, table_of, word_entry, entry_from, entry_at, Slot, slot_order, Spaces, cost, pages_of, regions_of, at_page, user_slots, Entries, names, holders_of, lazy_count, spaces_of, Directories, directory_of, table_in, entry_in, entries_in, spaces_in, live_cost, total_cost, eqb-true, eq-eqb, IsSound, InUse, weight_in, map as list_map}
+use Rattle.address_space.proofs.Prelude.{◌≡◌, ℕ, zero, suc, ◌+◌, ◌*◌, ◌<◌, ◌≤◌, ◌==◌, Bool, true, cond, ◌||◌, List, [], ◌∷◌, ◌++◌, length, length-append, refl, ap, sym, subst, ◌∙◌, arith, inl, inr, Option, Some, None, slice_get, is_some, if◌then◌else◌, sum_by, unwrap_or, option_map, option_and_then, list_any, range_with_len, is_some-find, cases_eq, cases_lt, or_right, length-map, sum_by-cons, slot_number, index_number, Order, nat_order, same, Set, same_or_not, same_itself, contains-from_list, len-insert, frame_bytes, word_in, Role, Reserved, Free, Directory, Table, Page, weight, frames_weight, PageEntry, Frames, table_of, word_entry, entry_from, entry_at, Slot, slot_order, Spaces, cost, pages_of, regions_of, at_page, user_slots, Entries, names, holders_of, lazy_count, spaces_of, Directories, directory_of, table_in, entry_in, entries_in, spaces_in, live_cost, total_cost, eqb-true, eq-eqb, IsSound, InUse, weight_in, map as list_map}
 use Rattle.address_space.proofs.costs.Costs.{contains-pages_of}
 use Rattle.address_space.proofs.costs.CostSteps.{keys, region_there}
 use Rattle.address_space.proofs.costs.Hits.{once, hits, sum-hits, hits-append, hits-map, weights-below}

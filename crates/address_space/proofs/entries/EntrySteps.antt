@@ -1,6 +1,5 @@
 -- How tables and entries change where one frame, one word or one role does.
-use Rattle.address_space.proofs.Prelude
-use Prelude.{◌≡◌, ◌≢◌, ℕ, ◌^◌, ◌<◌, ◌≤◌, Bool, true, false, cond, length, refl, ap, sym, ◌∙◌, subst, arith, inl, inr, Option, Some, None, option_and_then, list_any, cases_eq, slot_number, index_number, IsKernelTableWord, is_present, word_in, with_word_in, with_frame, with_frame-same, with_frame-other, word_in_same, word_in_other, length-with_word_in, Reserved, Directory, Table, PageEntry, Frames, word_table, table_of, word_entry, entry_at, Slot, slot_order, at_page, same, user_slots, same_or_not, same_itself, get-insert, same_map, get-collect, Directories, Roles, table_in, entry_in, entries_in, Tables, InUseAt}
+use Rattle.address_space.proofs.Prelude.{◌≡◌, ◌≢◌, ℕ, ◌^◌, ◌<◌, ◌≤◌, Bool, true, false, cond, length, refl, ap, sym, ◌∙◌, subst, arith, inl, inr, Option, Some, None, option_and_then, list_any, cases_eq, slot_number, index_number, IsKernelTableWord, is_present, word_in, with_word_in, with_frame, with_frame-same, with_frame-other, word_in_same, word_in_other, length-with_word_in, Reserved, Directory, Table, PageEntry, Frames, word_table, table_of, word_entry, entry_at, Slot, slot_order, at_page, same, user_slots, same_or_not, same_itself, get-insert, same_map, get-collect, Directories, Roles, table_in, entry_in, entries_in, Tables, InUseAt}
 use Rattle.address_space.proofs.entries.UserSlots.{in_user_slots}
 use Rattle.address_space.proofs.entries.Removal.{removed, kept_other}
 use Rattle.page_words.specs.FiniteMap as map

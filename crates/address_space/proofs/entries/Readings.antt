@@ -1,6 +1,5 @@
 -- What a slot, its bytes and its needs are read as.
-use Rattle.address_space.proofs.Prelude
-use Prelude.{◌≡◌, ℕ, ◌+◌, ◌*◌, ◌<◌, ◌≤◌, true, false, cond, List, length, take, refl, sym, arith, Option, Some, None, length-drop, slice_index, slice_get, is_some, option_and_then, option_map, get_or-drop, is_some-map, slot_number, frame_bytes, word_at, Role, Page, entry_at, IsKernelEntry, PageEntry, Slot, need, value_of, bytes_at, at_page, group_of, cell_of, spaces_of, holders_of, directory_of, entries_in, spaces_in, table_in, IsSound, InUse, Inside, byte-frame, length-frame, word_at-frame}
+use Rattle.address_space.proofs.Prelude.{◌≡◌, ℕ, ◌+◌, ◌*◌, ◌<◌, ◌≤◌, true, false, cond, List, length, take, refl, sym, arith, Option, Some, None, length-drop, slice_index, slice_get, is_some, option_and_then, option_map, get_or-drop, is_some-map, slot_number, frame_bytes, word_at, Role, Page, entry_at, IsKernelEntry, PageEntry, Slot, need, value_of, bytes_at, at_page, group_of, cell_of, spaces_of, holders_of, directory_of, entries_in, spaces_in, table_in, IsSound, InUse, Inside, byte-frame, length-frame, word_at-frame}
 use Rattle.address_space.proofs.entries.UserSlots.{in_user_slots}
 use Rattle.address_space.proofs.entries.EntrySteps.{get-entries_in}
 use Rattle.address_space.proofs.costs.CostSteps.{need-one, need-two}

@@ -1,6 +1,5 @@
 -- The spaces that a map from slots to page entries represents, given bytes for each frame; its steps are the machine's.
-use Rattle.address_space.proofs.Prelude
-use Prelude.{◌≡◌, ℕ, inl, inr, Bool, true, false, cond, not, ◌||◌, ◌==◌, List, refl, sym, ap, ◌∙◌, Option, Some, None, arith, ◌&&◌, if◌then◌else◌, is_some, unwrap_or, option_map, Map, same, Set, Slot, slot_order, Cell, Spaces, write_at, stored, joined, set_bytes, set_holders, store_in, with_bytes, with_holders, without, fresh, cell_or_fresh, join_in, zeros, same_or_not, get-insert, get-retain_keys, same_map, get-map_values, contains-insert, contains-retain, same_set, nat_eq_equiv, PageEntry, with_frame, Entries, names, nothing, holders_of, group_of, cell_of, spaces_of, eqb-true, eq-eqb, and-false, and-true}
+use Rattle.address_space.proofs.Prelude.{◌≡◌, ℕ, inl, inr, Bool, true, false, cond, not, ◌||◌, ◌==◌, List, refl, sym, ap, ◌∙◌, Option, Some, None, arith, ◌&&◌, if◌then◌else◌, is_some, unwrap_or, option_map, Map, same, Set, Slot, slot_order, Cell, Spaces, write_at, stored, joined, set_bytes, set_holders, store_in, with_bytes, with_holders, without, fresh, cell_or_fresh, join_in, zeros, same_or_not, get-insert, get-retain_keys, same_map, get-map_values, contains-insert, contains-retain, same_set, nat_eq_equiv, PageEntry, with_frame, Entries, names, nothing, holders_of, group_of, cell_of, spaces_of, eqb-true, eq-eqb, and-false, and-true}
 use Rattle.page_words.specs.FiniteMap as map
 use Rattle.page_words.specs.FiniteSet as set
 

@@ -1,6 +1,5 @@
 -- Every slot of the user range is one of the user slots.
-use Rattle.address_space.proofs.Prelude
-use Prelude.{◌≡◌, ℕ, zero, suc, ◌+◌, ◌<◌, ◌≤◌, Bool, true, false, ◌||◌, List, [], ◌∷◌, ◌++◌, map, refl, sym, ap, ◌∙◌, arith, inl, inr, list_any, range_with_len, same, nat_order, same_or_not, same_itself, list_any-map, slot_order, at_page, user_slots, slots_below, or-true}
+use Rattle.address_space.proofs.Prelude.{◌≡◌, ℕ, zero, suc, ◌+◌, ◌<◌, ◌≤◌, Bool, true, false, ◌||◌, List, [], ◌∷◌, ◌++◌, map, refl, sym, ap, ◌∙◌, arith, inl, inr, list_any, range_with_len, same, nat_order, same_or_not, same_itself, list_any-map, slot_order, at_page, user_slots, slots_below, or-true}
 
 any-append : {A : Type 0} (t : A → Bool) (xs ys : List A) → list_any t (xs ++ ys) ≡ (list_any t xs || list_any t ys)
 any-append t [] ys = refl

@@ -1,6 +1,5 @@
 -- A page has fewer holders than a count can say.
-use Rattle.address_space.proofs.Prelude
-use Prelude.{◌≡◌, ℕ, zero, suc, ◌+◌, ◌*◌, ◌<◌, ◌≤◌, Bool, cond, List, [], ◌∷◌, length, refl, ap, arith, Option, Some, length-append, range_with_len, Page, PageEntry, Frames, change_each, collect, put_some, where_key, length-map, Slot, slot_order, user_slots, slots_below, len-insert, Entries, names, holders_of, nothing, Directories, Roles, entries_in, Pages, add-mul}
+use Rattle.address_space.proofs.Prelude.{◌≡◌, ℕ, zero, suc, ◌+◌, ◌*◌, ◌<◌, ◌≤◌, Bool, cond, List, [], ◌∷◌, length, refl, ap, arith, Option, Some, length-append, range_with_len, Page, PageEntry, Frames, change_each, collect, put_some, where_key, length-map, Slot, slot_order, user_slots, slots_below, len-insert, Entries, names, holders_of, nothing, Directories, Roles, entries_in, Pages, add-mul}
 use Rattle.page_words.specs.FiniteMap as map
 use Rattle.page_words.specs.FiniteSet as set
 

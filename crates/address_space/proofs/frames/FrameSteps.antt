@@ -1,6 +1,5 @@
 -- How tables and entries stay where a page's bytes or its role change, and how a blank table is linked.
-use Rattle.address_space.proofs.Prelude
-use Prelude.{◌≡◌, ◌≢◌, ℕ, ◌^◌, ◌<◌, ◌≤◌, false, List, length, replicate, ap, sym, ◌∙◌, subst, arith, inl, inr, Some, None, ◌⊎◌, option_and_then, cases_eq, length-replicate, slot_number, index_number, IsKernelDirWord, IsKernelTableWord, is_present, word_in, with_word_in, with_frame, with_frame-same, with_frame-other, word_in_same, word_in_other, length-with_word_in, word_in-zeros, Role, Reserved, Free, Directory, Table, Frames, table_of, word_entry, with_table, without_table, link_word, Slot, Directories, Roles, table_in, entry_in, entries_in, Tables, InUseAt, link_word-lt, word_table-link_word, link_word-names}
+use Rattle.address_space.proofs.Prelude.{◌≡◌, ◌≢◌, ℕ, ◌^◌, ◌<◌, ◌≤◌, false, List, length, replicate, ap, sym, ◌∙◌, subst, arith, inl, inr, Some, None, ◌⊎◌, option_and_then, cases_eq, length-replicate, slot_number, index_number, IsKernelDirWord, IsKernelTableWord, is_present, word_in, with_word_in, with_frame, with_frame-same, with_frame-other, word_in_same, word_in_other, length-with_word_in, word_in-zeros, Role, Reserved, Free, Directory, Table, Frames, table_of, word_entry, with_table, without_table, link_word, Slot, Directories, Roles, table_in, entry_in, entries_in, Tables, InUseAt, link_word-lt, word_table-link_word, link_word-names}
 use Rattle.address_space.proofs.entries.EntrySteps.{Loose, same_entries, entry_by_table, entry_kept}
 
 -- ---- A frame's bytes

@@ -1,6 +1,5 @@
 -- How pages and their counts change with one entry, and what the bytes of pages give.
-use Rattle.address_space.proofs.Prelude
-use Prelude.{Bool, ◌≡◌, ◌≢◌, ℕ, ◌+◌, true, false, cond, List, refl, ap, sym, ◌∙◌, arith, inl, inr, Option, Some, None, ◌⊎◌, option_map, cases_eq, ne_eqb, Reserved, Free, Directory, Table, Page, PageEntry, same, Slot, slot_order, same_or_not, same_itself, get-insert, same_map, same_set, len-insert, Entries, names, holders_of, lazy_count, cell_of, spaces_of, Roles, Pages, HoldsPage}
+use Rattle.address_space.proofs.Prelude.{Bool, ◌≡◌, ◌≢◌, ℕ, ◌+◌, true, false, cond, List, refl, ap, sym, ◌∙◌, arith, inl, inr, Option, Some, None, ◌⊎◌, option_map, cases_eq, ne_eqb, Reserved, Free, Directory, Table, Page, PageEntry, same, Slot, slot_order, same_or_not, same_itself, get-insert, same_map, same_set, len-insert, Entries, names, holders_of, lazy_count, cell_of, spaces_of, Roles, Pages, HoldsPage}
 use Rattle.address_space.proofs.entries.Removal.{put_back, removed, kept_other}
 use Rattle.address_space.proofs.entries.Refinement.{contains-holders_of, same_holders, names-insert_same, holders-insert, holders-other, get-spaces_of, Unused}
 use Rattle.page_words.specs.FiniteMap as map

@@ -1,6 +1,5 @@
 -- Slots whose walk leads to the same frame after a change.
-use Rattle.address_space.proofs.Prelude
-use Prelude.{arith, ◌≡◌, ℕ, false, List, refl, ap, sym, ◌∙◌, Option, Some, option_map, option_and_then, frame_number, slot_number, frame_bytes, Role, PageEntry, entry_from, Slot, at_page, Image, directory_at, page_word, image_from, directory_of, entries_in, IsSound, LooseStay, way_of, Gone, FramesStay, none_goes, entry_frame, PlacesStay}
+use Rattle.address_space.proofs.Prelude.{arith, ◌≡◌, ℕ, false, List, refl, ap, sym, ◌∙◌, Option, Some, option_map, option_and_then, frame_number, slot_number, frame_bytes, Role, PageEntry, entry_from, Slot, at_page, Image, directory_at, page_word, image_from, directory_of, entries_in, IsSound, LooseStay, way_of, Gone, FramesStay, none_goes, entry_frame, PlacesStay}
 use Rattle.address_space.proofs.standing.Standing.{read_entry, same_table}
 
 -- the frame of a slot's word is that of its entry

@@ -1,6 +1,5 @@
 -- Directories, memory and roles that agree represent their spaces, and no others.
-use Rattle.address_space.proofs.Prelude
-use Prelude.{◌≡◌, ◌≢◌, ℕ, ◌<◌, ◌≤◌, Bool, true, false, List, refl, ap, sym, ◌∙◌, subst, arith, inl, inr, Option, Some, None, not, ◌↔◌, ◌&&◌, is_some, slice_get, IsTrue, option_and_then, option_map, frame_number, is_present, NamesPage, same, same_map, same_set, frame_bytes, word_in, Role, Page, PageEntry, Frames, entry_from, entry_at, is_lazy_entry, Slot, Cell, cell_or_fresh, at_page, Entries, spaces_of, holders_of, Image, table_at, is_lazy_at, takes_stores, page_word, page_frame, IsSoundImage, SlotStands, StandsFor, image_from, StandsForOne, own_frame, Directories, directory_of, table_in, entry_in, entries_in, spaces_in, IsSound, IsSpaces, takes_stores_through, both_ways}
+use Rattle.address_space.proofs.Prelude.{◌≡◌, ◌≢◌, ℕ, ◌<◌, ◌≤◌, Bool, true, false, List, refl, ap, sym, ◌∙◌, subst, arith, inl, inr, Option, Some, None, not, ◌↔◌, ◌&&◌, is_some, slice_get, IsTrue, option_and_then, option_map, frame_number, is_present, NamesPage, same, same_map, same_set, frame_bytes, word_in, Role, Page, PageEntry, Frames, entry_from, entry_at, is_lazy_entry, Slot, Cell, cell_or_fresh, at_page, Entries, spaces_of, holders_of, Image, table_at, is_lazy_at, takes_stores, page_word, page_frame, IsSoundImage, SlotStands, StandsFor, image_from, StandsForOne, own_frame, Directories, directory_of, table_in, entry_in, entries_in, spaces_in, IsSound, IsSpaces, takes_stores_through, both_ways}
 use Rattle.address_space.proofs.entries.Readings.{mapped_read}
 use Rattle.address_space.proofs.steps.Steps.{live_small}
 use Rattle.address_space.proofs.steps.Stores.{cell_read}

@@ -1,6 +1,5 @@
 -- Tables and pages as an image names them, where directories and tables agree with the roles.
-use Rattle.address_space.proofs.Prelude
-use Prelude.{◌≡◌, ℕ, ◌+◌, ◌*◌, ◌<◌, ◌≤◌, Bool, true, false, cond, List, [], ◌∷◌, length, drop, refl, ap, sym, ◌∙◌, subst, arith, inl, inr, Option, Some, None, length-drop, ◌⊎◌, ◌↔◌, ◌&&◌, slice_get, slice_index, nat_lt, nat_le, IsTrue, if◌then◌else◌, option_and_then, option_map, list_any, cases_lt, nat_tests, slice_get_within, slot_number, index_number, frame_number, is_present, is_lazy, IsKernelTableWord, NamesPage, same, same_or_not, same_itself, contains-insert, frame_bytes, word_at, word_in, Role, Directory, Table, PageEntry, Frames, dir_word, entry_from, is_lazy_entry, Slot, slot_order, user_slots, Entries, names, group_of, spaces_of, holders_of, Image, word_of, is_user_slot, named_by, table_at, is_lazy_at, page_word, page_frame, SlotStands, image_from, IsOneGroup, present_word, own_frame, Directories, directory_of, table_in, entry_in, entries_in, Tables, eqb-true, eq-eqb}
+use Rattle.address_space.proofs.Prelude.{◌≡◌, ℕ, ◌+◌, ◌*◌, ◌<◌, ◌≤◌, Bool, true, false, cond, List, [], ◌∷◌, length, drop, refl, ap, sym, ◌∙◌, subst, arith, inl, inr, Option, Some, None, length-drop, ◌⊎◌, ◌↔◌, ◌&&◌, slice_get, slice_index, nat_lt, nat_le, IsTrue, if◌then◌else◌, option_and_then, option_map, list_any, cases_lt, nat_tests, slice_get_within, slot_number, index_number, frame_number, is_present, is_lazy, IsKernelTableWord, NamesPage, same, same_or_not, same_itself, contains-insert, frame_bytes, word_at, word_in, Role, Directory, Table, PageEntry, Frames, dir_word, entry_from, is_lazy_entry, Slot, slot_order, user_slots, Entries, names, group_of, spaces_of, holders_of, Image, word_of, is_user_slot, named_by, table_at, is_lazy_at, page_word, page_frame, SlotStands, image_from, IsOneGroup, present_word, own_frame, Directories, directory_of, table_in, entry_in, entries_in, Tables, eqb-true, eq-eqb}
 use Rattle.address_space.proofs.entries.UserSlots.{in_user_slots}
 use Rattle.address_space.proofs.entries.EntrySteps.{get-entries_in, entry_by_table}
 use Rattle.address_space.proofs.entries.Refinement.{get-spaces_of, contains-holders_of, group-real}

@@ -1,6 +1,5 @@
 -- Accesses byte by byte, and as one where their bytes lie in one page.
-use Rattle.address_space.proofs.Prelude
-use Prelude.{◌≡◌, ℕ, zero, suc, ◌+◌, ◌*◌, ◌/◌, ◌<◌, ◌≤◌, Bool, true, false, cond, List, [], ◌∷◌, ◌++◌, length, take, drop, refl, ap, sym, ◌∙◌, arith, inl, inr, Option, Some, None, length-drop, ◌-◌, drop-drop, unwrap_or, option_map, slice_index, if◌then◌else◌, ◌⊎◌, range_with_len, slice_range, page_number, offset_number, byte_count, covered, second_page, EachTouched, Size, same, cases_lt, same_or_not, same_itself, same_map, get-insert, get-map_values, Slot, slot_order, at_page, slot_at, Cell, Spaces, fresh, cell_or_fresh, set_bytes, with_bytes, stored, store_in, write_at, bytes_at, bytes_of, value_of, byte_at, number_of, all_stored, get_or-drop, append-nil, drop-take, length-take-le, take-append-drop, stays, crosses, some_bytes, page_stays, page_next, ◌^◌, mul_assoc, mul_comm, pow-zero, map-append, range_split, map as each}
+use Rattle.address_space.proofs.Prelude.{◌≡◌, ℕ, zero, suc, ◌+◌, ◌*◌, ◌/◌, ◌<◌, ◌≤◌, Bool, true, false, cond, List, [], ◌∷◌, ◌++◌, length, take, drop, refl, ap, sym, ◌∙◌, arith, inl, inr, Option, Some, None, length-drop, ◌-◌, drop-drop, unwrap_or, option_map, slice_index, if◌then◌else◌, ◌⊎◌, range_with_len, slice_range, page_number, offset_number, byte_count, covered, second_page, EachTouched, Size, same, cases_lt, same_or_not, same_itself, same_map, get-insert, get-map_values, Slot, slot_order, at_page, slot_at, Cell, Spaces, fresh, cell_or_fresh, set_bytes, with_bytes, stored, store_in, write_at, bytes_at, bytes_of, value_of, byte_at, number_of, all_stored, get_or-drop, append-nil, drop-take, length-take-le, take-append-drop, stays, crosses, some_bytes, page_stays, page_next, ◌^◌, mul_assoc, mul_comm, pow-zero, map-append, range_split, map as each}
 use Rattle.std.proofs.lemmas.Grind.{pow_more}
 use Rattle.page_words.specs.FiniteMap as map
 use Rattle.page_words.specs.FiniteSet as set

@@ -1,6 +1,5 @@
 -- What a copy of a page leaves, and then a copy of all pages of a process.
-use Rattle.address_space.proofs.Prelude
-use Prelude.{names, Entries, group_of, spaces_of, ◌≡◌, ◌≢◌, ℕ, ◌+◌, ◌<◌, ◌≤◌, true, false, cond, List, length, refl, ap, sym, ◌∙◌, subst, arith, inl, inr, Option, Some, None, length-set, ◌==◌, unwrap_or, option_and_then, option_map, ◌⊎◌, is_some, slice_get, if◌then◌else◌, slot_number, IsUserPage, frame_number, Map, get-insert, same_itself, same_map, same_apart, some_value, frame_bytes, with_frame, with_frame_bytes, with_frame-same, with_frame-other, length-frame, frames-with_frame_bytes, Role, Free, Page, IsTaken, weight-taken, PageEntry, Frames, dir_word, table_of, entry_at, with_entry, is_lazy_entry, Slot, slot_order, Cell, Spaces, cell_or_fresh, copy_of, copied, copied_at, cost, cost_of, fresh, pages_of, regions_of, at_page, Directories, Roles, directory_of, table_in, entries_in, spaces_in, live_cost, total_cost, Tables, IsSound, IsSpaces, InUseAt, TableGiven, IsEmptySpace, SlotCopied, PageCopied, CopiedBelow, PagesCopied, cases_eq, cases_lt, ne_eqb, eq-eqb, nat_eq_equiv, none_goes}
+use Rattle.address_space.proofs.Prelude.{names, Entries, group_of, spaces_of, ◌≡◌, ◌≢◌, ℕ, ◌+◌, ◌<◌, ◌≤◌, true, false, cond, List, length, refl, ap, sym, ◌∙◌, subst, arith, inl, inr, Option, Some, None, length-set, ◌==◌, unwrap_or, option_and_then, option_map, ◌⊎◌, is_some, slice_get, if◌then◌else◌, slot_number, IsUserPage, frame_number, Map, get-insert, same_itself, same_map, same_apart, some_value, frame_bytes, with_frame, with_frame_bytes, with_frame-same, with_frame-other, length-frame, frames-with_frame_bytes, Role, Free, Page, IsTaken, weight-taken, PageEntry, Frames, dir_word, table_of, entry_at, with_entry, is_lazy_entry, Slot, slot_order, Cell, Spaces, cell_or_fresh, copy_of, copied, copied_at, cost, cost_of, fresh, pages_of, regions_of, at_page, Directories, Roles, directory_of, table_in, entries_in, spaces_in, live_cost, total_cost, Tables, IsSound, IsSpaces, InUseAt, TableGiven, IsEmptySpace, SlotCopied, PageCopied, CopiedBelow, PagesCopied, cases_eq, cases_lt, ne_eqb, eq-eqb, nat_eq_equiv, none_goes}
 use Rattle.address_space.proofs.costs.Copied.{get-copied}
 use Rattle.address_space.proofs.costs.Costed.{Room, mapped}
 use Rattle.address_space.proofs.costs.Costs.{same_pages}

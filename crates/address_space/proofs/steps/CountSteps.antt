@@ -1,6 +1,5 @@
 -- How the counts of the tables' pages change.
-use Rattle.address_space.proofs.Prelude
-use Prelude.{◌≡◌, ◌≢◌, ℕ, zero, suc, ◌+◌, ◌-◌, ◌*◌, ◌<◌, ◌≤◌, Bool, true, false, List, length, replicate, refl, ap, sym, ◌∙◌, subst, arith, inl, inr, Option, Some, None, is_some, slice_get, slice_set, option_map, option_and_then, cases_eq, slice_get_within, slot_number, IsUserPage, is_some-map, frame_bytes, Role, Free, Table, Page, get-set_same, get-set_other, table_of, entry_at, IsCleared, counted, count_range, PageEntry, same, same_or_not, same_itself, Slot, Cell, Spaces, without, is_slot, at_page, TableFreed, EntryLeft, cell_of, directory_of, table_in, entries_in, spaces_in, IsSound, region_pages, pages_by, pages_under, IsCounted, AlwaysMapsAlike, KeepsCounts, MapsOneMore, MapsAlike, IsTaken, IsHeld, IsReleased, released, opening_roles, count_range-same, count_range-le, count-no_table, count_some, table_mapped}
+use Rattle.address_space.proofs.Prelude.{◌≡◌, ◌≢◌, ℕ, zero, suc, ◌+◌, ◌-◌, ◌*◌, ◌<◌, ◌≤◌, Bool, true, false, List, length, replicate, refl, ap, sym, ◌∙◌, subst, arith, inl, inr, Option, Some, None, is_some, slice_get, slice_set, option_map, option_and_then, cases_eq, slice_get_within, slot_number, IsUserPage, is_some-map, frame_bytes, Role, Free, Table, Page, get-set_same, get-set_other, table_of, entry_at, IsCleared, counted, count_range, PageEntry, same, same_or_not, same_itself, Slot, Cell, Spaces, without, is_slot, at_page, TableFreed, EntryLeft, cell_of, directory_of, table_in, entries_in, spaces_in, IsSound, region_pages, pages_by, pages_under, IsCounted, AlwaysMapsAlike, KeepsCounts, MapsOneMore, MapsAlike, IsTaken, IsHeld, IsReleased, released, opening_roles, count_range-same, count_range-le, count-no_table, count_some, table_mapped}
 use Rattle.page_map.proofs.MapChanges.{table_there}
 use Rattle.address_space.proofs.costs.AccessCosts.{key-insert}
 use Rattle.address_space.proofs.costs.Relief.{is_gone}

@@ -1,6 +1,5 @@
 -- A process whose pages leave their groups, and whose directory then goes.
-use Rattle.address_space.proofs.Prelude
-use Prelude.{◌≡◌, ◌≢◌, ℕ, ◌+◌, ◌*◌, ◌<◌, ◌≤◌, Bool, true, false, cond, not, List, length, refl, ap, sym, ◌∙◌, subst, arith, inl, inr, Option, Some, None, length-set, ◌&&◌, ◌⊎◌, is_some, slice_get, slice_set, if◌then◌else◌, option_and_then, option_map, unwrap_or, list_any, cases_eq, cases_lt, slot_number, index_number, same, Set, same_or_not, same_itself, same_map, same_set, get-map_values, get-retain_keys, contains-retain, get-collect, frame_bytes, word_in, Role, Free, Directory, frames_weight, weight, IsReleased, released, weight-set, get-set_same, get-set_other, Frames, word_entry, table_of, entry_at, Slot, slot_order, Cell, Spaces, cost, need, pages_of, regions_of, without, with_holders, is_slot, at_page, is_of, user_slots, Entries, lazy_count, spaces_of, View, Directories, Roles, directory_of, table_in, entry_in, entries_in, spaces_in, live_cost, total_cost, Tables, Pages, IsSound, IsSpaces, IsEmptySpace, DroppedBelow, DirectoryDropped, eqb-true, eq-eqb, FramesStay, of_page, LooseStay, image_of}
+use Rattle.address_space.proofs.Prelude.{◌≡◌, ◌≢◌, ℕ, ◌+◌, ◌*◌, ◌<◌, ◌≤◌, Bool, true, false, cond, not, List, length, refl, ap, sym, ◌∙◌, subst, arith, inl, inr, Option, Some, None, length-set, ◌&&◌, ◌⊎◌, is_some, slice_get, slice_set, if◌then◌else◌, option_and_then, option_map, unwrap_or, list_any, cases_eq, cases_lt, slot_number, index_number, same, Set, same_or_not, same_itself, same_map, same_set, get-map_values, get-retain_keys, contains-retain, get-collect, frame_bytes, word_in, Role, Free, Directory, frames_weight, weight, IsReleased, released, weight-set, get-set_same, get-set_other, Frames, word_entry, table_of, entry_at, Slot, slot_order, Cell, Spaces, cost, need, pages_of, regions_of, without, with_holders, is_slot, at_page, is_of, user_slots, Entries, lazy_count, spaces_of, View, Directories, Roles, directory_of, table_in, entry_in, entries_in, spaces_in, live_cost, total_cost, Tables, Pages, IsSound, IsSpaces, IsEmptySpace, DroppedBelow, DirectoryDropped, eqb-true, eq-eqb, FramesStay, of_page, LooseStay, image_of}
 use Rattle.address_space.proofs.costs.Costs.{contains-pages_of}
 use Rattle.address_space.proofs.costs.CostSteps.{sum_one}
 use Rattle.address_space.proofs.entries.EntrySteps.{get-entries_in, entry_by_table}

@@ -1,6 +1,5 @@
 -- What walks that find a frame for each page of an access find at each of its bytes.
-use Rattle.address_space.proofs.Prelude
-use Prelude.{◌≡◌, ℕ, zero, suc, ◌+◌, ◌^◌, ◌<◌, true, List, ◌∷◌, refl, ap, sym, ◌∙◌, subst, arith, Option, Some, is_some, IfSome, IsOk, option_map, unwrap_or, range_with_len, and_parts, IsUserPage, page_number, start_number, byte_count, second_page, Size, some_bytes, Role, Access, walk_of, Image, directory_at, image_from, directory_of, IsSound, finds_at, finds, map as each}
+use Rattle.address_space.proofs.Prelude.{◌≡◌, ℕ, zero, suc, ◌+◌, ◌^◌, ◌<◌, true, List, ◌∷◌, refl, ap, sym, ◌∙◌, subst, arith, Option, Some, is_some, IfSome, IsOk, option_map, unwrap_or, range_with_len, and_parts, IsUserPage, page_number, start_number, byte_count, second_page, Size, some_bytes, Role, Access, walk_of, Image, directory_at, image_from, directory_of, IsSound, finds_at, finds, map as each}
 use Rattle.address_space.proofs.steps.Bytes.{each_byte}
 use Rattle.address_space.proofs.steps.WalkSteps.{found_entry, page_found}
 

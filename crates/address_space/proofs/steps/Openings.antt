@@ -1,6 +1,5 @@
 -- A machine without any space, and a process that gets an empty one.
-use Rattle.address_space.proofs.Prelude
-use Prelude.{◌≡◌, ◌≢◌, ℕ, zero, suc, ◌+◌, ◌*◌, ◌<◌, ◌≤◌, true, cond, List, length, replicate, refl, ap, sym, ◌∙◌, subst, arith, inl, inr, Option, Some, None, length-set, get_or, ◌⊎◌, is_some, slice_get, slice_set, if◌then◌else◌, sum_by, option_and_then, option_map, unwrap_or, list_any, range_with_len, cases_eq, length-replicate, get_or-drop, sum_by-cons, slice_get_within, is_present, same, slot_number, index_number, same_map, same_set, get-collect, frame_bytes, blank_bytes, word_at, word_in, with_frame, Role, Reserved, Free, Directory, Table, Page, frames_weight, weight, IsTaken, opening_roles, free_frames, weight-taken, get-set_same, get-set_other, PageEntry, Frames, dir_word, word_table, word_entry, table_of, Slot, slot_order, Spaces, cost, cost_of, pages_of, at_page, user_slots, Entries, lazy_count, spaces_of, cell_of, Directories, Roles, directory_of, table_in, entry_in, entries_in, spaces_in, live_cost, total_cost, Tables, Pages, IsSpaces, SpaceAdded, with_frame-same, with_frame-other, frame-blank}
+use Rattle.address_space.proofs.Prelude.{◌≡◌, ◌≢◌, ℕ, zero, suc, ◌+◌, ◌*◌, ◌<◌, ◌≤◌, true, cond, List, length, replicate, refl, ap, sym, ◌∙◌, subst, arith, inl, inr, Option, Some, None, length-set, get_or, ◌⊎◌, is_some, slice_get, slice_set, if◌then◌else◌, sum_by, option_and_then, option_map, unwrap_or, list_any, range_with_len, cases_eq, length-replicate, get_or-drop, sum_by-cons, slice_get_within, is_present, same, slot_number, index_number, same_map, same_set, get-collect, frame_bytes, blank_bytes, word_at, word_in, with_frame, Role, Reserved, Free, Directory, Table, Page, frames_weight, weight, IsTaken, opening_roles, free_frames, weight-taken, get-set_same, get-set_other, PageEntry, Frames, dir_word, word_table, word_entry, table_of, Slot, slot_order, Spaces, cost, cost_of, pages_of, at_page, user_slots, Entries, lazy_count, spaces_of, cell_of, Directories, Roles, directory_of, table_in, entry_in, entries_in, spaces_in, live_cost, total_cost, Tables, Pages, IsSpaces, SpaceAdded, with_frame-same, with_frame-other, frame-blank}
 use Rattle.address_space.proofs.costs.Costs.{contains-pages_of}
 use Rattle.address_space.proofs.costs.CostSteps.{sum_one}
 use Rattle.address_space.proofs.costs.Costed.{free_where_light}

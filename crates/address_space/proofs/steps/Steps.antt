@@ -1,6 +1,5 @@
 -- What each step of the code leaves.
-use Rattle.address_space.proofs.Prelude
-use Prelude.{◌≡◌, ◌≢◌, ℕ, ◌+◌, ◌*◌, ◌^◌, ◌<◌, ◌≤◌, Bool, true, false, List, length, replicate, refl, ap, sym, ◌∙◌, subst, arith, inl, inr, Option, Some, None, length-set, cond, is_some, slice_get, slice_set, option_and_then, option_map, slice_get_within, slot_number, is_present, frame_number, frame_bytes, word_in, with_frame, with_frame_bytes, Role, Reserved, Free, Directory, Table, Page, IsTaken, frames_weight, get-set_same, get-set_other, weight-taken, length-frame, with_frame-other, frames-with_frame_bytes, entry_word-names, entry_word-lt, entry_word-present, word_entry-entry_word, length-replicate, PageEntry, Frames, dir_word, word_table, table_of, with_table, with_entry, entry_word, IsKernelEntry, IsPageMap, Slot, fresh, at_page, slot_order, Entries, lazy_count, cell_of, spaces_of, Directories, Roles, directory_of, table_in, entry_in, entries_in, spaces_in, total_cost, Tables, Pages, HoldsPage, IsSound, InUseAt, Inside, TableGiven, PageAdded, SlotAdded, get-insert, same_itself}
+use Rattle.address_space.proofs.Prelude.{◌≡◌, ◌≢◌, ℕ, ◌+◌, ◌*◌, ◌^◌, ◌<◌, ◌≤◌, Bool, true, false, List, length, replicate, refl, ap, sym, ◌∙◌, subst, arith, inl, inr, Option, Some, None, length-set, cond, is_some, slice_get, slice_set, option_and_then, option_map, slice_get_within, slot_number, is_present, frame_number, frame_bytes, word_in, with_frame, with_frame_bytes, Role, Reserved, Free, Directory, Table, Page, IsTaken, frames_weight, get-set_same, get-set_other, weight-taken, length-frame, with_frame-other, frames-with_frame_bytes, entry_word-names, entry_word-lt, entry_word-present, word_entry-entry_word, length-replicate, PageEntry, Frames, dir_word, word_table, table_of, with_table, with_entry, entry_word, IsKernelEntry, IsPageMap, Slot, fresh, at_page, slot_order, Entries, lazy_count, cell_of, spaces_of, Directories, Roles, directory_of, table_in, entry_in, entries_in, spaces_in, total_cost, Tables, Pages, HoldsPage, IsSound, InUseAt, Inside, TableGiven, PageAdded, SlotAdded, get-insert, same_itself}
 use Rattle.address_space.proofs.entries.Refinement.{lazy_refines, get-spaces_of}
 use Rattle.address_space.proofs.costs.CostSteps.{total-entry}
 use Rattle.address_space.proofs.entries.EntrySteps.{Loose, entries-insert, entry_own, tables-entry, tables_kept, use_own, use_kept}

@@ -1,6 +1,5 @@
 -- The effect of a store, a load and a change of the right through a mapped slot.
-use Rattle.address_space.proofs.Prelude
-use Prelude.{◌≡◌, ℕ, suc, ◌+◌, ◌*◌, ◌/◌, ◌%◌, ◌^◌, ◌<◌, ◌≤◌, Bool, true, false, List, ◌++◌, length, take, drop, refl, ap, sym, ◌∙◌, subst, arith, inl, inr, Option, Some, length-append, length-drop, zero, append_assoc, is_some, slice_get, slice_set, splice, option_and_then, slot_number, index_number, byte_count, Size, frame_number, IsKernelTableWord, frame_bytes, word_in, with_word, with_frame, Role, Table, Page, PageEntry, Frames, dir_word, table_of, word_entry, entry_at, with_entry, entry_word, IsKernelEntry, entry_word-names, entry_word-lt, entry_word-present, word_entry-entry_word, same, Slot, Spaces, Cell, cell_or_fresh, write_at, bytes_of, stored, protected, at_page, Entries, holders_of, cell_of, spaces_of, Directories, Roles, directory_of, table_in, entries_in, spaces_in, total_cost, Tables, Pages, HoldsPage, IsSound, InUseAt, Names, Inside, InUse, ne_eqb, with_frame-other, frames-with_word_at, frames-with_byte, set_split, length-take-le, EntryPut, Touched, flagged, accessed as accessed_in}
+use Rattle.address_space.proofs.Prelude.{◌≡◌, ℕ, suc, ◌+◌, ◌*◌, ◌/◌, ◌%◌, ◌^◌, ◌<◌, ◌≤◌, Bool, true, false, List, ◌++◌, length, take, drop, refl, ap, sym, ◌∙◌, subst, arith, inl, inr, Option, Some, length-append, length-drop, zero, append_assoc, is_some, slice_get, slice_set, splice, option_and_then, slot_number, index_number, byte_count, Size, frame_number, IsKernelTableWord, frame_bytes, word_in, with_word, with_frame, Role, Table, Page, PageEntry, Frames, dir_word, table_of, word_entry, entry_at, with_entry, entry_word, IsKernelEntry, entry_word-names, entry_word-lt, entry_word-present, word_entry-entry_word, same, Slot, Spaces, Cell, cell_or_fresh, write_at, bytes_of, stored, protected, at_page, Entries, holders_of, cell_of, spaces_of, Directories, Roles, directory_of, table_in, entries_in, spaces_in, total_cost, Tables, Pages, HoldsPage, IsSound, InUseAt, Names, Inside, InUse, ne_eqb, with_frame-other, frames-with_word_at, frames-with_byte, set_split, length-take-le, EntryPut, Touched, flagged, accessed as accessed_in}
 use Rattle.byteorder.specs.Endian.{little_bytes}
 use Rattle.address_space.proofs.entries.UserSlots.{in_user_slots}
 use Rattle.address_space.proofs.costs.CostSteps.{total-kept}

@@ -1,6 +1,5 @@
 -- What a walk that finds a frame, its mark, and a byte written where it leads come to.
-use Rattle.address_space.proofs.Prelude
-use Prelude.{◌≡◌, ℕ, ◌+◌, ◌*◌, ◌%◌, ◌^◌, ◌<◌, ◌≤◌, Bool, true, false, not, List, [], ◌∷◌, length, refl, ap, sym, ◌∙◌, subst, arith, inl, inr, Option, Some, None, ◌&&◌, is_some, if◌then◌else◌, slice_get, slice_set, IsOk, Result, Ok, Err, nat_le, option_and_then, is_ok, nat_tests, IsUserPage, page_number, offset_number, slot_number, index_number, frame_number, is_present, NamesPage, IsKernelTableWord, frame_bytes, word_at, word_place, with_word, word_in, with_word_in, with_frame, Role, Directory, Table, Access, Read, Write, WalkEnd, Outside, PageEntry, Frames, dir_word, table_of, word_entry, entry_from, entry_at, entry_word, with_entry, lets_writes, IsKernelEntry, walks_read_entries, user_cases, byte_place, is_marked, and_parts, Slot, Spaces, Cell, cell_or_fresh, stored, write_at, at_page, slot_at, Directories, Roles, directory_of, table_in, spaces_in, Tables, IsSound, Inside, Touched, none_goes, table_words_by_fields, by_frame, frames-with_word, frames-with_byte, word_in-frame, walk_of, table_word, is_write, is_outside, not_allowed, end_at_entry, touched_entry, entry_word-names, with_flag_lt, accessed as accessed_in, entry_from-entry_word, marked, accessed_word, touched_word}
+use Rattle.address_space.proofs.Prelude.{◌≡◌, ℕ, ◌+◌, ◌*◌, ◌%◌, ◌^◌, ◌<◌, ◌≤◌, Bool, true, false, not, List, [], ◌∷◌, length, refl, ap, sym, ◌∙◌, subst, arith, inl, inr, Option, Some, None, ◌&&◌, is_some, if◌then◌else◌, slice_get, slice_set, IsOk, Result, Ok, Err, nat_le, option_and_then, is_ok, nat_tests, IsUserPage, page_number, offset_number, slot_number, index_number, frame_number, is_present, NamesPage, IsKernelTableWord, frame_bytes, word_at, word_place, with_word, word_in, with_word_in, with_frame, Role, Directory, Table, Access, Read, Write, WalkEnd, Outside, PageEntry, Frames, dir_word, table_of, word_entry, entry_from, entry_at, entry_word, with_entry, lets_writes, IsKernelEntry, walks_read_entries, user_cases, byte_place, is_marked, and_parts, Slot, Spaces, Cell, cell_or_fresh, stored, write_at, at_page, slot_at, Directories, Roles, directory_of, table_in, spaces_in, Tables, IsSound, Inside, Touched, none_goes, table_words_by_fields, by_frame, frames-with_word, frames-with_byte, word_in-frame, walk_of, table_word, is_write, is_outside, not_allowed, end_at_entry, touched_entry, entry_word-names, with_flag_lt, accessed as accessed_in, entry_from-entry_word, marked, accessed_word, touched_word}
 use Rattle.phys_memory.proofs.Words.{length-with_word}
 use Rattle.table_walk.proofs.Leads.{walks_find_what_leads}
 use Rattle.page_map.proofs.MarkProofs.{touched_names, entry_from-touched}
