@@ -98,12 +98,9 @@ well_formed-withdraw s p page target w = record {
   rooms = w.rooms;
   owners = w.owners;
   cells = w.cells;
-  offers = λ key right h. offer-same s fewer key right (w.offers key right (retained s.offers (λ j. not (same offer_order (offer_key p page target) j)) key right h).1);
+  offers = λ key right h. offer-same s (map.remove s.offers (offer_key p page target)) key right (w.offers key right (retained s.offers (λ j. not (same offer_order (offer_key p page target) j)) key right h).1);
   few = λ q. let a = len-retain s.offers (λ j. not (same offer_order (offer_key p page target) j)) (λ key. key.offerer == q) in let b = w.few q in omega (arith, a, b);
 }
-  where
-    fewer : Offers
-    fewer = map.remove s.offers (offer_key p page target)
 
 -- ---- A slot joins a group
 
@@ -139,12 +136,6 @@ module _ (S : Spaces) (giver slot : Slot) (g : Cell) (right : Bool) (at : map.ge
   get-outside : (q : Slot) (d : Cell) → map.get S q ≡ Some d → set.contains group q ≡ false → map.get joined_spaces q ≡ Some d
   get-outside q d h outside = get-other q (apart q d h) ∙ ap (option_map (widened q)) h ∙ ap (λ b. Some (if b then with_holders d wider else d)) outside
 
-  wider-slot : set.contains wider slot ≡ true
-  wider-slot = contains-insert group slot slot ∙ ap (λ b. b || set.contains group slot) (same_itself slot_order slot)
-
-  wider-inside : (q : Slot) → set.contains group q ≡ true → set.contains wider q ≡ true
-  wider-inside q inside = contains-insert group slot q ∙ or_right (same slot_order q slot) (set.contains group q) inside
-
   -- each slot of the wider group has the group's bytes, and the wider group
   alike_wider : (other : Slot) → set.contains wider other ≡ true → (f : Cell) × (map.get joined_spaces other ≡ Some f) × (f.holders ≡ wider) × (f.bytes ≡ g.bytes)
   alike_wider other h = elim (or_cases (same slot_order other slot) (set.contains group other) (sym (contains-insert group slot other) ∙ h)) [
@@ -159,7 +150,7 @@ module _ (S : Spaces) (giver slot : Slot) (g : Cell) (right : Bool) (at : map.ge
     small = (cells giver g at).small;
     write_may = λ h. h;
     dirty_accessed = λ h. h;
-    own = wider-slot;
+    own = contains-insert group slot slot ∙ ap (λ b. b || set.contains group slot) (same_itself slot_order slot);
     alike = alike_wider;
   }
 
@@ -174,7 +165,7 @@ module _ (S : Spaces) (giver slot : Slot) (g : Cell) (right : Bool) (at : map.ge
         small = was.small;
         write_may = was.write_may;
         dirty_accessed = was.dirty_accessed;
-        own = wider-inside q inside;
+        own = contains-insert group slot q ∙ or_right (same slot_order q slot) (set.contains group q) inside;
         alike = λ other k. let f = alike_wider other k in (f.0, f.1, f.2, f.3 ∙ sym same_bytes);
       }
 

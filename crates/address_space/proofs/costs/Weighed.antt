@@ -1,6 +1,6 @@
 -- Where frames agree, they and the lazy pages weigh no more than the costs: each process has as many uses as it costs,
 -- and a frame has a use for each of its slots.
-use Rattle.address_space.proofs.Prelude.{◌≡◌, ℕ, zero, suc, ◌+◌, ◌*◌, ◌<◌, ◌≤◌, ◌==◌, Bool, true, cond, ◌||◌, List, [], ◌∷◌, ◌++◌, length, length-append, refl, ap, sym, subst, ◌∙◌, arith, inl, inr, Option, Some, None, slice_get, is_some, if◌then◌else◌, sum_by, unwrap_or, option_map, option_and_then, list_any, range_with_len, is_some-find, cases_eq, cases_lt, or_right, length-map, sum_by-cons, slot_number, index_number, Order, nat_order, same, Set, same_or_not, same_itself, contains-from_list, len-insert, frame_bytes, word_in, Role, Reserved, Free, Directory, Table, Page, weight, frames_weight, PageEntry, Frames, table_of, word_entry, entry_from, entry_at, Slot, slot_order, Spaces, cost, pages_of, regions_of, at_page, user_slots, Entries, names, holders_of, lazy_count, spaces_of, Directories, directory_of, table_in, entry_in, entries_in, spaces_in, live_cost, total_cost, eqb-true, eq-eqb, IsSound, InUse, weight_in, map as list_map}
+use Rattle.address_space.proofs.Prelude.{◌≡◌, ℕ, zero, suc, ◌+◌, ◌*◌, ◌<◌, ◌≤◌, ◌==◌, Bool, true, cond, ◌||◌, List, [], ◌∷◌, ◌++◌, length, length-append, refl, ap, sym, subst, ◌∙◌, arith, inl, inr, Option, Some, None, slice_get, is_some, if◌then◌else◌, sum_by, unwrap_or, option_map, option_and_then, list_any, range_with_len, is_some-find, cases_eq, cases_lt, or_right, length-map, sum_by-cons, slot_number, index_number, Order, nat_order, same, Set, same_or_not, contains-from_list, len-insert, frame_bytes, word_in, Role, Reserved, Free, Directory, Table, Page, weight, frames_weight, PageEntry, Frames, table_of, word_entry, entry_from, entry_at, Slot, slot_order, Spaces, cost, pages_of, regions_of, at_page, user_slots, Entries, names, holders_of, lazy_count, spaces_of, Directories, directory_of, table_in, entry_in, entries_in, spaces_in, live_cost, total_cost, eqb-true, eq-eqb, IsSound, InUse, weight_in, map as list_map}
 use Rattle.address_space.proofs.costs.Costs.{contains-pages_of}
 use Rattle.address_space.proofs.costs.CostSteps.{keys, region_there}
 use Rattle.address_space.proofs.costs.Hits.{once, hits, sum-hits, hits-append, hits-map, weights-below}
@@ -22,10 +22,7 @@ member {K} {o} s k h = sym (is_some-find o.cmp k s.entries) ∙ h
 
 any-append : {A : Type 0} (t : A → Bool) (xs ys : List A) → list_any t (xs ++ ys) ≡ (list_any t xs || list_any t ys)
 any-append t [] ys = refl
-any-append t (x ∷ xs) ys = ap (λ b. t x || b) (any-append t xs ys) ∙ or_assoc (t x) (list_any t xs) (list_any t ys)
-  where
-    or_assoc : (a b c : Bool) → (a || (b || c)) ≡ ((a || b) || c)
-    or_assoc a b c = grind arith
+any-append t (x ∷ xs) ys = ap (λ b. t x || b) (any-append t xs ys) ∙ (grind arith)
 
 module _ (directories : List (Option ℕ)) (bytes : List ℕ) (roles : List Role) (S : IsSound directories bytes roles) (used : InUse (directory_of directories) (frame_bytes bytes)) where
   abbrev D : Directories
@@ -156,13 +153,10 @@ module _ (directories : List (Option ℕ)) (bytes : List ℕ) (roles : List Role
   any-slots_hit : (f p page : ℕ) (ps : List ℕ) → list_any (same nat_order page) ps ≡ true → frame_at p page ≡ f → list_any (same slot_order (at_page p page)) (slots_hit f p ps) ≡ true
   any-slots_hit f p page [] h e = cc
   any-slots_hit f p page (x ∷ xs) h e = elim (same_or_not nat_order page x) [
-    | inl is ↦ first (frame_at p x == f) (eq-eqb (frame_at p x) f (ap (frame_at p) (sym is.0) ∙ e)) (ap (λ y. same slot_order (at_page p page) (at_page p y)) (sym is.0) ∙ same_itself slot_order (at_page p page))
+    | inl is ↦ grind arith
     | inr other ↦ later (frame_at p x == f) (any-slots_hit f p page xs (ap (λ b. b || list_any (same nat_order page) xs) (sym other) ∙ h) e)
   ]
     where
-      first : (b : Bool) → b ≡ true → same slot_order (at_page p page) (at_page p x) ≡ true → list_any (same slot_order (at_page p page)) (cond b (at_page p x ∷ slots_hit f p xs) (slots_hit f p xs)) ≡ true
-      first b h t = grind arith
-
       later : (b : Bool) → list_any (same slot_order (at_page p page)) (slots_hit f p xs) ≡ true → list_any (same slot_order (at_page p page)) (cond b (at_page p x ∷ slots_hit f p xs) (slots_hit f p xs)) ≡ true
       later b h = grind (arith, or_right)
 

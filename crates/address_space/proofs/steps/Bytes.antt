@@ -1,5 +1,5 @@
 -- Accesses byte by byte, and as one where their bytes lie in one page.
-use Rattle.address_space.proofs.Prelude.{◌≡◌, ℕ, zero, suc, ◌+◌, ◌*◌, ◌/◌, ◌<◌, ◌≤◌, Bool, true, false, cond, List, [], ◌∷◌, ◌++◌, length, take, drop, refl, ap, sym, ◌∙◌, arith, inl, inr, Option, Some, None, length-drop, ◌-◌, drop-drop, unwrap_or, option_map, slice_index, if◌then◌else◌, ◌⊎◌, range_with_len, slice_range, page_number, offset_number, byte_count, covered, second_page, EachTouched, Size, same, cases_lt, same_or_not, same_itself, same_map, get-insert, get-map_values, Slot, slot_order, at_page, slot_at, Cell, Spaces, fresh, cell_or_fresh, set_bytes, with_bytes, stored, store_in, write_at, bytes_at, bytes_of, value_of, byte_at, number_of, all_stored, get_or-drop, append-nil, drop-take, length-take-le, take-append-drop, stays, crosses, some_bytes, page_stays, page_next, ◌^◌, mul_assoc, mul_comm, pow-zero, map-append, range_split, map as each}
+use Rattle.address_space.proofs.Prelude.{◌≡◌, ℕ, zero, suc, ◌+◌, ◌*◌, ◌/◌, ◌<◌, ◌≤◌, true, false, cond, List, [], ◌∷◌, ◌++◌, length, take, drop, refl, ap, sym, ◌∙◌, arith, inl, inr, Option, Some, None, length-drop, ◌-◌, drop-drop, unwrap_or, option_map, slice_index, if◌then◌else◌, ◌⊎◌, range_with_len, slice_range, page_number, offset_number, byte_count, covered, second_page, EachTouched, Size, same, cases_lt, same_or_not, same_itself, same_map, get-insert, get-map_values, Slot, slot_order, at_page, slot_at, Cell, Spaces, fresh, cell_or_fresh, set_bytes, with_bytes, stored, store_in, write_at, bytes_at, bytes_of, value_of, byte_at, number_of, all_stored, get_or-drop, append-nil, drop-take, length-take-le, take-append-drop, stays, crosses, some_bytes, page_stays, page_next, ◌^◌, mul_assoc, mul_comm, pow-zero, map-append, range_split, map as each}
 use Rattle.std.proofs.lemmas.Grind.{pow_more}
 use Rattle.page_words.specs.FiniteMap as map
 use Rattle.page_words.specs.FiniteSet as set
@@ -17,11 +17,8 @@ pub value_by_places : (xs : List ℕ) (at n : ℕ) → value_of (each (slice_ind
 value_by_places xs at zero = refl
 value_by_places xs at (suc n) =
     ap (λ v. slice_index xs at + 256 * v) (value_by_places xs (at + 1) n)
-    ∙ by (drop at xs) refl (first ∙ sym (get_or-drop at xs 0 0))
+    ∙ by (drop at xs) refl ((let e : at ≡ at + 0 = omega arith in ap (slice_index xs) e) ∙ sym (get_or-drop at xs 0 0))
   where
-    first : slice_index xs at ≡ slice_index xs (at + 0)
-    first = let e : at ≡ at + 0 = omega arith in ap (slice_index xs) e
-
     rest : drop (at + 1) xs ≡ drop 1 (drop at xs)
     rest = sym (drop-drop 1 at xs)
 
@@ -38,17 +35,11 @@ value_by_places xs at (suc n) =
 -- the bytes at some places in a row are those of a part
 pub bytes_by_places : (xs : List ℕ) (at n : ℕ) → at + n ≤ length xs → each (slice_index xs) (range_with_len at n) ≡ take n (drop at xs)
 bytes_by_places xs at zero fits = refl
-bytes_by_places xs at (suc n) fits = by (drop at xs) refl (length-drop at xs) (first ∙ sym (get_or-drop at xs 0 0)) (bytes_by_places xs (at + 1) n (omega (arith, fits)))
+bytes_by_places xs at (suc n) fits = by (drop at xs) refl (length-drop at xs) ((let e : at ≡ at + 0 = omega arith in ap (slice_index xs) e) ∙ sym (get_or-drop at xs 0 0)) (bytes_by_places xs (at + 1) n (omega (arith, fits)))
   where
-    first : slice_index xs at ≡ slice_index xs (at + 0)
-    first = let e : at ≡ at + 0 = omega arith in ap (slice_index xs) e
-
-    rest : drop (at + 1) xs ≡ drop 1 (drop at xs)
-    rest = sym (drop-drop 1 at xs)
-
     by : (ys : List ℕ) → drop at xs ≡ ys → length (drop at xs) ≡ length xs - at → slice_index xs at ≡ slice_index (drop at xs) 0
         → each (slice_index xs) (range_with_len (at + 1) n) ≡ take n (drop (at + 1) xs) → slice_index xs at ∷ each (slice_index xs) (range_with_len (at + 1) n) ≡ take (suc n) ys
-    by ys is long e others = grind (arith, rest)
+    by ys is long e others = grind (arith, (sym (drop-drop 1 at xs)))
 
 -- the number of two lists of bytes
 pub value-append : (xs ys : List ℕ) → value_of (xs ++ ys) ≡ value_of xs + 256 ^ length xs * value_of ys
@@ -168,9 +159,6 @@ module _ (S : Spaces) (slot : Slot) where
       f : List ℕ → Slot → Cell → Cell
       f bytes s c = if set.contains cell.holders s then with_bytes c bytes else c
 
-      over : (b : Bool) (x : Option Cell) → option_map (λ c. if b then with_bytes c v else c) (option_map (λ c. if b then with_bytes c w else c) x) ≡ option_map (λ c. if b then with_bytes c v else c) x
-      over b x = grind arith
-
       by : (q : Slot) → ((q ≡ slot) × (same slot_order q slot ≡ true)) ⊎ (same slot_order q slot ≡ false)
           → cond (same slot_order q slot) (Some last) (map.get (set_bytes (first w) cell.holders v) q) ≡ cond (same slot_order q slot) (Some last) (map.get (set_bytes S cell.holders v) q)
       by q (inl h) = ap (λ b. cond b (Some last) (map.get (set_bytes (first w) cell.holders v) q)) h.1 ∙ sym (ap (λ b. cond b (Some last) (map.get (set_bytes S cell.holders v) q)) h.1)
@@ -180,7 +168,7 @@ module _ (S : Spaces) (slot : Slot) where
           ∙ ap (option_map (f v q)) (get-insert (set_bytes S cell.holders w) slot (record cell { bytes = w; accessed = true; dirty = true }) q
           ∙ ap (λ b. cond b (Some (record cell { bytes = w; accessed = true; dirty = true })) (map.get (set_bytes S cell.holders w) q)) h
           ∙ get-map_values slot_order (f w) S q)
-          ∙ over (set.contains cell.holders q) (map.get S q)
+          ∙ (grind arith)
           ∙ sym (get-map_values slot_order (f v) S q))
 
   -- bytes stored behind one are stored with it

@@ -1,5 +1,5 @@
 -- What a copy of a page leaves, and then a copy of all pages of a process.
-use Rattle.address_space.proofs.Prelude.{names, Entries, group_of, spaces_of, ◌≡◌, ◌≢◌, ℕ, ◌+◌, ◌<◌, ◌≤◌, true, false, cond, List, length, refl, ap, sym, ◌∙◌, subst, arith, inl, inr, Option, Some, None, length-set, ◌==◌, unwrap_or, option_and_then, option_map, ◌⊎◌, is_some, slice_get, if◌then◌else◌, slot_number, IsUserPage, frame_number, Map, get-insert, same_itself, same_map, same_apart, some_value, frame_bytes, with_frame, with_frame_bytes, with_frame-same, with_frame-other, length-frame, frames-with_frame_bytes, Role, Free, Page, IsTaken, weight-taken, PageEntry, Frames, dir_word, table_of, entry_at, with_entry, is_lazy_entry, Slot, slot_order, Cell, Spaces, cell_or_fresh, copy_of, copied, copied_at, cost, cost_of, fresh, pages_of, regions_of, at_page, Directories, Roles, directory_of, table_in, entries_in, spaces_in, live_cost, total_cost, Tables, IsSound, IsSpaces, InUseAt, TableGiven, IsEmptySpace, SlotCopied, PageCopied, CopiedBelow, PagesCopied, cases_eq, cases_lt, ne_eqb, eq-eqb, nat_eq_equiv, none_goes}
+use Rattle.address_space.proofs.Prelude.{names, Entries, group_of, spaces_of, ◌≡◌, ◌≢◌, ℕ, ◌+◌, ◌<◌, ◌≤◌, true, false, cond, List, length, refl, ap, sym, ◌∙◌, subst, arith, inl, inr, Option, Some, None, length-set, ◌==◌, unwrap_or, option_and_then, option_map, is_some, slice_get, if◌then◌else◌, slot_number, IsUserPage, frame_number, Map, get-insert, same_itself, same_map, same_apart, some_value, frame_bytes, with_frame, with_frame_bytes, with_frame-same, with_frame-other, length-frame, frames-with_frame_bytes, Role, Free, Page, IsTaken, weight-taken, PageEntry, Frames, dir_word, table_of, entry_at, with_entry, is_lazy_entry, Slot, slot_order, Cell, Spaces, cell_or_fresh, copy_of, copied, cost, cost_of, fresh, pages_of, regions_of, at_page, Directories, Roles, directory_of, table_in, entries_in, spaces_in, live_cost, total_cost, Tables, IsSound, IsSpaces, InUseAt, TableGiven, IsEmptySpace, SlotCopied, PageCopied, CopiedBelow, PagesCopied, cases_eq, cases_lt, ne_eqb, eq-eqb, nat_eq_equiv, none_goes}
 use Rattle.address_space.proofs.costs.Copied.{get-copied}
 use Rattle.address_space.proofs.costs.Costed.{Room, mapped}
 use Rattle.address_space.proofs.costs.Costs.{same_pages}
@@ -289,11 +289,8 @@ module _ (directories : List (Option ℕ)) (bytes one : List ℕ) (roles roles1 
   copied_from : (c : Cell) (other : ℕ) → map.contains_key (more c) (at_page to other) ≡ true → map.contains_key S (at_page from other) ≡ true
   copied_from c other h = elim (cases_eq other page) [
     | inl same ↦ ap (λ n. map.contains_key S (at_page from n)) same ∙ ap is_some was
-    | inr differ ↦ grind (arith, put_other, other_page, cases_lt, both)
+    | inr differ ↦ grind (arith, put_other, other_page, cases_lt)
   ]
-    where
-      both : (x : Option Cell) → is_some (option_map (copy_of (at_page to other)) x) ≡ true → is_some x ≡ true
-      both x h = grind arith
 
   -- what all processes cost with one page more of that one
   total_grown : IsEmptySpace S to → to < 64 → (c : Cell) → total_cost directories (more c) + 1 ≡ total_cost directories S + cost (more c) to
@@ -326,7 +323,7 @@ module _ (directories : List (Option ℕ)) (bytes one : List ℕ) (roles roles1 
         after = made.after;
         others = λ q n. ap (λ x. map.get x q) made.spaces ∙ put_other S1 slot copy q (other_process q n) ∙ so_far.others q n;
         below = λ other l. ap (λ x. map.get x (at_page to other)) made.spaces ∙ elim (cases_eq other page) [
-          | inl same ↦ ap (λ n. map.get (more copy) (at_page to n)) same ∙ put_here S1 slot copy ∙ sym (ap (λ n. option_map (copy_of (at_page to n)) (map.get S (at_page from n))) same ∙ ap (option_map (copy_of slot)) was ∙ ap (λ x. Some (copy_of slot x)) (sym there))
+          | inl same ↦ ap (λ n. map.get (more copy) (at_page to n)) same ∙ put_here S1 slot copy ∙ sym (ap (λ n. option_map (copy_of (at_page to n)) (map.get S (at_page from n))) same ∙ ap (option_map (copy_of slot)) was ∙ ap (λ x. Some (copy_of slot x)) (sym (ap (λ x. unwrap_or x (fresh (at_page from page) true)) cell.1)))
           | inr differ ↦ put_other S1 slot copy (at_page to other) (other_page other differ) ∙ so_far.below other (omega (arith, l, differ))
         ];
         rest = λ other l. ap (λ x. map.get x (at_page to other)) made.spaces ∙ put_other S1 slot copy (at_page to other) (other_page other (λ same. omega (arith, l, same))) ∙ so_far.rest other (omega (arith, l));
@@ -351,17 +348,15 @@ module _ (directories : List (Option ℕ)) (bytes one : List ℕ) (roles roles1 
       copy : Cell
       copy = copy_of slot (cell_or_fresh S1 (at_page from page))
 
-      there : cell_or_fresh S1 (at_page from page) ≡ cell.0
-      there = ap (λ x. unwrap_or x (fresh (at_page from page) true)) cell.1
-
 pub copied_at_last : (directories : List (Option ℕ)) (bytes one : List ℕ) (roles roles1 : List Role) (from to : ℕ) → IsSpaces directories bytes roles
     → CopiedBelow directories from to 0xf0000 bytes roles one roles1 → PagesCopied directories from to bytes roles one roles1
 copied_at_last directories bytes one roles roles1 from to s so_far = record {
   after = so_far.after;
-  spaces = same_map S1 (copied S from to) (λ q. at q (cases_eq q.pid to) ∙ sym (get-copied S from to q));
+  spaces = same_map S1 (copied S from to) (λ q. (grind (arith, S1, cases_lt, unmapped, S, eq-eqb, ne_eqb))
+      ∙ sym (get-copied S from to q));
   lazy = λ page.
       ap is_lazy_entry (same_entry directories one roles1 so_far.after.sound (at_page to page) ∙ sym (read_entry directories one roles1 so_far.after.sound (at_page to page)))
-      ∙ lazy_at page
+      ∙ (grind (arith, cases_lt, no_entry, unmapped))
       ∙ ap is_lazy_entry (read_entry directories bytes roles s.sound (at_page from page) ∙ sym (same_entry directories bytes roles s.sound (at_page from page)));
   stay = so_far.stay;
   length = so_far.length;
@@ -382,12 +377,3 @@ copied_at_last directories bytes one roles roles1 from to s so_far = record {
     -- no page behind the user range is there to be copied
     unmapped : (page : ℕ) → 0xf0000 ≤ page → map.get S (at_page from page) ≡ None
     unmapped page past = no_cell_outside directories bytes roles from page s.sound (inr past)
-
-    own : (page : ℕ) → map.get S1 (at_page to page) ≡ option_map (copy_of (at_page to page)) (map.get S (at_page from page))
-    own page = grind (arith, cases_lt, unmapped)
-
-    lazy_at : (page : ℕ) → is_lazy_entry (map.get E1 (at_page to page)) ≡ is_lazy_entry (map.get E (at_page from page))
-    lazy_at page = grind (arith, cases_lt, no_entry, unmapped)
-
-    at : (q : Slot) → (q.pid ≡ to) ⊎ (q.pid ≢ to) → map.get S1 q ≡ copied_at S from to q
-    at q h = grind (arith, S1, own, S, eq-eqb, ne_eqb)

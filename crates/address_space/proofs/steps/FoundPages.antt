@@ -15,7 +15,7 @@ use Rattle.address_space.proofs.steps.Openings.{no_cell}
 use Rattle.address_space.proofs.steps.Steps.{page_map_of, live_small, table_by_word, map_kept, zeroed, inside, free_loose}
 use Rattle.address_space.proofs.steps.LazyFilling.{page_filled, room_to_fill}
 use Rattle.address_space.proofs.steps.CountSteps.{counts_kept, alike_taken}
-use Rattle.address_space.proofs.steps.Stores.{frame_written, length-write_at, named_entry, page_of_name, named_inside, entry_rules, cell_read, flags_set, marks_cleared, flagged_load, flagged_right, stored_place, page_stored, written_long}
+use Rattle.address_space.proofs.steps.Stores.{frame_written, length-write_at, named_entry, page_of_name, named_inside, entry_rules, cell_read, flags_set, stored_place, page_stored, length-bytes_of}
 use Rattle.page_words.specs.FiniteMap as map
 
 -- what was found is the entry of the page's slot
@@ -194,46 +194,38 @@ module _ (inner : Inner) (p page : ℕ) (f : Found) (before : AreCountedInside i
     stay = grind (arith, frames_stay);
   }
 
+  -- flags that are written, which its cell gets
+  flags_left : (two : List ℕ) (write accessed dirty : Bool) (c : Cell)
+      → IsKernelEntry (record f.entry { write = write; accessed = accessed; dirty = dirty })
+      → EntryIs inner.memory f (record f.entry { write = write; accessed = accessed; dirty = dirty }) two
+      → length two ≡ length inner.memory
+      → c ≡ record (cell_or_fresh (spaces_at inner) (at_page p page)) { write = write; accessed = accessed; dirty = dirty }
+      → Left inner (map.insert (spaces_at inner) (at_page p page) c) two
+  flags_left two write accessed dirty c rules' put long is_c =
+      let e' : PageEntry = record f.entry { write = write; accessed = accessed; dirty = dirty } in
+      left two (map.insert (spaces_at inner) (at_page p page) c)
+      (flags_set inner.directories inner.memory two inner.frames p there.directory page f.entry write accessed dirty c
+      before.spaces.sound there.live user.0 user.1 there.here rules' (entry_put_at inner.memory two e' there.table put) long
+      (is_c ∙ ap (λ (x : Cell). record x { write = write; accessed = accessed; dirty = dirty }) found_cell))
+      (kept (spaces_at inner) (at_page p page) c found_there)
+
   -- a load
   pub found_loaded : (two : List ℕ) → EntryIs inner.memory f (record f.entry { accessed = true }) two → length two ≡ length inner.memory → Left inner (accessed (spaces_at inner) (at_page p page)) two
   found_loaded two put long =
-      left two (accessed (spaces_at inner) (at_page p page))
-      (subst (λ (s : Spaces). Touched inner.directories s inner.memory inner.frames two) (flagged_load inner.directories inner.memory p there.directory page f.entry there.live few user.0 user.1 there.here)
-      (flags_set inner.directories inner.memory two inner.frames p there.directory page f.entry f.entry.write true before.spaces.sound there.live user.0 user.1 there.here
-      (entry_rules inner.directories inner.memory inner.frames p there.directory page f.entry before.spaces.sound there.live there.here).right (λ _. refl) (entry_put_at inner.memory two (record f.entry { accessed = true }) there.table put) long))
-      (kept (spaces_at inner) (at_page p page) _ found_there)
+      flags_left two f.entry.write true f.entry.dirty _ (grind (arith, rules)) put long (grind (arith, found_cell))
 
   -- a change of the right
   pub found_protected : (two : List ℕ) (write : Bool) → (write ≡ true → (cell_or_fresh (spaces_at inner) (at_page p page)).may ≡ true) → EntryIs inner.memory f (record f.entry { write = write }) two → length two ≡ length inner.memory
       → Left inner (protected (spaces_at inner) (at_page p page) write) two
   found_protected two write may put long =
-      left two (protected (spaces_at inner) (at_page p page) write)
-      (subst (λ (s : Spaces). Touched inner.directories s inner.memory inner.frames two) (flagged_right inner.directories inner.memory p there.directory page f.entry write there.live few user.0 user.1 there.here)
-      (flags_set inner.directories inner.memory two inner.frames p there.directory page f.entry write f.entry.accessed before.spaces.sound there.live user.0 user.1 there.here
-      (λ w. sym (ap (λ (c : Cell). c.may) found_cell) ∙ may w) (entry_rules inner.directories inner.memory inner.frames p there.directory page f.entry before.spaces.sound there.live there.here).touched (entry_put_at inner.memory two (record f.entry { write = write }) there.table put) long))
-      (kept (spaces_at inner) (at_page p page) _ found_there)
+      flags_left two write f.entry.accessed f.entry.dirty _ (grind (arith, rules, found_cell)) put long
+      (grind (arith, found_cell))
 
   -- marks that are cleared
   pub found_cleaned : (two : List ℕ) → EntryIs inner.memory f (record f.entry { accessed = false; dirty = false }) two → length two ≡ length inner.memory
       → Left inner (map.insert (spaces_at inner) (at_page p page) (record (cell_or_fresh (spaces_at inner) (at_page p page)) { accessed = false; dirty = false })) two
   found_cleaned two put long =
-      left two (map.insert (spaces_at inner) (at_page p page) (record (cell_or_fresh (spaces_at inner) (at_page p page)) { accessed = false; dirty = false }))
-      (marks_cleared inner.directories inner.memory two inner.frames p there.directory page f.entry before.spaces.sound there.live user.0 user.1 there.here
-      (entry_put_at inner.memory two (record f.entry { accessed = false; dirty = false }) there.table put) long)
-      (kept (spaces_at inner) (at_page p page) _ found_there)
-
-  -- a store
-  pub found_stored : (two : List ℕ) (at : ℕ) (size : Size) (value : ℕ) → f.entry.lazy ≡ false → at + byte_count size ≤ 4096 → BytesStored inner.memory f at (bytes_of (byte_count size) value) two
-      → Left inner (stored (spaces_at inner) (at_page p page) at (bytes_of (byte_count size) value)) two
-  found_stored two at size value real inside s =
-      left two (stored (spaces_at inner) (at_page p page) at (bytes_of (byte_count size) value))
-      (let d = there.directory in
-      let place = stored_place inner.directories inner.memory inner.frames p d page f.entry before.spaces.sound there.live user.0 user.1 there.here real in
-      let long = written_long (frame_bytes inner.memory f.entry.frame) at size value place.long inside in
-      let kept = map_kept inner.directories inner.memory s.between inner.frames p d f.entry.frame _ before.spaces.sound there.live place.loose long s.written s.between_long in
-      page_stored inner.directories inner.memory s.between two inner.frames p d page at (bytes_of (byte_count size) value) f.entry before.spaces.sound there.live user.0 user.1 there.here real long s.written s.between_long
-      (entry_put_at s.between two (record f.entry { accessed = true; dirty = true }) (kept.tables (slot_number page) ∙ there.table) s.entry) s.long)
-      (λ q. key-stored (spaces_at inner) (at_page p page) at (bytes_of (byte_count size) value) (cell_or_fresh (spaces_at inner) (at_page p page)) q ∙ kept (spaces_at inner) (at_page p page) (cell_or_fresh (spaces_at inner) (at_page p page)) found_there q)
+      flags_left two f.entry.write false false _ (grind (arith, rules)) put long (grind (arith, found_cell))
 
   -- bytes written as one
   pub found_part : (two : List ℕ) (at : ℕ) (new : List ℕ) → f.entry.lazy ≡ false → at + length new ≤ 4096 → BytesStored inner.memory f at new two
@@ -248,6 +240,13 @@ module _ (inner : Inner) (p page : ℕ) (f : Found) (before : AreCountedInside i
       page_stored inner.directories inner.memory s.between two inner.frames p d page at new f.entry before.spaces.sound there.live user.0 user.1 there.here real long s.written s.between_long
       (entry_put_at s.between two (record f.entry { accessed = true; dirty = true }) (kept.tables (slot_number page) ∙ there.table) s.entry) s.long)
       (λ q. key-stored (spaces_at inner) (at_page p page) at new (cell_or_fresh (spaces_at inner) (at_page p page)) q ∙ kept (spaces_at inner) (at_page p page) (cell_or_fresh (spaces_at inner) (at_page p page)) found_there q)
+
+  -- a store
+  pub found_stored : (two : List ℕ) (at : ℕ) (size : Size) (value : ℕ) → f.entry.lazy ≡ false → at + byte_count size ≤ 4096 → BytesStored inner.memory f at (bytes_of (byte_count size) value) two
+      → Left inner (stored (spaces_at inner) (at_page p page) at (bytes_of (byte_count size) value)) two
+  found_stored two at size value real inside s =
+      let n = length-bytes_of (byte_count size) value in
+      found_part two at (bytes_of (byte_count size) value) real (omega (arith, n, inside)) s
 
   -- the bytes of its cell
   pub found_bytes : (cell_or_fresh (spaces_at inner) (at_page p page)).bytes ≡ frame_bytes inner.memory f.entry.frame

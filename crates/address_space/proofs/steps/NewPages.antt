@@ -153,12 +153,8 @@ module _ (directories : List (Option ℕ)) (bytes : List ℕ) (roles : List Role
         let slot = at_page p page in
         one_inserted S (spaces_in directories two) slot (cell_or_fresh S slot) (ready_unmapped none) (λ q. ap (λ x. map.contains_key x q) joined.spaces ∙ key-joined S (at_page giver giver_page) slot right (cell_or_fresh S slot) q)
 
-    -- the copy of another process's page
-    pub ready_long : length one ≡ length bytes
-    ready_long = grind arith
-
     pub ready_lies : (f : ℕ) → Inside bytes f → Inside one f
-    ready_lies f lies = record { fits = subst (λ n. 4096 * f + 4096 ≤ n) (sym ready_long) lies.fits; small = lies.small }
+    ready_lies f lies = record { fits = subst (λ n. 4096 * f + 4096 ≤ n) (sym (grind arith)) lies.fits; small = lies.small }
 
     pub ready_free : Room directories (spaces_in directories bytes) roles p page → 0 < free_frames roles1
     ready_free room = room_for_page directories bytes one roles roles1 p page before room ready_given

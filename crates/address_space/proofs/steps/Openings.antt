@@ -26,11 +26,13 @@ zero_word n i = grind (arith, get_or-drop, zero_byte)
 zeros_name_nothing : (m : Frames) (d s : ℕ) → m d ≡ replicate 4096 0 → table_of m d s ≡ None
 zeros_name_nothing m d s is = ap word_table (ap (λ l. word_in l s) is ∙ zero_word 4096 s)
 
-directory_set : (directories : List (Option ℕ)) (p f : ℕ) → p < length directories → directory_of (slice_set directories p (Some f)) p ≡ Some f
-directory_set directories p f l = ap (λ x. unwrap_or x None) (get-set_same directories p (Some f) l)
+pub directory_set : (directories : List (Option ℕ)) (p : ℕ) (x : Option ℕ) → p < length directories
+    → directory_of (slice_set directories p x) p ≡ x
+directory_set directories p x l = ap (λ y. unwrap_or y None) (get-set_same directories p x l)
 
-directory_kept : (directories : List (Option ℕ)) (p f q : ℕ) → q ≢ p → directory_of (slice_set directories p (Some f)) q ≡ directory_of directories q
-directory_kept directories p f q n = ap (λ x. unwrap_or x None) (get-set_other directories p q (Some f) n)
+pub directory_kept : (directories : List (Option ℕ)) (p : ℕ) (x : Option ℕ) (q : ℕ) → q ≢ p
+    → directory_of (slice_set directories p x) q ≡ directory_of directories q
+directory_kept directories p x q n = ap (λ y. unwrap_or y None) (get-set_other directories p q x n)
 
 -- ---- A blank directory
 
@@ -75,13 +77,17 @@ no_pages D m p page none = grind (arith, get-entries_in)
 pub empty_cost : (S : Spaces) (p : ℕ) → ((page : ℕ) → map.get S (at_page p page) ≡ None) → cost S p ≡ 1
 empty_cost S p none = ap cost_of (same_set (pages_of S p) set.empty (λ page. contains-pages_of S p page ∙ ap is_some (none page)))
 
-total-directory : (directories : List (Option ℕ)) (S : Spaces) (p f : ℕ) → p < 64 → p < length directories → directory_of directories p ≡ None → ((page : ℕ) → map.get S (at_page p page) ≡ None)
-    → total_cost (slice_set directories p (Some f)) S ≡ total_cost directories S + 1
+-- the costs with a process that has no page, and those of all others
+pub total-directory : (directories without : List (Option ℕ)) (S : Spaces) (p d : ℕ) → p < 64
+    → directory_of directories p ≡ Some d → directory_of without p ≡ None
+    → ((q : ℕ) → q ≢ p → directory_of without q ≡ directory_of directories q) → ((page : ℕ) → map.get S (at_page p page) ≡ None)
+    → total_cost directories S ≡ total_cost without S + 1
 unfolding total_cost
-total-directory directories S p f few l none pages =
-    sum_one (live_cost (directory_of (slice_set directories p (Some f))) S) (live_cost (directory_of directories) S) p 1 0 64 (omega arith) (omega arith)
-    (ap (λ x. if is_some x then cost S p else 0) (directory_set directories p f l) ∙ empty_cost S p pages ∙ sym (ap (λ x. (if is_some x then cost S p else 0) + 1) none))
-    (λ q n. ap (λ x. if is_some x then cost S q else 0) (directory_kept directories p f q n))
+total-directory directories without S p d few live none others pages =
+    sum_one (live_cost (directory_of directories) S) (live_cost (directory_of without) S) p 1 0 64 (omega arith) (omega arith)
+    (ap (λ x. if is_some x then cost S p else 0) live ∙ empty_cost S p pages
+    ∙ sym (ap (λ x. (if is_some x then cost S p else 0) + 1) none))
+    (λ q n. sym (ap (λ x. if is_some x then cost S q else 0) (others q n)))
 
 pub space_added : (directories : List (Option ℕ)) (bytes one : List ℕ) (roles roles' : List Role) (p f : ℕ) → IsSpaces directories bytes roles → p < 64 → directory_of directories p ≡ None
     → 2 + total_cost directories (spaces_in directories bytes) ≤ length roles → IsTaken roles f (Directory p) roles' → frame_bytes one ≡ with_frame (frame_bytes bytes) f (replicate 4096 0) → length one ≡ length bytes
@@ -102,8 +108,8 @@ space_added directories bytes one roles roles' p f s few none room taken is long
     let Ta : Tables D m1 R = tables-loose D m R T f (replicate 4096 0) loose (length-replicate {A = ℕ} 4096 0) in
     let blank : m1 f ≡ replicate 4096 0 = with_frame-same m f (replicate 4096 0) in
     let l : p < length directories = let n = sound.pids in omega arith in
-    let own : D' p ≡ Some f = directory_set directories p f l in
-    let others : (q : ℕ) → q ≢ p → D' q ≡ D q = λ q n. directory_kept directories p f q n in
+    let own : D' p ≡ Some f = directory_set directories p (Some f) l in
+    let others : (q : ℕ) → q ≢ p → D' q ≡ D q = λ q n. directory_kept directories p (Some f) q n in
     let role : R' f ≡ Some (Directory p) = role_own roles roles' f Free (Directory p) free taken.now in
     let kept : (g : ℕ) → g ≢ f → R' g ≡ R g = role_other roles roles' f (Directory p) taken.now in
     let E : Entries = entries_in D m in
@@ -115,7 +121,7 @@ space_added directories bytes one roles roles' p f s few none room taken is long
     let same_length : length roles' ≡ length roles = ap length taken.now ∙ length-set roles f (Directory p) in
     let weight : frames_weight roles' ≡ frames_weight roles + 1 = weight-taken roles roles' f (Directory p) taken in
     let pages : (page : ℕ) → map.get (spaces_of E m) (at_page p page) ≡ None = λ page. get-spaces_of E m (at_page p page) ∙ ap (option_map (cell_of E m (at_page p page))) (no_pages D m p page none) in
-    let total : total_cost directories' (spaces_of (entries_in D' (frame_bytes one)) (frame_bytes one)) ≡ total_cost directories (spaces_of E m) + 1 = ap (total_cost directories') spaces ∙ total-directory directories (spaces_of E m) p f few l none pages in
+    let total : total_cost directories' (spaces_of (entries_in D' (frame_bytes one)) (frame_bytes one)) ≡ total_cost directories (spaces_of E m) + 1 = ap (total_cost directories') spaces ∙ total-directory directories' directories (spaces_of E m) p f few own none (λ q n. sym (others q n)) pages in
     let w = s.weighs in
     record {
       after = record {

@@ -5,7 +5,7 @@ use Rattle.table_walk.proofs.Leads.{walks_find_what_leads}
 use Rattle.page_map.proofs.MarkProofs.{touched_names, entry_from-touched}
 use Rattle.address_space.proofs.entries.EntrySteps.{entry_by_table}
 use Rattle.address_space.proofs.steps.Steps.{inside, holds_inside, live_small, page_map_of, present_by_table, table_by_word}
-use Rattle.address_space.proofs.steps.Stores.{found, get_user, entry_rules, page_stored, flags_set, flagged_load, cell_read, frame_written, stored_place, byte_is_write, length-write_at}
+use Rattle.address_space.proofs.steps.Stores.{found, get_user, entry_rules, page_stored, flags_set, cell_read, frame_written, stored_place, byte_is_write, length-write_at}
 use Rattle.address_space.proofs.steps.Bytes.{write_at-nothing, stored-none, stored-flags}
 use Rattle.address_space.proofs.steps.Departures.{no_table_outside}
 use Rattle.address_space.proofs.steps.DirWords.{DirsAlike, flagged_alike, dirs_touched, one_dir_word, dirs-entry, dirs-table, dirs-tables}
@@ -211,14 +211,14 @@ pub load_marked : (directories : List (Option ℕ)) (bytes : List ℕ) (roles : 
 load_marked directories bytes roles p d address sound live f =
     let k = mark_parts directories bytes roles p d address Read sound live f in
     let page : ℕ = page_number address in
-    let few = live_small directories p d sound.pids live in
     let e : PageEntry = f.entry in
-    let rules = entry_rules directories k.half roles p d page e k.first.sound live k.here in
+    let few = live_small directories p d sound.pids live in
+    let cell = cell_read directories k.half p d page e live few f.low f.high k.here in
+    let rules = touched_rules Read e (entry_rules directories k.half roles p d page e k.first.sound live k.here) f.right in
     subst (λ S. Touched directories (accessed_in S (slot_at p address)) bytes roles (marked bytes d address Read)) k.first.spaces
-    (subst (λ S. Touched directories S bytes roles (marked bytes d address Read))
-    (flagged_load directories k.half p d page e live few f.low f.high k.here)
     (touched_then directories _ _ bytes k.half (marked bytes d address Read) roles k.first
-    (flags_set directories k.half (marked bytes d address Read) roles p d page e e.write true k.first.sound live f.low f.high k.here rules.right (λ _. refl) (inr k.second) k.long)))
+    (flags_set directories k.half (marked bytes d address Read) roles p d page e e.write true e.dirty _ k.first.sound live
+    f.low f.high k.here rules (inr k.second) k.long (ap (λ (c : Cell). record c { accessed = true }) cell)))
 
 -- nothing written is a change of no byte
 nothing_written : (m : Frames) (f at : ℕ) → m ≡ with_frame m f (write_at (m f) at [])
