@@ -91,13 +91,10 @@ record IsChange (s : State) (p page : ℕ) (x : Option Cell) (t : State) : Type 
   offers : (key : OfferKey) (right : Bool) → map.get t.offers key ≡ Some right → map.get s.offers key ≡ Some right
   group : (c : Cell) → x ≡ Some c → c.holders ≡ lone (at_page p page)
 
-changed_apart : (s t : State) (p page : ℕ) (x : Option Cell) → IsApart s p → IsChange s p page x t → IsApart t p
-changed_apart s t p page x a c = grind (arith, cases_eq)
-
 alike_changed : (s t s' t' : State) (p q page : ℕ) (x y : Option Cell) → AreAlike s p t q → IsChange s p page x s' → IsChange t q page y t' → option_map held_in x ≡ option_map held_in y → AreAlike s' p t' q
 alike_changed s t s' t' p q page x y a c d same = record {
-  one = changed_apart s s' p page x a.one c;
-  other = changed_apart t t' q page y a.other d;
+  one = grind (arith, cases_eq);
+  other = grind (arith, cases_eq);
   pages = grind (arith, cases_eq);
   quota = ap (λ (b : Book). quota_of b p) c.book ∙ a.quota ∙ ap (λ (b : Book). quota_of b q) (sym d.book);
 }
@@ -220,9 +217,6 @@ pub unmap_alike : (s t : State) (p q page : ℕ) → AreAlike s p t q → AreAli
 unmap_alike s t p q page a =
     alike_changed s t (after_unmap s p page) (after_unmap t q page) p q page None None a (unmap_changes s p page a.one) (unmap_changes t q page a.other) refl
 
-withdraw_changes : (s : State) (p page target : ℕ) → IsApart s p → IsChange s p page (map.get s.spaces (at_page p page)) (after_withdraw s p page target)
-withdraw_changes s p page target a = grind (arith, retained)
-
 pub withdraw_alike : (s t : State) (p q page target : ℕ) → AreAlike s p t q → AreAlike (after_withdraw s p page target) p (after_withdraw t q page target) q
 withdraw_alike s t p q page target a =
-    alike_changed s t (after_withdraw s p page target) (after_withdraw t q page target) p q page _ _ a (withdraw_changes s p page target a.one) (withdraw_changes t q page target a.other) (a.pages page)
+    alike_changed s t (after_withdraw s p page target) (after_withdraw t q page target) p q page _ _ a (grind (arith, retained)) (grind (arith, retained)) (a.pages page)

@@ -1,5 +1,5 @@
 -- What the calls of others leave of a process apart, and how a child begins.
-use Rattle.process_table.proofs.Prelude.{◌≡◌, ◌≢◌, ℕ, ◌+◌, ◌&&◌, ◌||◌, not, Bool, true, false, cond, List, [], ◌∷◌, map, refl, sym, ap, ◌∙◌, Option, Some, None, is_some, unwrap_or, arith, inl, inr, if◌then◌else◌, option_map, nat_cmp, cases_eq, ne_eqb, same_Some, offset_number, byte_count, touched, Size, Map, same, nat_order, Set, some_value, no_value, same_cases, get-remove_other, Slot, slot_order, Cell, Spaces, pages_of, fresh, cell_or_fresh, with_bytes, set_bytes, set_holders, write_at, bytes_of, at_page, slot_at, accessed, stored, with_page, with_pages, all_accessed, all_stored, copied, contains-pages_of, copied-own, copied-other, Member, is_child, number_of_children, child_no, get-insert_other, OfferKey, Offers, offer_order, offer_key, State, is_live, child_of, accept_refusal, spawn_refusal, fork_refusal, offered, after_map, after_unmap, after_protect, after_offer, after_withdraw, after_accept, after_spawn, after_fork, after_exit, after_load, after_store, IsWellFormed, list_any, tied_then, is_some-find, same_itself, get-insert, get-map_values, get-collect, IsApart, AreAlike, held_in, lone, FirstPage, first_cell, first_page, pages_held, alone_with, number-insert, number-remove, number-none}
+use Rattle.process_table.proofs.Prelude.{◌≡◌, ◌≢◌, ℕ, ◌+◌, ◌&&◌, ◌||◌, not, Bool, true, false, cond, List, [], ◌∷◌, map, refl, sym, ap, ◌∙◌, Option, Some, None, is_some, unwrap_or, arith, inl, inr, if◌then◌else◌, option_map, nat_cmp, cases_eq, ne_eqb, same_Some, offset_number, byte_count, touched, Size, Map, same, nat_order, Set, some_value, no_value, same_cases, get-remove_other, Slot, slot_order, Cell, Spaces, pages_of, fresh, cell_or_fresh, with_bytes, set_bytes, set_holders, write_at, bytes_of, at_page, slot_at, accessed, stored, with_page, with_pages, all_accessed, all_stored, copied, contains-pages_of, copied-own, copied-other, Member, is_child, number_of_children, child_no, get-insert_other, OfferKey, Offers, offer_order, offer_key, State, is_live, child_of, accept_refusal, spawn_refusal, fork_refusal, offered, after_map, after_unmap, after_protect, after_offer, after_withdraw, after_accept, after_spawn, after_fork, after_exit, after_load, after_store, IsWellFormed, list_any, tied_then, is_some-find, same_itself, get-insert, get-map_values, get-collect, IsApart, AreAlike, held_in, lone, FirstPage, first_cell, first_page, pages_held, alone_with, number-insert, number-remove, number-none, copy_of}
 use Rattle.process_table.proofs.Apart.{in_lone, pages_differ, pids_differ, set_bytes_outside, without_others}
 use Rattle.process_table.proofs.BookLaws.{retained, next_free, parents_in, spawn_allowed}
 use Rattle.process_table.proofs.CellLaws.{get-inserted, get-inserted_other}
@@ -284,11 +284,14 @@ spawn_alike s p root quota w live allowed =
 among_own : (S : Spaces) (p n : ℕ) → list_any (same nat_order n) (set.items (pages_of S p)) ≡ map.contains_key S (at_page p n)
 among_own S p n = sym (is_some-find nat_cmp n (pages_of S p).entries) ∙ contains-pages_of S p n
 
+copied_first : (slot : Slot) (x : Option Cell) → option_map (copy_of slot) x ≡ option_map (first_cell slot) (option_map first_page x)
+copied_first slot x = grind arith
+
 -- what the child of a fork has at each page
 copied_held : (s : State) (p k n : ℕ) → map.get (copied s.spaces p k) (at_page k n) ≡ option_map (first_cell (at_page k n)) (map.get (pages_held s p) n)
 copied_held s p k n =
     copied-own s.spaces p k n
-    ∙ (grind arith)
+    ∙ copied_first (at_page k n) (map.get s.spaces (at_page p n))
     ∙ sym (ap (option_map (first_cell (at_page k n)))
     (get-collect nat_order (λ page. option_map first_page (map.get s.spaces (at_page p page))) (set.items (pages_of s.spaces p)) n
     ∙ ap (λ b. cond b (option_map first_page (map.get s.spaces (at_page p n))) None) (among_own s.spaces p n)

@@ -1,5 +1,5 @@
 -- What memory and the book together represent: the image of a view is sound, and represents one state.
-use Rattle.process_table.proofs.Prelude.{◌≡◌, ℕ, ◌+◌, ◌<◌, ◌≤◌, Bool, true, cond, List, [], ◌∷◌, length, refl, sym, ap, subst, ◌∙◌, Option, Some, is_some, sum_by, arith, unwrap_or, ◌*◌, filter, nat_lt, option_map, range_with_len, sum_by-cons, slice_get_within, slot_number, index_number, Slot, Cell, Spaces, pages_of, regions_of, cost, at_page, table_at, page_word, directory_of, contains-pages_of, Member, is_child, given, quota_of, State, is_live, View, Account, as_account, account_of, memory_of, IsCharge, quota_from, IsSoundImage, StandsFor, is_some-map, some_value, same_map, Table, region_member, region_there, stands_for_one, StandsForOne}
+use Rattle.process_table.proofs.Prelude.{◌≡◌, ℕ, ◌+◌, ◌<◌, ◌≤◌, Bool, true, cond, List, [], ◌∷◌, length, refl, sym, ap, subst, ◌∙◌, Some, is_some, sum_by, arith, unwrap_or, ◌*◌, filter, nat_lt, option_map, range_with_len, sum_by-cons, slice_get_within, slot_number, index_number, Slot, Spaces, pages_of, regions_of, cost, at_page, table_at, page_word, directory_of, contains-pages_of, Member, is_child, given, quota_of, State, is_live, View, Account, as_account, account_of, memory_of, IsCharge, quota_from, IsSoundImage, StandsFor, is_some-map, some_value, same_map, Table, region_member, region_there, stands_for_one, StandsForOne}
 use Rattle.process_table.specs.Image.{image_of}
 use Rattle.process_table.proofs.Ranges.{found, sum-same, sum-range}
 use Rattle.page_words.specs.FiniteMap as map

@@ -1,5 +1,5 @@
 -- What a sound image with current words represents: a state without offers, which is well formed.
-use Rattle.process_table.proofs.Prelude.{◌≡◌, ℕ, ◌+◌, ◌<◌, ◌≤◌, Bool, true, false, List, length, refl, sym, ap, subst, ◌∙◌, Option, Some, None, is_some, unwrap_or, arith, option_map, option_and_then, range_with_len, slice_get_within, slot_number, index_number, IsUserPage, Order, nat_order, same_set, is_some-map, some_value, Slot, Cell, Spaces, cost, SlotStands, directory_at, table_at, present_word, page_word, word_of, Book, Member, given, quota_of, Containers, IsLive, used_of, Offers, as_account, account_of, IsCharge, quota_from, IsSoundImage, StandsFor, State, IsWhole, IsCellAt, IsWellFormed, ◌↔◌, IsTrue, MatchBool, slice_index, Page, directory_of, spaces_in, one_group, word_names, IsCount, CellStands, IsOneGroup, image_from, named_by, page_frame, from_map, from_then, user_named, account_told, image_in, RootIsItsParent}
+use Rattle.process_table.proofs.Prelude.{◌≡◌, ℕ, ◌+◌, ◌<◌, ◌≤◌, Bool, true, false, List, length, refl, sym, ap, subst, ◌∙◌, Option, Some, None, is_some, unwrap_or, arith, option_map, option_and_then, range_with_len, slice_get_within, slot_number, index_number, IsUserPage, Order, nat_order, same_set, is_some-map, some_value, Slot, Cell, Spaces, cost, SlotStands, directory_at, table_at, present_word, page_word, word_of, Book, Member, given, quota_of, Containers, Offers, as_account, account_of, IsCharge, quota_from, IsSoundImage, StandsFor, State, IsWhole, IsCellAt, IsWellFormed, ◌↔◌, IsTrue, MatchBool, slice_index, Page, directory_of, spaces_in, one_group, word_names, IsCount, CellStands, IsOneGroup, image_from, named_by, page_frame, from_map, from_then, user_named, account_told, image_in, RootIsItsParent}
 use Rattle.process_table.specs.Image.{Image}
 use Rattle.page_words.specs.Words.{frame_number, is_lazy, NamesPage}
 use Rattle.alloc_table.specs.declared.Role.{Role}

@@ -161,14 +161,11 @@ module _ (s : State) (slot : Slot) (c : Cell) (at : map.get s.spaces slot ≡ So
     written_forth : (q : Slot) (d : Cell) → map.get s.spaces q ≡ Some d → (e : Cell) × (map.get written_spaces q ≡ Some e) × IsRenewed c.holders bytes q d e
     written_forth q d h = elim (same_cases slot_order q slot) [
       | inl is ↦ (written_cell, ap (map.get written_spaces) is.0 ∙ get-inserted (set_bytes s.spaces c.holders bytes) slot written_cell, subst (λ (x : Cell). IsRenewed c.holders bytes q x written_cell) (same_Some c d (sym at ∙ ap (map.get s.spaces) (sym is.0) ∙ h)) (own is.0))
-      | inr other ↦ (changed_in q d, written_other q other.0 ∙ ap (option_map (changed_in q)) h, by (set.contains c.holders q) refl)
+      | inr other ↦ (changed_in q d, written_other q other.0 ∙ ap (option_map (changed_in q)) h, (grind arith))
     ]
       where
         own : q ≡ slot → IsRenewed c.holders bytes q c written_cell
         own is = record { holders = refl; bytes_in = λ _. refl; bytes_out = λ out. absurd (let x : set.contains c.holders q ≡ true = ap (set.contains c.holders) is ∙ (w.cells slot c at).own in cc); write = λ f. f; may = refl; dirty = λ _ _. refl }
-
-        by : (b : Bool) → set.contains c.holders q ≡ b → IsRenewed c.holders bytes q d (if b then with_bytes d bytes else d)
-        by b is = grind arith
 
     written_back : (q : Slot) (e : Cell) → map.get written_spaces q ≡ Some e → (d : Cell) × (map.get s.spaces q ≡ Some d)
     written_back q e h = elim (same_cases slot_order q slot) [
@@ -192,10 +189,7 @@ well_formed-page s p page w live user fits = by (map.contains_key s.spaces (at_p
     by : (b : Bool) → map.contains_key s.spaces (at_page p page) ≡ b → (if b then 0 else need s.spaces p page) ≤ room s p
         → IsWellFormed (record s { spaces = if b then s.spaces else map.insert s.spaces (at_page p page) (fresh (at_page p page) true) })
     by true is h = w
-    by false is h = well_formed-inserted s (at_page p page) true w live user (no_value (map.get s.spaces (at_page p page)) is) (fits-room (room s p) (need s.spaces p page) h)
-      where
-        fits-room : (a b : ℕ) → b ≤ a → nat_lt a b ≡ false
-        fits-room a b h = le-ltb a b h
+    by false is h = well_formed-inserted s (at_page p page) true w live user (no_value (map.get s.spaces (at_page p page)) is) (le-ltb (room s p) (need s.spaces p page) h)
 
 -- the pages that an access touches, where there is room for those that are not mapped
 pub well_formed-touched : (s : State) (p address : ℕ) (size : Size) → IsWellFormed s → is_live s p ≡ true → EachTouched address size IsUserPage → overdrawn s p (touched address size) ≡ false

@@ -25,9 +25,6 @@ regions_below regions s = set.len (set.retain regions (λ r. nat_lt r s))
 lt_true : (q s : ℕ) → q < s → nat_lt q s ≡ true
 lt_true q s l = grind (arith, nat_tests)
 
-not_same : (q s : ℕ) → same nat_order q s ≡ false → q ≡ s → ⊥
-not_same q s h e = let t : same nat_order q s ≡ true = ap (same nat_order q) (sym e) ∙ same_itself nat_order q in cc
-
 below_next : (regions : Set nat_order) (s : ℕ) → regions_below regions (s + 1) ≡ regions_below regions s + counted (set.contains regions s)
 below_next regions s = by (set.contains regions s) refl
   where

@@ -3,10 +3,7 @@ use Rattle.address_space.proofs.Prelude.{◌≡◌, ℕ, zero, suc, ◌+◌, ◌
 
 any-append : {A : Type 0} (t : A → Bool) (xs ys : List A) → list_any t (xs ++ ys) ≡ (list_any t xs || list_any t ys)
 any-append t [] ys = refl
-any-append t (x ∷ xs) ys = ap (λ b. t x || b) (any-append t xs ys) ∙ or_assoc (t x) (list_any t xs) (list_any t ys)
-  where
-    or_assoc : (a b c : Bool) → (a || (b || c)) ≡ ((a || b) || c)
-    or_assoc a b c = grind arith
+any-append t (x ∷ xs) ys = ap (λ b. t x || b) (any-append t xs ys) ∙ (grind arith)
 
 range_any : (x a n : ℕ) → a ≤ x → x < a + n → list_any (λ y. same nat_order x y) (range_with_len a n) ≡ true
 range_any x a zero low high = absurd (omega arith)

@@ -31,32 +31,16 @@ pub record Known (directories : List (Option ℕ)) (bytes : List ℕ) (p page : 
   pub here : entry_at (frame_bytes bytes) directory page ≡ Some f.entry
 
 pub known : (directories : List (Option ℕ)) (bytes : List ℕ) (p page : ℕ) (f : Found) → found_in (directory_of directories) (frame_bytes bytes) p page ≡ Some f → Known directories bytes p page f
-known directories bytes p page f is = by_directory (directory_of directories p) refl is
+known directories bytes p page f is = grind (arith, m)
   where
     m : Frames
     m = frame_bytes bytes
-
-    by_entry : (d t : ℕ) → directory_of directories p ≡ Some d → table_of m d (slot_number page) ≡ Some t → (x : Option PageEntry) → word_entry (word_in (m t) (index_number page)) ≡ x
-        → option_map (λ e. record { page = page; table = t; entry = e }) x ≡ Some f → Known directories bytes p page f
-    by_entry d t live there x word h = grind (arith, m)
-
-    by_table : (d : ℕ) → directory_of directories p ≡ Some d → (x : Option ℕ) → table_of m d (slot_number page) ≡ x → option_and_then (found_by m page) x ≡ Some f → Known directories bytes p page f
-    by_table d live x there h = grind (arith, by_entry, m)
-
-    by_directory : (x : Option ℕ) → directory_of directories p ≡ x → option_and_then (found_by m page) (option_and_then (λ d. table_of m d (slot_number page)) x) ≡ Some f → Known directories bytes p page f
-    by_directory x live h = grind (arith, by_table, m)
-
-is_some-option_map : (x : Option Found) → is_some (option_map (λ (f : Found). f.entry) x) ≡ is_some x
-is_some-option_map x = grind arith
 
 -- a page is found just where it is mapped
 pub found_mapped : (inner : Inner) (p page : ℕ) → AreCountedInside inner → IsUserPage page
     → is_some (found_at inner p page) ≡ is_some (map.get (spaces_at inner) (at_page p page))
 found_mapped inner p page before user =
-    sym (is_some-option_map (found_at inner p page)) ∙ ap is_some (found_entry (directory_of inner.directories) (frame_bytes inner.memory) p page) ∙ by (directory_of inner.directories p) refl
-  where
-    by : (x : Option ℕ) → directory_of inner.directories p ≡ x → is_some (entry_in (directory_of inner.directories) (frame_bytes inner.memory) (at_page p page)) ≡ is_some (map.get (spaces_at inner) (at_page p page))
-    by x is = grind (arith, no_cell, mapped_read, live_small)
+    sym (grind arith) ∙ ap is_some (found_entry (directory_of inner.directories) (frame_bytes inner.memory) p page) ∙ (grind (arith, no_cell, mapped_read, live_small))
 
 -- whether what was found takes stores
 pub found_takes : (inner : Inner) (p page : ℕ) → AreCountedInside inner → IsUserPage page
@@ -74,10 +58,6 @@ pub record Left (inner : Inner) (S : Spaces) (bytes' : List ℕ) : Type 0 where
       (image_from inner.directories bytes' inner.frames)
 
 -- ---- What stands at a page
-
--- nothing is lazy where nothing is found
-pub absent_lazy : (inner : Inner) (p page : ℕ) → AreCountedInside inner → found_at inner p page ≡ None → is_lazy_at (image_at inner) (at_page p page) ≡ false
-absent_lazy inner p page before is = grind (arith, same_lazy, found_entry)
 
 -- its cell
 pub found_cells : (inner : Inner) (p page : ℕ) → p < 64 → IsUserPage page
@@ -98,10 +78,7 @@ need_without inner p page is = need-two (directory_of inner.directories) (frame_
 
 pub need_with : (inner : Inner) (p page t : ℕ) → AreCountedInside inner → IsUserPage page → table_at inner p page ≡ Some t → need (spaces_at inner) p page ≡ 1
 unfolding spaces_in
-need_with inner p page t before user is = need-one (directory_of inner.directories) (frame_bytes inner.memory) p page t (by (directory_of inner.directories p) refl is) user.0 user.1 is (before.spaces.in_use p (slot_number page))
-  where
-    by : (x : Option ℕ) → directory_of inner.directories p ≡ x → option_and_then (λ d. table_of (frame_bytes inner.memory) d (slot_number page)) x ≡ Some t → p < 64
-    by x live h = grind (arith, live_small)
+need_with inner p page t before user is = need-one (directory_of inner.directories) (frame_bytes inner.memory) p page t (grind (arith, live_small)) user.0 user.1 is (before.spaces.in_use p (slot_number page))
 
 -- a page is found at the entry that was written for it
 pub found_written : (directories : List (Option ℕ)) (bytes two : List ℕ) (roles : List Role) (p d page t : ℕ) (e : PageEntry) → IsSound directories bytes roles → directory_of directories p ≡ Some d
@@ -300,7 +277,7 @@ module _ (inner : Inner) (p page : ℕ) (f : Found) (before : AreCountedInside i
 
 -- whether what was found is lazy
 pub found_lazy : (inner : Inner) (p page : ℕ) → AreCountedInside inner → IsUserPage page → (x : Option Found) → x ≡ found_at inner p page → lazy_found x ≡ is_lazy_at (image_at inner) (at_page p page)
-found_lazy inner p page before user None is = sym (absent_lazy inner p page before (sym is))
+found_lazy inner p page before user None is = sym (grind (arith, same_lazy, found_entry))
 found_lazy inner p page before user (Some f) is = sym (found_real inner p page f before user (sym is))
 
 -- a page that was filled isn't lazy

@@ -88,13 +88,9 @@ page_filled directories bytes one two roles roles' p d page f e s live low high 
       fewer = λ q was. ap (λ x. set.contains (holders_of x 0) q) E2 ∙ lazy-fewer E slot e' (λ z. omega (arith, z, up)) q was;
       stay = places_by (of_lazy p page) D m D (frame_bytes two) (subst (EntriesStay (of_lazy p page) E) (sym E2) (stay_filled E p page e e' there zero)) (λ q r g found. tables q r ∙ found);
       tables = tables;
-      others = λ q n. ap (λ x. entry_in D x q) is ∙ entry_other D m1 R' Tb p d page t (entry_word e') live here.there (entry_word-lt e' small) q n ∙ kept q.pid q.page (w.entry q.pid) (D q.pid) refl;
+      others = λ q n. ap (λ x. entry_in D x q) is ∙ entry_other D m1 R' Tb p d page t (entry_word e') live here.there (entry_word-lt e' small) q n ∙ (grind arith);
       length = same_length;
     }
   where
-    kept : (p page : ℕ) → ((d page : ℕ) → directory_of directories p ≡ Some d → entry_at (frame_bytes one) d page ≡ entry_at (frame_bytes bytes) d page) → (x : Option ℕ) → directory_of directories p ≡ x
-        → entry_in (directory_of directories) (frame_bytes one) (at_page p page) ≡ entry_in (directory_of directories) (frame_bytes bytes) (at_page p page)
-    kept p page same x is = grind arith
-
     above : Tables (directory_of directories) (frame_bytes bytes) (slice_get roles) → slice_get roles f ≡ Some Free → 1 ≤ f
     above T free = let n : f ≢ 0 = (λ is. let a = T.zero_role in let k : slice_get roles 0 ≡ slice_get roles f = ap (slice_get roles) (sym is) in cc) in omega arith

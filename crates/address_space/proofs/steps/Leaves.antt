@@ -23,16 +23,13 @@ pages-less E R R' slot e c P there was own others = record {
   pages = grind (arith, cases_eq, after_page, no_other, before);
   counts = λ f n is. elim (cases_eq f e.frame) [
     | inl same ↦ elim (after_page c) [
-      | inl more ↦ grind (arith, lt_of, holders-less)
+      | inl more ↦ grind (arith, nat_tests, holders-less)
       | inr one ↦ let k : Some Free ≡ Some (Page n) = sym (ap R' same ∙ own ∙ ap (λ b. Some (if b then Page (c - 1) else Free)) one) ∙ is in cc
     ]
     | inr differ ↦ let old = P.counts f n (sym (others f differ) ∙ is) in (old.0, old.1 ∙ sym (ap set.len ((holders-less E slot e there).1 f differ)))
   ];
 }
   where
-    lt_of : (c : ℕ) → nat_lt 1 c ≡ true → 1 < c
-    lt_of c h = grind (arith, nat_tests)
-
     le_of : (c : ℕ) → nat_lt 1 c ≡ false → c ≤ 1
     le_of c h = grind (arith, nat_tests)
 

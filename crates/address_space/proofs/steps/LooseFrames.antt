@@ -1,5 +1,5 @@
 -- Frames of pages and free ones, where a page leaves or a frame is released.
-use Rattle.address_space.proofs.Prelude.{◌≡◌, ◌≢◌, ℕ, Bool, List, refl, ap, sym, ◌∙◌, subst, inl, inr, Option, Some, None, arith, ◌⊎◌, slice_get, option_and_then, cases_eq, slice_get_within, slot_number, frame_number, frame_bytes, with_frame-other, Role, Free, Directory, Table, Page, IsReleased, released, get-set_same, get-set_other, PageEntry, Frames, IsCleared, dir_word, table_of, image_from, LooseStay, IsSound, directory_of, EntryLeft, TableFreed}
+use Rattle.address_space.proofs.Prelude.{◌≡◌, ◌≢◌, ℕ, List, refl, ap, sym, ◌∙◌, subst, inl, inr, Option, Some, None, arith, ◌⊎◌, slice_get, option_and_then, cases_eq, slice_get_within, slot_number, frame_number, frame_bytes, with_frame-other, Role, Free, Directory, Table, Page, IsReleased, released, get-set_same, get-set_other, PageEntry, Frames, IsCleared, dir_word, table_of, image_from, LooseStay, IsSound, directory_of, EntryLeft, TableFreed}
 
 -- by its role
 abbrev Loose : Option Role → Type 0

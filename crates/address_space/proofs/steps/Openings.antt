@@ -22,10 +22,6 @@ zero_word : (n i : ℕ) → word_in (replicate n 0) i ≡ 0
 unfolding word_at
 zero_word n i = grind (arith, get_or-drop, zero_byte)
 
--- a frame of zeros holds no table
-zeros_name_nothing : (m : Frames) (d s : ℕ) → m d ≡ replicate 4096 0 → table_of m d s ≡ None
-zeros_name_nothing m d s is = ap word_table (ap (λ l. word_in l s) is ∙ zero_word 4096 s)
-
 pub directory_set : (directories : List (Option ℕ)) (p : ℕ) (x : Option ℕ) → p < length directories
     → directory_of (slice_set directories p x) p ≡ x
 directory_set directories p x l = ap (λ y. unwrap_or y None) (get-set_same directories p x l)
@@ -39,7 +35,8 @@ directory_kept directories p x q n = ap (λ y. unwrap_or y None) (get-set_other 
 module _ (D D' : Directories) (m : Frames) (R R' : Roles) (T : Tables D m R) (p f : ℕ) (none : D p ≡ None) (free : R f ≡ Some Free) (blank : m f ≡ replicate 4096 0)
     (own : D' p ≡ Some f) (others : (q : ℕ) → q ≢ p → D' q ≡ D q) (role : R' f ≡ Some (Directory p)) (roles : (g : ℕ) → g ≢ f → R' g ≡ R g) where
   no_table_own : (s : ℕ) → table_in D' m p s ≡ None
-  no_table_own s = ap (option_and_then (λ d. table_of m d s)) own ∙ zeros_name_nothing m f s blank
+  no_table_own s =
+      ap (option_and_then (λ d. table_of m d s)) own ∙ (ap word_table (ap (λ l. word_in l s) blank ∙ zero_word 4096 s))
 
   same_tables : (q s : ℕ) → table_in D' m q s ≡ table_in D m q s
   same_tables q s = grind (arith, cases_eq, no_table_own)
@@ -254,15 +251,9 @@ no_cell directories bytes p page none = grind (arith, get-spaces_of, no_pages)
 pub cost_within : (directories : List (Option ℕ)) (S : Spaces) (p : ℕ) → length directories ≡ 64 → is_some (directory_of directories p) ≡ true → cost S p ≤ total_cost directories S
 unfolding total_cost
 cost_within directories S p long live =
-    let few : p < 64 = by (directory_of directories p) refl live in
-    ap_le (ap (λ b. if b then cost S p else 0) live) (among p 0 64 (omega arith) (omega arith))
+    let few : p < 64 = (grind (arith, live_small)) in
+    (omega (arith, (ap (λ b. if b then cost S p else 0) live), (among p 0 64 (omega arith) (omega arith))))
   where
-    by : (x : Option ℕ) → directory_of directories p ≡ x → is_some x ≡ true → p < 64
-    by x is h = grind (arith, live_small)
-
-    ap_le : {n : ℕ} → live_cost (directory_of directories) S p ≡ cost S p → live_cost (directory_of directories) S p ≤ n → cost S p ≤ n
-    ap_le e l = omega (arith, e, l)
-
     among : (p a n : ℕ) → a ≤ p → p < a + n → live_cost (directory_of directories) S p ≤ sum_by (live_cost (directory_of directories) S) (range_with_len a n)
     among p a zero low high = absurd (omega arith)
     among p a (suc n) low high = elim (cases_eq p a) [

@@ -23,9 +23,6 @@ word_absent w h = ap (λ b. if b then Some (entry_from w) else None) h
 word_present : (w : ℕ) (e : PageEntry) → word_entry w ≡ Some e → is_present w ≡ true
 word_present w e h = grind (arith, word_absent)
 
-no_word : (w : ℕ) → word_entry w ≡ None → is_present w ≡ false
-no_word w h = grind arith
-
 -- where none is left, no word has an entry
 pub none_left : (bytes : List ℕ) (table index : ℕ) → words_left bytes table index ≡ 0 → (i : ℕ) → index ≤ i → i < 1024 → word_entry (word_in (frame_bytes bytes table) i) ≡ None
 none_left bytes table index none i low high =
@@ -36,7 +33,7 @@ pub none_listed : {bytes memory : List ℕ} (table index : ℕ) → memory ≡ b
 none_listed {bytes} {memory} table index same none =
     sym (ap (λ b. words_left b table index) same)
     ∙ count_range-none (λ i. is_present (word_in (frame_bytes memory table) i)) index (1024 - index)
-    (λ i l. no_word (word_in (frame_bytes memory table) (index + i)) (none (index + i) (omega arith) (omega (arith, l))))
+    (λ i l. (grind arith))
 
 -- behind the first word with an entry one less is left
 pub one_left : (bytes : List ℕ) (table index found : ℕ) (e : PageEntry) → index ≤ found → found < 1024 → ((i : ℕ) → index ≤ i → i < found → word_entry (word_in (frame_bytes bytes table) i) ≡ None)
@@ -45,7 +42,7 @@ unfolding count_range
 one_left bytes table index found e up inside least is =
     let long : 1024 - index ≡ (found - index) + (1024 - found) = omega (arith, up, inside) in
     let parts : count_range P index (1024 - index) ≡ count_range P index (found - index) + count_range P (index + (found - index)) (1024 - found) = ap (count_range P index) long ∙ count_range-add P index (found - index) (1024 - found) in
-    let none : count_range P index (found - index) ≡ 0 = count_range-none P index (found - index) (λ i l. no_word (word_in (frame_bytes bytes table) (index + i)) (least (index + i) (omega arith) (omega (arith, l)))) in
+    let none : count_range P index (found - index) ≡ 0 = count_range-none P index (found - index) (λ i l. (grind arith)) in
     let here : index + (found - index) ≡ found = omega (arith, up) in
     let moved : count_range P (index + (found - index)) (1024 - found) ≡ count_range P found (1024 - found) = ap (λ k. count_range P k (1024 - found)) here in
     let some : 1024 - found ≡ suc (1024 - (found + 1)) = omega (arith, inside) in
@@ -83,19 +80,16 @@ present_mapped directories memory from source slot table index long home inside 
     ∙ sym (mapped_in_table (frame_bytes memory) source slot table (1024 * slot + index) s there)
     ∙ sym (mapped_read directories memory from source (1024 * slot + index) home (live_small directories from source long home) (omega (arith, low)) (omega (arith, high, inside)))
 
-first_slot : (slot : ℕ) → slot_number (1024 * slot) ≡ slot
-first_slot slot = omega arith
-
 -- the count of a region's table is how many words are present in it
 module _ {directories : List (Option ℕ)} {bytes : List ℕ} {roles : List Role} {d slot table : ℕ} (counts : List ℕ) (p : ℕ) (sound : IsSound directories bytes roles) (live : directory_of directories p ≡ Some d) (low : 256 ≤ slot) (high : slot < 960)
     (there : table_of (frame_bytes bytes) d slot ≡ Some table) (C : IsCounted (spaces_in directories bytes) roles counts) where
   pub region_there : table < length counts
-  region_there = count_there directories bytes roles counts p d (1024 * slot) table 0 sound live (omega (arith, low), omega (arith, high)) (ap (table_of (frame_bytes bytes) d) (first_slot slot) ∙ there) C
+  region_there = count_there directories bytes roles counts p d (1024 * slot) table 0 sound live (omega (arith, low), omega (arith, high)) (ap (table_of (frame_bytes bytes) d) (omega arith) ∙ there) C
 
   pub region_words : (n : ℕ) → slice_get counts table ≡ Some n → n ≡ words_left bytes table 0
   region_words n is =
-      count_by_entries directories bytes roles counts p d (1024 * slot) table n sound live (omega (arith, low), omega (arith, high)) (ap (table_of (frame_bytes bytes) d) (first_slot slot) ∙ there) C is
-      ∙ ap (λ s. count_range (λ other. is_some (entry_at (frame_bytes bytes) d other)) (1024 * s) 1024) (first_slot slot)
+      count_by_entries directories bytes roles counts p d (1024 * slot) table n sound live (omega (arith, low), omega (arith, high)) (ap (table_of (frame_bytes bytes) d) (omega arith) ∙ there) C is
+      ∙ ap (λ s. count_range (λ other. is_some (entry_at (frame_bytes bytes) d other)) (1024 * s) 1024) (omega arith)
       ∙ sym (count-table (frame_bytes bytes) d slot table there)
 
 -- the counts once a table, where one is given, counts so many

@@ -118,9 +118,6 @@ holds_inside directories bytes roles f sound (inr h) = inside directories bytes 
 abbrev pub lazy_entry : Bool → PageEntry
 lazy_entry write = record { frame = 0; write = write; may = true; accessed = false; dirty = false; lazy = true }
 
-pub lazy_rules : (write : Bool) → IsKernelEntry (lazy_entry write)
-lazy_rules write = record { frame = λ h. cc; zero = λ h. refl; clean = λ h. refl; right = λ h. refl; touched = λ h. cc }
-
 -- memory and roles that are ready for a new entry at a slot that has none
 pub record IsReady (directories : List (Option ℕ)) (bytes : List ℕ) (roles : List Role) (d page : ℕ) (slot : Slot) (e : PageEntry) (one : List ℕ) (roles' : List Role) : Type 0 where
   pub size : length one ≡ length bytes
@@ -212,7 +209,7 @@ page_added directories bytes two roles p d page t write sound live low high unma
       pages = pages-lazy E (slice_get roles) slot e sound.pages none refl zero_role;
       entries = refl;
       table = refl;
-      rules = lazy_rules write;
+      rules = record { frame = λ h. cc; zero = λ h. refl; clean = λ h. refl; right = λ h. refl; touched = λ h. cc };
       kept = λ q x found. refl;
       weight = omega (arith, more);
       used = λ q r u. u;
