@@ -187,13 +187,11 @@ pub child_leaves : (s : State) (p q k quota : ℕ) (T : Spaces) → IsApart s p 
     → AreAlike s p (record { spaces = T; book = map.insert s.book k (record { parent = q; quota = quota }); offers = s.offers }) p
 child_leaves s p q k quota T a d free pages =
     let child : Member = record { parent = q; quota = quota } in
-    let before = a.childless in
-    let more = number-insert s.book k child (no_value (map.get s.book k) free) p in
     let other : ◌≡◌ {A = ℕ} (cond (is_child p (k, child)) 1 0) 0 = ap (λ b. cond b 1 0) (child_no q p k quota d) in
     left_alike s (record { spaces = T; book = map.insert s.book k child; offers = s.offers }) p a (record {
       pages = pages;
       member = get-insert_other s.book k child p (live_differ s p k a.live free);
-      childless = omega (arith, before, more, other);
+      childless = omega (arith, a.childless, number-insert s.book k child (no_value (map.get s.book k) free) p, other);
       offers = a.offers_none;
     })
 
@@ -258,7 +256,6 @@ pub child_alike : (s : State) (p k root quota : ℕ) (T : Spaces) (pages : Map n
 child_alike s p k root quota T pages w live free copies =
     let none = no_value (map.get s.book k) free in
     let child : Member = record { parent = p; quota = quota } in
-    let before = number-none s.book k none (parents_in s w) in
     let more = number-insert s.book k child none k in
     let other : ◌≡◌ {A = ℕ} (cond (is_child k (k, child)) 1 0) 0 = ap (λ b. cond b 1 0) (child_no p k k quota (live_differ s p k live free)) in
     let here : map.get (map.insert s.book k child) k ≡ Some child = get-insert s.book k child k ∙ ap (λ b. cond b (Some child) (map.get s.book k)) (same_itself nat_order k) in
@@ -266,7 +263,7 @@ child_alike s p k root quota T pages w live free copies =
       one = record {
         live = ap is_some here;
         not_root = λ e. live_differ s 0 k w.root free (sym e);
-        childless = omega (arith, before, more, other);
+        childless = omega (arith, number-none s.book k none (parents_in s w), more, other);
         offers_none = no_offer s k w free;
         shares_none = λ n c h. first_lone (at_page k n) (map.get pages n) c (sym (copies n) ∙ h);
       };

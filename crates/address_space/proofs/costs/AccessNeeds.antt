@@ -18,10 +18,9 @@ cost-with_page S p page = by (map.contains_key S (at_page p page)) refl
 -- a page beside one that is mapped now
 pub need-beside : (S : Spaces) (p page second : ℕ) (cell : Cell) → need (map.insert S (at_page p page) cell) p second ≡ (if slot_number page == slot_number second then 1 else need S p second)
 need-beside S p page second cell =
-    let R : Set nat_order = regions_of (pages_of S p) in
     let r : ℕ = slot_number second in
     ap (λ (s : Set nat_order). if set.contains s r then 1 else 2) (ap regions_of (pages-insert S (at_page p page) cell) ∙ regions-insert (pages_of S p) page)
-    ∙ ap (λ b. if b then 1 else 2) (contains-insert R (slot_number page) r)
+    ∙ ap (λ b. if b then 1 else 2) (contains-insert (regions_of (pages_of S p)) (slot_number page) r)
     ∙ (grind (arith, eqb-true, r, same_itself, same_apart, eq-eqb))
   where
     r : ℕ

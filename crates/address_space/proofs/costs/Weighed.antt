@@ -67,11 +67,8 @@ module _ (directories : List (Option ℕ)) (bytes : List ℕ) (roles : List Role
   unfolding uses
   length-uses a zero = refl
   length-uses a (suc n) =
-      let both = length-append (uses_of a (D a)) (uses (a + 1) n) in
       let s = sum_by-cons (live_cost D spaces) a (range_with_len (a + 1) n) in
-      let own = length-uses_of a (D a) in
-      let rest = length-uses (a + 1) n in
-      omega (arith, both, s, own, rest)
+      omega (arith, length-append (uses_of a (D a)) (uses (a + 1) n), s, length-uses_of a (D a), length-uses (a + 1) n)
 
   hits-uses : (f p a n : ℕ) → a ≤ p → p < a + n → hits f (uses_of p (D p)) ≤ hits f (uses a n)
   unfolding uses
@@ -79,9 +76,8 @@ module _ (directories : List (Option ℕ)) (bytes : List ℕ) (roles : List Role
   hits-uses f p a (suc n) low high = elim (cases_eq p a) [
     | inl is ↦ grind (arith, hits-append, hits)
     | inr differ ↦
-        let both = hits-append f (uses_of a (D a)) (uses (a + 1) n) in
         let rest = hits-uses f p (a + 1) n (omega (arith, differ)) (omega arith) in
-        omega (arith, both, rest)
+        omega (arith, hits-append f (uses_of a (D a)) (uses (a + 1) n), rest)
   ]
 
   -- ---- Directories and tables
@@ -128,13 +124,11 @@ module _ (directories : List (Option ℕ)) (bytes : List ℕ) (roles : List Role
       by : (x : Option ℕ) → D p ≡ x → 1 ≤ hits f (uses 0 64)
       by None is = absurd (let n : table_in D m p s ≡ None = ap (option_and_then (λ d. table_of m d s)) is in cc)
       by (Some d) is =
-          let few = small p d is in
           let region = member (regions p) s (region-there p d s f is wide there) in
           let own = hits-map nat_order (table_at p) s f (set.items (regions p)) region (ap (λ o. unwrap_or o 0) there) in
           let both = hits-append f (list_map (table_at p) (set.items (regions p))) (list_map (frame_at p) (set.items (pages p))) in
-          let here : 1 ≤ hits f (uses_of p (D p)) = subst (λ x. 1 ≤ hits f (uses_of p x)) (sym is) (omega (arith, own, both)) in
-          let all = hits-uses f p 0 64 (omega arith) (omega (arith, few)) in
-          omega (arith, here, all)
+          let all = hits-uses f p 0 64 (omega arith) (omega (arith, small p d is)) in
+          omega (arith, subst (λ x. 1 ≤ hits f (uses_of p x)) (sym is) (omega (arith, own, both)), all)
 
   -- ---- Pages
 
@@ -225,12 +219,9 @@ module _ (directories : List (Option ℕ)) (bytes : List ℕ) (roles : List Role
   all-weigh [] first each = cc
   all-weigh (r ∷ rs) first each =
       let is : r ≡ Reserved = ap (λ o. unwrap_or o r) first in
-      let w : weight r ≡ 1 = ap weight is in
-      let s = sum_by-cons weight r rs in
       let rest = weights-below rs (λ f. hits f (uses 0 64)) 1 (λ i q is. (let e : suc i ≡ 1 + i = omega arith in subst (λ k. weight q ≤ hits k (uses 0 64)) e (each (suc i) q is (omega arith)))) in
-      let lazy = holders-hits 0 in
       let most = sum-hits (uses 0 64) 0 (suc (length rs)) in
-      omega (arith, w, s, rest, lazy, most)
+      omega (arith, ap weight is, sum_by-cons weight r rs, rest, holders-hits 0, most)
 
   weigh : ((p s t : ℕ) → slice_get roles t ≡ Some (Table p s) → s < 1024) → frames_weight roles + lazy_count E ≤ 1 + sum_by (live_cost D spaces) (range_with_len 0 64)
   weigh wide = subst (λ n. frames_weight roles + lazy_count E ≤ 1 + n) (length-uses 0 64) (all-weigh roles S.tables.zero_role (frame-hits wide))

@@ -54,8 +54,7 @@ module _ (directories : List (Option ℕ)) (bytes : List ℕ) (roles : List Role
   wide : (p s t : ℕ) → slice_get roles t ≡ Some (Table p s) → s < 1024
   wide p s t is =
       let d = from_then (λ d. named_by s (word_of image d s)) (directory_at image p) t ((I.tables t p s).0 is) in
-      let low = user_named s (word_of image d.0 s) t d.2 in
-      omega (arith, low.1)
+      omega (arith, (user_named s (word_of image d.0 s) t d.2).1)
 
   tables_agree : Tables D m (slice_get roles)
   tables_agree = record {
@@ -121,8 +120,7 @@ module _ (directories : List (Option ℕ)) (bytes : List ℕ) (roles : List Role
     where
       each : All (λ b. b < 256) (m (frame_number word))
       each k d low =
-          let long = whole (frame_number word) inside in
-          let within : k < 4096 = omega (arith, low, long) in
+          let within : k < 4096 = omega (arith, low, whole (frame_number word) inside) in
           subst (λ b. b < 256) (sym (byte-frame bytes (frame_number word) k within) ∙ get_or_default (m (frame_number word)) k 0 d low) (small (4096 * frame_number word + k))
 
   -- cells on one frame have the same bytes

@@ -30,15 +30,12 @@ slot_joined directories bytes two roles roles' giver giver_page p d page f c rig
     let own : R' f ≡ Some (Page (c + 1)) = role_own roles roles' f (Page c) (Page (c + 1)) role now in
     let others : (g : ℕ) → g ≢ f → R' g ≡ slice_get roles g = role_other roles roles' f (Page (c + 1)) now in
     let none : map.get E slot ≡ None = none_before E m slot (map.get E slot) (sym (get-spaces_of E m slot) ∙ unmapped) in
-    let same_length : length roles' ≡ length roles = ap length now ∙ length-set roles f (Page (c + 1)) in
     let named : e ≡ record e { frame = given.0.frame } = (λ i. record e { frame = sym given.2 i }) in
     let up : 1 ≤ f = above sound.tables in
-    let heavier = weight-set roles f (Page c) (Page (c + 1)) role in
-    let weighs : frames_weight roles' ≡ frames_weight (slice_set roles f (Page (c + 1))) = ap frames_weight now in
     let as_many = lazy-real E slot e none (λ z. omega (arith, z, up)) in
     let added = entry_added directories bytes bytes two roles roles' p d page at.0 e sound live low high none at.1 (record {
       size = refl;
-      length = same_length;
+      length = (ap length now ∙ length-set roles f (Page (c + 1)));
       small = (inside directories bytes roles f (Page c) sound role).small;
       tables = tables-role (directory_of directories) m (slice_get roles) R' f (Page c) sound.tables role (page_loose (slice_get roles) f c role) (page_loose R' f (c + 1) own) others;
       pages = pages-join E (slice_get roles) R' slot e c sound.pages none role own others;
@@ -46,7 +43,7 @@ slot_joined directories bytes two roles roles' giver giver_page p d page f c rig
       table = refl;
       rules = record { frame = λ _. up; zero = λ h. cc; clean = λ h. cc; right = λ h. h; touched = λ h. h };
       kept = λ q x found. refl;
-      weight = omega (arith, heavier, weighs, as_many);
+      weight = omega (arith, weight-set roles f (Page c) (Page (c + 1)) role, ap frames_weight now, as_many);
       used = λ q r u. u;
       linked = λ q r. refl;
     }) is_two long_two in
