@@ -15,7 +15,7 @@ pub use Rattle.std.specs.Result.{is_ok}
 pub use borrow.Author.Tests.{eq-eqb, eqb-true}
 pub use Rattle.address_space.specs.ByWalk.{after_walked_load, after_walked_store, byte_place, finds, finds_at, walked_word, with_walked}
 pub use Rattle.address_space.specs.Cells.{Entries, cell_of, group_of, holders_of, lazy_count, names, nothing, spaces_of}
-pub use Rattle.address_space.specs.Changes.{CopiedBelow, CopyIn, DirectoryDropped, DroppedBelow, EntryGone, EntryLeft, EntryPut, IsCopying, IsEmptySpace, PageAdded, PageCopied, PageFilled, PagesCopied, SlotAdded, SlotCopied, SlotJoined, SlotRemoved, SpaceAdded, TableFreed, TableGiven, Touched, flagged, table_need, takes_stores_through, words_left}
+pub use Rattle.address_space.specs.Changes.{CopiedBelow, CopyIn, DirectoryDropped, DroppedBelow, EntryGone, EntryLeft, EntryPut, IsCopying, IsEmptySpace, PageAdded, PageCopied, PageFilled, PagesCopied, SlotAdded, SlotCopied, SlotJoined, SlotRemoved, SpaceAdded, TableFreed, TableGiven, Touched, table_need, takes_stores_through, words_left}
 pub use Rattle.address_space.specs.Counts.{AlwaysMapsAlike, AreCountedSpaces, IsCounted, KeepsCounts, MapsAlike, MapsOneMore, pages_by, pages_under, region_pages}
 pub use Rattle.address_space.specs.Finds.{BytesStored, CountedUp, EntryCopied, EntryIs, FrameGiven, LiesIn, TableGot, TableReady, TakesPage, entry_found, found_by, found_in, lazy_found}
 pub use Rattle.address_space.specs.Image.{CellStands, Image, IsCount, IsOneGroup, IsSoundImage, LeavesRoom, SlotStands, StandsFor, StandsForOne, directory_at, image_from, image_of, is_lazy_at, is_user_slot, named_by, page_frame, page_word, present_word, table_at, takes_stores, word_of}

@@ -49,10 +49,6 @@ pub record SlotJoined (directories : List (Option ℕ)) (giver giver_page p page
   pub slot : SlotAdded directories p page bytes roles bytes' roles'
   pub spaces : spaces_in directories bytes' ≡ joined (spaces_in directories bytes) (at_page giver giver_page) (at_page p page) right
 
--- a slot's own cell has these two flags
-abbrev pub flagged : Spaces → Slot → Bool → Bool → Spaces
-flagged spaces slot write accessed = map.insert spaces slot (record (cell_or_fresh spaces slot) { write = write; accessed = accessed })
-
 -- whether a store to an entry succeeds immediately: the page may be written, and has a frame of its own
 abbrev pub takes_stores_through : Option PageEntry → Bool
 takes_stores_through None = false

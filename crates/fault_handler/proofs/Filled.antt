@@ -1,6 +1,5 @@
 -- What the pages that are filled for a write leave of the ways.
-use Rattle.fault_handler.proofs.Prelude
-use Prelude.{page_number, second_page, Size, ◌≡◌, ℕ, Bool, false, ◌||◌, ap, sym, ◌∙◌, Some, arith, Image, stays_then, stays_more}
+use Rattle.fault_handler.proofs.Prelude.{page_number, second_page, Size, ◌≡◌, ℕ, Bool, false, ◌||◌, ap, sym, ◌∙◌, Some, arith, Image, stays_then, stays_more}
 use Rattle.address_space.specs.Stays.{FramesStay, of_lazy}
 use Rattle.fault_handler.specs.Fills.{lazy_second, lazy_touched}
 

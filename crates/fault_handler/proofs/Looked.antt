@@ -1,6 +1,5 @@
 -- One lookup of each page of an access gives its plan and its charge.
-use Rattle.fault_handler.proofs.Prelude
-use Prelude.{◌≡◌, ℕ, ◌+◌, nat_lt, arith, Bool, true, not, ◌&&◌, cond, refl, sym, ap, ◌∙◌, Option, Some, None, if◌then◌else◌, option_map, option_and_then, page_number, slot_number, start_number, second_page, touched, Size, first_by_page, crosses, Spaces, at_page, cost, page_need, access_need, regions_of, pages_of, Access, Read, Write, extra_touched, View, Quota, Plan, outside, is_read_only, forbidden, fault_or, goes_on, look_of, planned_by_looks, ◌-◌, ◌==◌, look_behind, barred, need_by, fault_by, planned_at, need-in_one, need-in_two, second_need, Container, State, room, extra_cost, container_of}
+use Rattle.fault_handler.proofs.Prelude.{◌≡◌, ℕ, ◌+◌, nat_lt, arith, Bool, true, ◌&&◌, cond, refl, sym, ap, ◌∙◌, Option, Some, None, if◌then◌else◌, option_map, option_and_then, page_number, slot_number, start_number, second_page, touched, Size, first_by_page, crosses, Spaces, at_page, cost, page_need, access_need, Access, Read, Write, extra_touched, View, Quota, Plan, outside, is_read_only, forbidden, fault_or, goes_on, look_of, planned_by_looks, ◌-◌, ◌==◌, look_behind, barred, need_by, fault_by, planned_at, need-in_one, need-in_two, second_need, Container, State, extra_cost, container_of}
 use Rattle.process_table.proofs.Charged.{used-container}
 use Rattle.fault_handler.specs.declared.plans.Look.{Look}
 use Rattle.page_words.specs.FiniteMap as map
@@ -9,9 +8,6 @@ use Rattle.fault_handler.specs.declared.plans.Plan.TheVariants as plan
 use Rattle.fault_handler.specs.declared.plans.Planned.{Planned}
 
 -- ---- A container
-
-room_is : (s : State) (p : ℕ) (c : Container) → container_of s p ≡ Some c → c.quota - c.used - c.given ≡ room s p
-room_is s p c is = grind arith
 
 -- ---- The pages
 
@@ -44,12 +40,7 @@ module _ (v : View) (p address : ℕ) (size : Size) (access : Access) where
       by Read None is = refl
       by Read (Some second) is = refl
       by Write None is = sym (first_by_page test address size ∙ ap (λ y. cond (test page) (Some address) (option_and_then (λ n. cond (test n) (Some (start_number n)) None) y)) is)
-      by Write (Some second) is = grind (arith, test, start, first_by_page)
-
-  -- two pages need what the first does, and what the second does beside it
-  beside : (m n r t same : Bool)
-      → ◌≡◌ {A = ℕ} (if nat_lt 0 (if m then 0 else (if r then 1 else 2)) && (nat_lt 0 (if n then 0 else (if t then 1 else 2)) && same) then 1 else (if n then 0 else (if t then 1 else 2))) (if n then 0 else (if not m && same then 1 else (if t then 1 else 2)))
-  beside m n r t same = grind arith
+      by Write (Some second) is = grind (arith, test, first_by_page)
 
   need_is : need_by first (look_behind v p access (second_page address size)) ≡ extra_cost s p (touched address size)
   need_is = by (second_page address size) refl ∙ sym (extra_touched s p address size)
@@ -57,11 +48,10 @@ module _ (v : View) (p address : ℕ) (size : Size) (access : Access) where
       by : (x : Option ℕ) → second_page address size ≡ x → need_by first (behind x) ≡ access_need S p address size
       by None is = sym (need-in_one S p address size is)
       by (Some second) is =
-          let next = (crosses address size second is).next in
           ap (λ n. page_need S p page + (if nat_lt 0 (page_need S p page) && (nat_lt 0 (page_need S p n) && (slot_number page == slot_number n)) then 1 else page_need S p n)) (start second)
           ∙ ap (λ n. page_need S p page + n)
-          (beside (map.contains_key S (at_page p page)) (map.contains_key S (at_page p second)) (set.contains (regions_of (pages_of S p)) (slot_number page)) (set.contains (regions_of (pages_of S p)) (slot_number second)) (slot_number page == slot_number second)
-          ∙ sym (second_need S p page second (λ e. omega (arith, e, next))))
+          ((grind arith)
+          ∙ sym (second_need S p page second (λ e. omega (arith, e, (crosses address size second is).next))))
           ∙ sym (need-in_two S p address size second is)
 
   -- ---- The plan and the charge
@@ -73,7 +63,7 @@ module _ (v : View) (p address : ℕ) (size : Size) (access : Access) where
 
   pub looked : (c : Container) → container_of s p ≡ Some c → outside address size ≡ None
       → planned_by_looks access first (look_behind v p access (second_page address size)) c ≡ planned_at v p address size access
-  looked c has within = grind (arith, barred_is, nat_lt, room_is, need_is, joined, used-container)
+  looked c has within = grind (arith, barred_is, nat_lt, need_is, joined, used-container)
 
   -- what is planned goes on with the charge that its pages need
   pub charge_goes : (x : Planned) → x ≡ planned_at v p address size access → goes_on x.plan ≡ true → x.charge ≡ cost S p + access_need S p address size

@@ -1,6 +1,5 @@
 -- An access in one page of the user range: what it plans, by whether its page is mapped.
-use Rattle.fault_handler.proofs.Prelude
-use Prelude.{◌≡◌, ℕ, nat_lt, arith, true, false, [], ◌∷◌, refl, Some, None, first_by_page, if◌then◌else◌, page_number, second_page, touched, IsUserPage, Size, Spaces, at_page, cell_or_fresh, need, Access, Read, Write, State, is_mapped, overdrawn, View, Quota, access_value, Plan, is_read_only, forbidden, plan_at, ◌-◌, Ok, Err, extra_page, container_of, is_live, room, Container, access_result, settled, NoProcess, Slot, no_value}
+use Rattle.fault_handler.proofs.Prelude.{◌≡◌, ℕ, nat_lt, arith, true, false, [], ◌∷◌, refl, Some, None, first_by_page, if◌then◌else◌, page_number, second_page, touched, IsUserPage, Size, Spaces, at_page, cell_or_fresh, need, Access, Read, Write, State, is_mapped, overdrawn, View, Quota, access_value, Plan, is_read_only, forbidden, plan_at, ◌-◌, Ok, Err, extra_page, container_of, is_live, room, Container, access_result, settled, NoProcess, Slot, no_value}
 use Rattle.fault_handler.proofs.Settled.{inside_by_page}
 use Rattle.page_words.specs.FiniteMap as map
 use Rattle.fault_handler.specs.declared.plans.Stop.TheVariants as stop
@@ -26,22 +25,17 @@ module _ (v : View) (p address : ℕ) (size : Size) (user : IsUserPage (page_num
   allowed Read may = refl
   allowed Write may = grind (arith, first_by_page, within, may)
 
-  -- an access to a page that isn't mapped
-  pub plan_new : (access : Access) → is_mapped s (at_page p page) ≡ false
-      → plan_at v p address size access ≡ (if overdrawn s p (page ∷ []) then plan.Refused Quota else plan.Ready step.MapZero None)
-  plan_new access none = grind (arith, inside_by_page, allowed, alone, within, user)
-
   result_by : (access : Access) (x : Plan) → plan_at v p address size access ≡ x → is_live s p ≡ true
       → access_result v p address size access ≡ settled x (access_value s p address size access)
   result_by access x is live = (λ i. if live i then settled (is i) (access_value s p address size access) else Err (stop.Refused NoProcess))
 
   pub new_refused : (access : Access) → is_live s p ≡ true → is_mapped s (at_page p page) ≡ false → overdrawn s p (page ∷ []) ≡ true
       → access_result v p address size access ≡ Err (stop.Refused Quota)
-  new_refused access live none full = grind (arith, plan_new, result_by)
+  new_refused access live none full = grind (arith, inside_by_page, allowed, alone, within, user, result_by)
 
   pub new_done : (access : Access) → is_live s p ≡ true → is_mapped s (at_page p page) ≡ false → overdrawn s p (page ∷ []) ≡ false
       → access_result v p address size access ≡ Ok (access_value s p address size access)
-  new_done access live none room = grind (arith, plan_new, result_by)
+  new_done access live none room = grind (arith, inside_by_page, allowed, alone, within, user, result_by)
 
 -- a page that isn't mapped is mapped with the right to write
 pub new_right : (S : Spaces) (slot : Slot) → map.contains_key S slot ≡ false → (cell_or_fresh S slot).write ≡ true

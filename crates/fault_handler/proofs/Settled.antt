@@ -1,12 +1,10 @@
 -- An access whose plan is Ready: what its plan says, and that its pages, mapped first, leave what the definition says.
-use Rattle.fault_handler.proofs.Prelude
-use Prelude.{◌≡◌, ℕ, arith, Bool, true, false, not, ◌&&◌, [], ◌∷◌, refl, sym, ap, ◌∙◌, Option, Some, None, option_map, page_number, covered, second_page, touched, EachTouched, IsUserPage, Size, first_by_page, no_value, Slot, Spaces, at_page, cell_or_fresh, need, page_need, access_need, with_page, is_lazy_at, with_touched-same, touched-there, Access, Read, Write, View, memory_of, access_value, after_access, page_is_user, Plan, outside, is_read_only, forbidden, step_at, maps_page, plan_at, goes_on, takes_no_frame, ◌≢◌, ◌≤◌, List, inl, inr, is_some, Cell, with_pages, planned_by, takes_at, IfSome, find, cases_Bool, false≢true, le-ltb, lt-ltb, not-false, need-in_one, need-in_two, cost-with_page, extra_page, extra_touched, State, is_live, is_mapped, room, overdrawn, user_page, not_less}
+use Rattle.fault_handler.proofs.Prelude.{◌≡◌, ℕ, arith, true, false, not, [], ◌∷◌, refl, sym, ap, ◌∙◌, Option, Some, None, option_map, page_number, second_page, touched, EachTouched, IsUserPage, Size, first_by_page, no_value, Slot, Spaces, at_page, cell_or_fresh, need, page_need, access_need, with_page, with_touched-same, touched-there, Access, Read, Write, View, access_value, after_access, page_is_user, Plan, outside, is_read_only, forbidden, step_at, maps_page, plan_at, goes_on, takes_no_frame, ◌≢◌, ◌≤◌, List, inl, inr, is_some, Cell, with_pages, planned_by, takes_at, cases_Bool, false≢true, le-ltb, lt-ltb, not-false, need-in_one, need-in_two, cost-with_page, extra_page, extra_touched, State, is_live, is_mapped, room, overdrawn, user_page, not_less}
 use Rattle.std.specs.Prelude.{nat_lt}
 use Rattle.process_table.specs.WellFormed.{IsWellFormed}
 use Rattle.page_words.proofs.MapLemmas.{same_or_not, get-insert}
 use Rattle.page_words.proofs.SetLemmas.{same_apart}
 use Rattle.address_space.proofs.costs.AccessCosts.{key-insert}
-use Rattle.table_walk.specs.Walk.{is_write}
 use Rattle.fault_handler.specs.declared.plans.PageStep.{PageStep}
 use Rattle.page_words.specs.FiniteMap as map
 use Rattle.fault_handler.specs.declared.plans.PageStep.TheVariants as step
@@ -14,16 +12,12 @@ use Rattle.fault_handler.specs.declared.plans.Plan.TheVariants as plan
 
 -- ---- Where no byte stops an access
 
--- where no byte is found, no page passes the test
-pub none_found : (test : ℕ → Bool) (address : ℕ) (size : Size) → find (λ a. test (page_number a)) (covered address size) ≡ None → EachTouched address size (λ page. test page ≡ false)
-none_found test address size none = grind (arith, first_by_page)
-
 -- what holds of each page, where something else does
 pub each_page : (address : ℕ) (size : Size) (P Q : ℕ → Type 0) → ((page : ℕ) → P page → Q page) → EachTouched address size P → EachTouched address size Q
 each_page address size P Q f h = grind arith
 
 pub all_user : (address : ℕ) (size : Size) → outside address size ≡ None → EachTouched address size IsUserPage
-all_user address size none = grind (arith, each_page, user_page, not-false, none_found)
+all_user address size none = grind (arith, each_page, user_page, not-false, first_by_page)
 
 -- ---- A plan that goes on
 
@@ -72,12 +66,10 @@ same_stops steps others s p address size access = grind arith
 
 -- ---- The state with the pages of an access mapped
 
-same_cell : (S : Spaces) (p page : ℕ) (q : Slot) → cell_or_fresh (with_page S p page) q ≡ cell_or_fresh S q
-same_cell S p page q = grind (arith, same_or_not, get-insert, no_value)
-
 pub same_cells : (S : Spaces) (p : ℕ) (pages : List ℕ) (q : Slot) → cell_or_fresh (with_pages S p pages) q ≡ cell_or_fresh S q
 same_cells S p [] q = refl
-same_cells S p (page ∷ pages) q = same_cells (with_page S p page) p pages q ∙ same_cell S p page q
+same_cells S p (page ∷ pages) q =
+    same_cells (with_page S p page) p pages q ∙ (grind (arith, same_or_not, get-insert, no_value))
 
 module _ (s : State) (p address : ℕ) (size : Size) where
   abbrev pages : List ℕ
@@ -97,11 +89,8 @@ module _ (s : State) (p address : ℕ) (size : Size) where
   each_right Read none is = cc
   each_right Write none is =
       each_page address size (λ page. is_read_only s (at_page p page) ≡ false) (λ page. (cell_or_fresh s.spaces (at_page p page)).write ≡ true)
-      (λ page h. by (at_page p page) (map.get s.spaces (at_page p page)) refl h)
-      (none_found (λ page. is_read_only s (at_page p page)) address size none)
-    where
-      by : (slot : Slot) (x : Option Cell) → map.get s.spaces slot ≡ x → (is_some (map.get s.spaces slot) && not (cell_or_fresh s.spaces slot).write) ≡ false → (cell_or_fresh s.spaces slot).write ≡ true
-      by slot k is h = grind (arith, not-false)
+      (λ page h. (grind (arith, not-false)))
+      (grind (arith, first_by_page))
 
   -- also once they are mapped
   pub mapped_right : (access : Access) → forbidden s p address size access ≡ None → access ≡ Write → EachTouched address size (λ page. (cell_or_fresh mapped_state.spaces (at_page p page)).write ≡ true)
@@ -141,9 +130,8 @@ first_room s p address size fits = by (second_page address size) refl
     by : (x : Option ℕ) → second_page address size ≡ x → overdrawn s p (page_number address ∷ []) ≡ false
     by None is = grind (arith, need-in_one, enough, fits_page)
     by (Some second) is =
-        let n = need-in_two s.spaces p address size second is in
         let all = enough s p address size fits in
-        fits_page s p (page_number address) (omega (arith, n, all))
+        fits_page s p (page_number address) (omega (arith, need-in_two s.spaces p address size second is, all))
 
 pub second_room : (s : State) (p address : ℕ) (size : Size) (second : ℕ) → second_page address size ≡ Some second
     → overdrawn s p (touched address size) ≡ false
@@ -181,29 +169,14 @@ mapped_beside S p page second apart = grind (arith, key-insert, same_apart)
 
 -- ---- What completes as memory stands
 
-complete_steps : (f : PageStep) (g : Option PageStep) → takes_no_frame (plan.Ready f g) ≡ true → (f ≡ step.Complete) × IfSome g (λ x. x ≡ step.Complete)
-complete_steps f g h = grind arith
-
--- a page whose step is Complete
-complete_page : (v : View) (p : ℕ) (access : Access) (page : ℕ) → step_at v p access page ≡ step.Complete
-    → (is_mapped v.state (at_page p page) ≡ true) × ((is_write access && is_lazy_at (memory_of v) (at_page p page)) ≡ false)
-complete_page v p access page h = grind arith
-
 complete_pages : (v : View) (x : Plan) (p address : ℕ) (size : Size) (access : Access) → x ≡ plan_at v p address size access → takes_no_frame x ≡ true
     → EachTouched address size (λ page. step_at v p access page ≡ step.Complete)
-complete_pages v x p address size access is h = grind (arith, ready, complete_steps)
-
--- each page of an access that completes as memory stands takes it
-takes_page : (v : View) (p : ℕ) (access : Access) (page : ℕ) → step_at v p access page ≡ step.Complete → (access ≡ Write → (cell_or_fresh v.state.spaces (at_page p page)).write ≡ true) → takes_at v p access page ≡ true
-takes_page v p access page h right = grind (arith, complete_page)
+complete_pages v x p address size access is h = grind (arith, ready)
 
 pub complete_takes : (v : View) (p address : ℕ) (size : Size) (access : Access) → takes_no_frame (plan_at v p address size access) ≡ true → EachTouched address size (λ page. takes_at v p access page ≡ true)
-complete_takes v p address size Read h = grind (arith, each_page, takes_page, complete_pages)
+complete_takes v p address size Read h = grind (arith, each_page, complete_pages)
 complete_takes v p address size Write h =
-    let goes = ready (step_at v p Write) v.state p address size Write (ends (plan_at v p address size Write) h) in
+    let goes = ready (step_at v p Write) v.state p address size Write (grind arith) in
     let steps = complete_pages v (plan_at v p address size Write) p address size Write refl h in
     let right = each_right v.state p address size Write goes.allowed refl in
-    grind (arith, takes_page)
-  where
-    ends : (x : Plan) → takes_no_frame x ≡ true → goes_on x ≡ true
-    ends x h = grind arith
+    grind (arith)

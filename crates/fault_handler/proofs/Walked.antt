@@ -1,14 +1,9 @@
 -- An access whose walks find a frame for each of its pages completes as memory stands.
-use Rattle.fault_handler.proofs.Prelude
-use Prelude.{◌≡◌, ℕ, nat_lt, arith, Bool, true, false, None, if◌then◌else◌, find, option_map, page_number, covered, second_page, touched, EachTouched, IsUserPage, Size, first_by_page, slot_at, at_page, cell_or_fresh, is_lazy_at, takes_stores, with_touched-same, Access, Read, Write, extra_touched, State, is_mapped, overdrawn, View, memory_of, Quota, page_is_user, outside, forbidden, fault_or, step_at, plan_at, takes_no_frame, access_result, at_once, settled, takes_at, Err, Ok, ap, ◌∙◌, not-true, le-ltb, and_parts, access_value, is_live, NoProcess, Plan, cost-with_touched}
+use Rattle.fault_handler.proofs.Prelude.{◌≡◌, ℕ, nat_lt, arith, true, false, None, if◌then◌else◌, option_map, page_number, second_page, touched, EachTouched, IsUserPage, Size, first_by_page, slot_at, at_page, takes_stores, with_touched-same, Access, Read, Write, extra_touched, State, is_mapped, overdrawn, View, memory_of, Quota, page_is_user, outside, forbidden, fault_or, step_at, plan_at, takes_no_frame, access_result, at_once, settled, takes_at, Err, Ok, ap, ◌∙◌, not-true, le-ltb, and_parts, access_value, is_live, NoProcess, Plan, cost-with_touched}
 use Rattle.fault_handler.specs.declared.plans.Stop.TheVariants as stop
 use Rattle.fault_handler.proofs.Settled.{all_user, each_page}
 use Rattle.fault_handler.specs.declared.plans.PageStep.TheVariants as step
 use Rattle.fault_handler.specs.declared.plans.Plan.TheVariants as plan
-
--- where no page passes the test, no byte is found
-none_passes : (test : ℕ → Bool) (address : ℕ) (size : Size) → EachTouched address size (λ page. test page ≡ false) → find (λ a. test (page_number a)) (covered address size) ≡ None
-none_passes test address size h = grind (arith, first_by_page)
 
 module _ (v : View) (p address : ℕ) (size : Size) where
   abbrev s : State
@@ -17,16 +12,12 @@ module _ (v : View) (p address : ℕ) (size : Size) where
   abbrev Takes : ℕ → Type 0
   Takes page = takes_stores s.spaces (memory_of v) (at_page p page) ≡ true
 
-  -- what a page that takes stores may
-  parts : (page : ℕ) → Takes page → ((cell_or_fresh s.spaces (at_page p page)).write ≡ true) × (is_lazy_at (memory_of v) (at_page p page) ≡ false)
-  parts page h = grind (arith, and_parts, not-true)
-
   all_steps : (access : Access) → EachTouched address size (λ page. is_mapped s (at_page p page) ≡ true) → (access ≡ Write → EachTouched address size Takes)
       → EachTouched address size (λ page. step_at v p access page ≡ step.Complete)
   all_steps access mapped takes = grind (arith, each_page, and_parts)
 
   none_forbidden : (access : Access) → (access ≡ Write → EachTouched address size Takes) → forbidden s p address size access ≡ None
-  none_forbidden access takes = grind (arith, none_passes, each_page, and_parts, parts)
+  none_forbidden access takes = grind (arith, first_by_page, each_page, and_parts, not-true)
 
   -- what such an access plans
   planned : (access : Access) → EachTouched address size IsUserPage → EachTouched address size (λ page. is_mapped s (at_page p page) ≡ true) → (access ≡ Write → EachTouched address size Takes)
@@ -55,10 +46,7 @@ module _ (v : View) (p address : ℕ) (size : Size) where
       → access_result v p address size access ≡ Ok (access_value s p address size access)
   completed access live ends =
       ap (λ b. if b then settled (plan_at v p address size access) (access_value s p address size access) else Err (stop.Refused NoProcess)) live
-      ∙ is_ok (plan_at v p address size access) ends
-    where
-      is_ok : (x : Plan) → takes_no_frame x ≡ true → settled x (access_value s p address size access) ≡ Ok (access_value s p address size access)
-      is_ok x h = grind arith
+      ∙ (grind arith)
 
   pub taken : (access : Access) → outside address size ≡ None → EachTouched address size (λ page. takes_at v p access page ≡ true) → is_live s p ≡ true
       → access_result v p address size access ≡ Ok (access_value s p address size access)

@@ -1,6 +1,5 @@
 -- The replies of a process apart, and the effect of calls on it.
-use Rattle.process_table.proofs.Prelude
-use Prelude.{◌≡◌, ◌≢◌, ℕ, ◌+◌, ◌&&◌, not, Bool, true, false, List, [], ◌∷◌, length, map, refl, sym, ap, ◌∙◌, Option, Some, None, is_some, unwrap_or, sum_by, arith, if◌then◌else◌, slice_index, option_map, cases_eq, ne_eqb, same_Some, slot_number, is_user_page, page_number, offset_number, byte_count, touched, covered, Size, same, nat_order, Set, same_itself, get-map_values, contains-insert, retain-insert, is_some-map, Slot, slot_order, Cell, Spaces, cost, cost_of, need, pages_of, regions_of, fresh, cell_or_fresh, with_holders, set_bytes, write_at, bytes_of, without, at_page, slot_at, accessed, stored, access_need, with_page, with_pages, all_accessed, all_stored, value_of, missing, same_pages, OfferKey, State, is_mapped, overdrawn, map_refusal, unmap_refusal, protect_refusal, exit_refusal, after_map, after_unmap, after_protect, after_withdraw, after_load, after_store, withdraw_refusal, loaded, BadPage, Mapped, Quota, NotMapped, Rights, same_apart, left, get-without, Book, Member, given, number_of_children, quota_of, or-false, children, IsApart, AreAlike, Held, held_in, lone}
+use Rattle.process_table.proofs.Prelude.{◌≡◌, ◌≢◌, ℕ, ◌+◌, ◌&&◌, not, Bool, true, false, List, [], ◌∷◌, length, map, refl, sym, ap, ◌∙◌, Option, Some, None, is_some, unwrap_or, sum_by, arith, if◌then◌else◌, slice_index, option_map, cases_eq, ne_eqb, same_Some, slot_number, is_user_page, page_number, offset_number, byte_count, touched, covered, Size, same, nat_order, Set, same_itself, get-map_values, contains-insert, retain-insert, is_some-map, Slot, slot_order, Cell, Spaces, cost, cost_of, need, pages_of, regions_of, fresh, cell_or_fresh, with_holders, set_bytes, write_at, bytes_of, without, at_page, slot_at, accessed, stored, access_need, with_page, with_pages, all_accessed, all_stored, value_of, missing, same_pages, OfferKey, State, is_mapped, overdrawn, map_refusal, unmap_refusal, protect_refusal, exit_refusal, after_map, after_unmap, after_protect, after_withdraw, after_load, after_store, withdraw_refusal, loaded, BadPage, Mapped, Quota, NotMapped, Rights, same_apart, left, get-without, Book, Member, given, number_of_children, quota_of, or-false, children, IsApart, AreAlike, Held, held_in, lone}
 use Rattle.process_table.proofs.Overdrawn.{extra_page, extra_touched}
 use Rattle.process_table.proofs.BookLaws.{retained}
 use Rattle.process_table.proofs.CellLaws.{get-inserted, get-inserted_other}
@@ -92,13 +91,10 @@ record IsChange (s : State) (p page : ℕ) (x : Option Cell) (t : State) : Type 
   offers : (key : OfferKey) (right : Bool) → map.get t.offers key ≡ Some right → map.get s.offers key ≡ Some right
   group : (c : Cell) → x ≡ Some c → c.holders ≡ lone (at_page p page)
 
-changed_apart : (s t : State) (p page : ℕ) (x : Option Cell) → IsApart s p → IsChange s p page x t → IsApart t p
-changed_apart s t p page x a c = grind (arith, cases_eq)
-
 alike_changed : (s t s' t' : State) (p q page : ℕ) (x y : Option Cell) → AreAlike s p t q → IsChange s p page x s' → IsChange t q page y t' → option_map held_in x ≡ option_map held_in y → AreAlike s' p t' q
 alike_changed s t s' t' p q page x y a c d same = record {
-  one = changed_apart s s' p page x a.one c;
-  other = changed_apart t t' q page y a.other d;
+  one = grind (arith, cases_eq);
+  other = grind (arith, cases_eq);
   pages = grind (arith, cases_eq);
   quota = ap (λ (b : Book). quota_of b p) c.book ∙ a.quota ∙ ap (λ (b : Book). quota_of b q) (sym d.book);
 }
@@ -221,9 +217,6 @@ pub unmap_alike : (s t : State) (p q page : ℕ) → AreAlike s p t q → AreAli
 unmap_alike s t p q page a =
     alike_changed s t (after_unmap s p page) (after_unmap t q page) p q page None None a (unmap_changes s p page a.one) (unmap_changes t q page a.other) refl
 
-withdraw_changes : (s : State) (p page target : ℕ) → IsApart s p → IsChange s p page (map.get s.spaces (at_page p page)) (after_withdraw s p page target)
-withdraw_changes s p page target a = grind (arith, retained)
-
 pub withdraw_alike : (s t : State) (p q page target : ℕ) → AreAlike s p t q → AreAlike (after_withdraw s p page target) p (after_withdraw t q page target) q
 withdraw_alike s t p q page target a =
-    alike_changed s t (after_withdraw s p page target) (after_withdraw t q page target) p q page _ _ a (withdraw_changes s p page target a.one) (withdraw_changes t q page target a.other) (a.pages page)
+    alike_changed s t (after_withdraw s p page target) (after_withdraw t q page target) p q page _ _ a (grind (arith, retained)) (grind (arith, retained)) (a.pages page)

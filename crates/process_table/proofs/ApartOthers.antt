@@ -1,6 +1,5 @@
 -- What the calls of others leave of a process apart, and how a child begins.
-use Rattle.process_table.proofs.Prelude
-use Prelude.{◌≡◌, ◌≢◌, ℕ, ◌+◌, ◌&&◌, ◌||◌, not, Bool, true, false, cond, List, [], ◌∷◌, map, refl, sym, ap, ◌∙◌, Option, Some, None, is_some, unwrap_or, arith, inl, inr, if◌then◌else◌, option_map, nat_cmp, cases_eq, ne_eqb, same_Some, offset_number, byte_count, touched, Size, Map, same, nat_order, Set, some_value, no_value, same_cases, get-remove_other, Slot, slot_order, Cell, Spaces, pages_of, fresh, cell_or_fresh, with_bytes, set_bytes, set_holders, write_at, bytes_of, at_page, slot_at, accessed, stored, with_page, with_pages, all_accessed, all_stored, copy_of, copied, contains-pages_of, copied-own, copied-other, Member, is_child, number_of_children, child_no, get-insert_other, OfferKey, Offers, offer_order, offer_key, State, is_live, child_of, accept_refusal, spawn_refusal, fork_refusal, offered, after_map, after_unmap, after_protect, after_offer, after_withdraw, after_accept, after_spawn, after_fork, after_exit, after_load, after_store, IsWellFormed, list_any, tied_then, is_some-find, same_itself, get-insert, get-map_values, get-collect, IsApart, AreAlike, held_in, lone, FirstPage, first_cell, first_page, pages_held, alone_with, number-insert, number-remove, number-none}
+use Rattle.process_table.proofs.Prelude.{◌≡◌, ◌≢◌, ℕ, ◌+◌, ◌&&◌, ◌||◌, not, Bool, true, false, cond, List, [], ◌∷◌, map, refl, sym, ap, ◌∙◌, Option, Some, None, is_some, unwrap_or, arith, inl, inr, if◌then◌else◌, option_map, nat_cmp, cases_eq, ne_eqb, same_Some, offset_number, byte_count, touched, Size, Map, same, nat_order, Set, some_value, no_value, same_cases, get-remove_other, Slot, slot_order, Cell, Spaces, pages_of, fresh, cell_or_fresh, with_bytes, set_bytes, set_holders, write_at, bytes_of, at_page, slot_at, accessed, stored, with_page, with_pages, all_accessed, all_stored, copied, contains-pages_of, copied-own, copied-other, Member, is_child, number_of_children, child_no, get-insert_other, OfferKey, Offers, offer_order, offer_key, State, is_live, child_of, accept_refusal, spawn_refusal, fork_refusal, offered, after_map, after_unmap, after_protect, after_offer, after_withdraw, after_accept, after_spawn, after_fork, after_exit, after_load, after_store, IsWellFormed, list_any, tied_then, is_some-find, same_itself, get-insert, get-map_values, get-collect, IsApart, AreAlike, held_in, lone, FirstPage, first_cell, first_page, pages_held, alone_with, number-insert, number-remove, number-none, copy_of}
 use Rattle.process_table.proofs.Apart.{in_lone, pages_differ, pids_differ, set_bytes_outside, without_others}
 use Rattle.process_table.proofs.BookLaws.{retained, next_free, parents_in, spawn_allowed}
 use Rattle.process_table.proofs.CellLaws.{get-inserted, get-inserted_other}
@@ -48,7 +47,7 @@ holders_stored S q page at n new = elim (cases_eq n page) [
       ap (λ (x : Option Cell). (unwrap_or x (fresh (at_page q n) true)).holders)
       (get-inserted_other spaces (at_page q page) written (at_page q n) (pages_differ q n page other)
       ∙ get-map_values slot_order (λ r c. if set.contains group r then with_bytes c bytes else c) S (at_page q n))
-      ∙ by (map.get S (at_page q n))
+      ∙ (grind (arith, group))
 ]
   where
     group : Set slot_order
@@ -63,23 +62,15 @@ holders_stored S q page at n new = elim (cases_eq n page) [
     written : Cell
     written = record (cell_or_fresh S (at_page q page)) { bytes = bytes; accessed = true; dirty = true }
 
-    either : (b : Bool) (c : Cell) → (if b then with_bytes c bytes else c).holders ≡ c.holders
-    either b c = grind arith
-
-    by : (x : Option Cell) → (unwrap_or (option_map (λ (c : Cell). if set.contains group (at_page q n) then with_bytes c bytes else c) x) (fresh (at_page q n) true)).holders ≡ (unwrap_or x (fresh (at_page q n) true)).holders
-    by x = grind (arith, either, group)
-
 module _ (p q : ℕ) (d : q ≢ p) where
   paged_outside : (S : Spaces) (pages : List ℕ) → IsOutside S q p → IsOutside (with_pages S q pages) q p
   paged_outside S [] out = out
   paged_outside S (page ∷ pages) out = paged_outside (with_page S q page) pages (λ m n. ap (λ (c : Cell). set.contains c.holders (at_page p n)) (cell_paged S q page m) ∙ out m n)
 
-  page_same : (S : Spaces) (page n : ℕ) → map.get (with_page S q page) (at_page p n) ≡ map.get S (at_page p n)
-  page_same S page n = grind (arith, get-inserted_other, pids_differ)
-
   paged_same : (S : Spaces) (pages : List ℕ) (n : ℕ) → map.get (with_pages S q pages) (at_page p n) ≡ map.get S (at_page p n)
   paged_same S [] n = refl
-  paged_same S (page ∷ pages) n = paged_same (with_page S q page) pages n ∙ page_same S page n
+  paged_same S (page ∷ pages) n =
+      paged_same (with_page S q page) pages n ∙ (grind (arith, get-inserted_other, pids_differ))
 
   accessed_same : (S : Spaces) (pages : List ℕ) (n : ℕ) → map.get (all_accessed S q pages) (at_page p n) ≡ map.get S (at_page p n)
   accessed_same S [] n = refl
@@ -196,13 +187,11 @@ pub child_leaves : (s : State) (p q k quota : ℕ) (T : Spaces) → IsApart s p 
     → AreAlike s p (record { spaces = T; book = map.insert s.book k (record { parent = q; quota = quota }); offers = s.offers }) p
 child_leaves s p q k quota T a d free pages =
     let child : Member = record { parent = q; quota = quota } in
-    let before = a.childless in
-    let more = number-insert s.book k child (no_value (map.get s.book k) free) p in
     let other : ◌≡◌ {A = ℕ} (cond (is_child p (k, child)) 1 0) 0 = ap (λ b. cond b 1 0) (child_no q p k quota d) in
     left_alike s (record { spaces = T; book = map.insert s.book k child; offers = s.offers }) p a (record {
       pages = pages;
       member = get-insert_other s.book k child p (live_differ s p k a.live free);
-      childless = omega (arith, before, more, other);
+      childless = omega (arith, a.childless, number-insert s.book k child (no_value (map.get s.book k) free) p, other);
       offers = a.offers_none;
     })
 
@@ -240,22 +229,16 @@ among_pages p n (page ∷ pages) =
     sym (tied_then (nat_cmp p p) (nat_cmp n page)) ∙ ap (λ b. b && same nat_order n page) (same_itself nat_order p) in
     λ i. first i || among_pages p n pages i
 
-kept_where_some : {A B : Type 0} (f : A → B) (x : Option A) → cond (is_some x) (option_map f x) None ≡ option_map f x
-kept_where_some f x = grind arith
-
 -- what process 1 has at each page, where it is alone with these
 pub page_alone : (root quota : ℕ) (pages : Map nat_order FirstPage) (n : ℕ) → map.get (alone_with root quota pages).spaces (at_page 1 n) ≡ option_map (first_cell (at_page 1 n)) (map.get pages n)
 page_alone root quota pages n =
     get-collect slot_order (λ slot. option_map (first_cell slot) (map.get pages slot.page)) (map (at_page 1) (map.keys pages)) (at_page 1 n)
     ∙ ap (λ b. cond b (option_map (first_cell (at_page 1 n)) (map.get pages n)) None) (among_pages 1 n (map.keys pages) ∙ sym (is_some-find nat_cmp n pages.entries))
-    ∙ kept_where_some (first_cell (at_page 1 n)) (map.get pages n)
+    ∙ (grind arith)
 
 -- the group of a page that a process begins with
 first_lone : (slot : Slot) (x : Option FirstPage) (c : Cell) → option_map (first_cell slot) x ≡ Some c → c.holders ≡ lone slot
 first_lone slot x c h = grind (arith, same_Some)
-
-first_held : (p q n : ℕ) (x : Option FirstPage) → option_map held_in (option_map (first_cell (at_page p n)) x) ≡ option_map held_in (option_map (first_cell (at_page q n)) x)
-first_held p q n x = grind arith
 
 alone_apart : (root quota : ℕ) (pages : Map nat_order FirstPage) → IsApart (alone_with root quota pages) 1
 alone_apart root quota pages = record {
@@ -273,7 +256,6 @@ pub child_alike : (s : State) (p k root quota : ℕ) (T : Spaces) (pages : Map n
 child_alike s p k root quota T pages w live free copies =
     let none = no_value (map.get s.book k) free in
     let child : Member = record { parent = p; quota = quota } in
-    let before = number-none s.book k none (parents_in s w) in
     let more = number-insert s.book k child none k in
     let other : ◌≡◌ {A = ℕ} (cond (is_child k (k, child)) 1 0) 0 = ap (λ b. cond b 1 0) (child_no p k k quota (live_differ s p k live free)) in
     let here : map.get (map.insert s.book k child) k ≡ Some child = get-insert s.book k child k ∙ ap (λ b. cond b (Some child) (map.get s.book k)) (same_itself nat_order k) in
@@ -281,12 +263,12 @@ child_alike s p k root quota T pages w live free copies =
       one = record {
         live = ap is_some here;
         not_root = λ e. live_differ s 0 k w.root free (sym e);
-        childless = omega (arith, before, more, other);
+        childless = omega (arith, number-none s.book k none (parents_in s w), more, other);
         offers_none = no_offer s k w free;
         shares_none = λ n c h. first_lone (at_page k n) (map.get pages n) c (sym (copies n) ∙ h);
       };
       other = alone_apart root quota pages;
-      pages = λ n. ap (option_map held_in) (copies n) ∙ first_held k 1 n (map.get pages n) ∙ sym (ap (option_map held_in) (page_alone root quota pages n));
+      pages = λ n. ap (option_map held_in) (copies n) ∙ (grind arith) ∙ sym (ap (option_map held_in) (page_alone root quota pages n));
       quota = ap (λ (x : Option Member). unwrap_or (option_map (λ (m : Member). m.quota) x) 0) here;
     }
 
@@ -310,7 +292,7 @@ copied_held s p k n =
     ∙ sym (ap (option_map (first_cell (at_page k n)))
     (get-collect nat_order (λ page. option_map first_page (map.get s.spaces (at_page p page))) (set.items (pages_of s.spaces p)) n
     ∙ ap (λ b. cond b (option_map first_page (map.get s.spaces (at_page p n))) None) (among_own s.spaces p n)
-    ∙ kept_where_some first_page (map.get s.spaces (at_page p n))))
+    ∙ (grind arith)))
 
 pub fork_alike : (s : State) (p root quota : ℕ) → IsWellFormed s → is_live s p ≡ true → fork_refusal s p quota ≡ None → AreAlike (after_fork s p quota) (child_of s) (alone_with root quota (pages_held s p)) 1
 fork_alike s p root quota w live allowed =

@@ -1,6 +1,5 @@
 -- States stay well formed at the opening, by an unmap, a spawn and an exit, and cost no more than the root's quota.
-use Rattle.process_table.proofs.Prelude
-use Prelude.{◌≡◌, ◌≢◌, ℕ, zero, suc, ◌+◌, ◌-◌, ◌<◌, ◌≤◌, ◌&&◌, ◌||◌, ◌==◌, not, Bool, true, false, cond, refl, sym, ap, subst, ◌∙◌, Option, Some, None, is_some, is_none, unwrap_or, arith, inl, inr, if◌then◌else◌, nat_lt, option_map, range_with_len, cases_eq, not-true, eqb-false, nat_order, same_itself, get-insert, get-retain_keys, Slot, Cell, Spaces, cost, without, is_slot, is_of, at_page, Book, Member, given, number_of_children, quota_of, next_number, OfferKey, Offers, pending, State, open_with, is_live, room, child_of, spawn_refusal, exit_refusal, after_unmap, after_spawn, after_exit, IsOfferIn, IsWellFormed, total, eq-eqb, same_Some, some_value, no_value, get-remove, same_cases, get-remove_other, child_yes, child_no, contains_key-insert, get-insert_other, BadQuota, TableFull, Quota, RootExit, HasChildren, find, Parents, costs_within, given-insert, given-none, given-remove, number-remove}
+use Rattle.process_table.proofs.Prelude.{◌≡◌, ◌≢◌, ℕ, zero, suc, ◌+◌, ◌-◌, ◌<◌, ◌≤◌, ◌&&◌, ◌||◌, ◌==◌, not, Bool, true, false, cond, refl, sym, ap, subst, ◌∙◌, Option, Some, None, is_some, is_none, unwrap_or, arith, inl, inr, if◌then◌else◌, nat_lt, option_map, range_with_len, cases_eq, not-true, eqb-false, nat_order, same_itself, get-insert, get-retain_keys, Slot, Cell, Spaces, cost, without, is_slot, is_of, at_page, Book, Member, given, number_of_children, quota_of, next_number, OfferKey, Offers, pending, State, open_with, is_live, room, child_of, spawn_refusal, exit_refusal, after_unmap, after_spawn, after_exit, IsOfferIn, IsWellFormed, total, eq-eqb, same_Some, some_value, no_value, get-remove, same_cases, get-remove_other, child_yes, child_no, contains_key-insert, get-insert_other, BadQuota, TableFull, Quota, RootExit, HasChildren, find, Parents, costs_within, given-insert, given-none, given-remove, number-remove}
 use Rattle.process_table.proofs.CellLaws.{without-stays, without-was, cells-without}
 use Rattle.process_table.proofs.Sizes.{cost-fewer, cost-no_pages, len-retain}
 use Rattle.process_table.proofs.SpaceLaws.{not_less}

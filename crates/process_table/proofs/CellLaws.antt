@@ -1,6 +1,5 @@
 -- Cells stay well formed where one is mapped, where a group gets other bytes, and where some slots go.
-use Rattle.process_table.proofs.Prelude
-use Prelude.{arith, ◌≡◌, ◌≢◌, ℕ, ◌<◌, ◌&&◌, ◌||◌, not, Bool, true, false, cond, List, length, refl, sym, ap, subst, ◌∙◌, Option, Some, None, inl, inr, IsTrue, option_map, All, IsUserPage, Set, same_itself, same-true, get-insert, get-retain_keys, get-map_values, contains-insert, contains-retain, same_cases, Slot, slot_order, Cell, Spaces, without, with_holders, IsCellAt, not-true, same_Some, or-false}
+use Rattle.process_table.proofs.Prelude.{arith, ◌≡◌, ◌≢◌, ℕ, ◌<◌, ◌&&◌, ◌||◌, not, Bool, true, false, cond, List, length, refl, sym, ap, subst, ◌∙◌, Option, Some, None, inl, inr, IsTrue, option_map, All, IsUserPage, Set, same_itself, same-true, get-insert, get-retain_keys, get-map_values, contains-insert, contains-retain, same_cases, Slot, slot_order, Cell, Spaces, without, with_holders, IsCellAt, not-true, same_Some, or-false}
 use Rattle.page_words.specs.FiniteMap as map
 use Rattle.page_words.specs.FiniteSet as set
 
@@ -32,11 +31,8 @@ lone-cell T slot c now user long small write dirty alone = record {
   write_may = write;
   dirty_accessed = dirty;
   own = ap (λ (h : Set slot_order). set.contains h slot) alone ∙ contains-insert {o = slot_order} set.empty slot slot ∙ ap (λ b. b || false) (same_itself slot_order slot);
-  alike = λ other h. (c, only other h, refl, refl);
+  alike = λ other h. (c, (grind (arith, same-true, or-false, contains-insert)), refl, refl);
 }
-  where
-    only : (other : Slot) → IsTrue (set.contains c.holders other) → map.get T other ≡ Some c
-    only other h = grind (arith, same-true, or-false, contains-insert)
 
 -- the other cells do not see it
 pub cells-lone : (S T : Spaces) (slot : Slot) (c : Cell) → map.get S slot ≡ None → map.get T slot ≡ Some c → ((q : Slot) → q ≢ slot → map.get T q ≡ map.get S q) → AreCells S → IsCellAt T slot c → AreCells T
@@ -76,26 +72,17 @@ module _ (S T : Spaces) (slot : Slot) (c : Cell) (bytes : List ℕ) (at : map.ge
     (forth : (q : Slot) (d : Cell) → map.get S q ≡ Some d → (e : Cell) × (map.get T q ≡ Some e) × IsRenewed c.holders bytes q d e)
     (back : (q : Slot) (e : Cell) → map.get T q ≡ Some e → (d : Cell) × (map.get S q ≡ Some d))
     (cells : AreCells S) (long : length bytes ≡ 4096) (small : All (λ b. b < 256) bytes) where
-  bytes_of_one : (q : Slot) (d e : Cell) (b : Bool) → set.contains c.holders q ≡ b → IsRenewed c.holders bytes q d e → e.bytes ≡ cond b bytes d.bytes
-  bytes_of_one q d e b is r = grind arith
-
   -- two slots of one group are both in the group that changes, or neither is
   together : (q other : Slot) (d o : Cell) → map.get S q ≡ Some d → map.get S other ≡ Some o → o.holders ≡ d.holders → set.contains d.holders other ≡ true → set.contains c.holders other ≡ set.contains c.holders q
   together q other d o at_q at_other shared inside = grind arith
-
-  renewed_long : (q : Slot) (d e : Cell) (b : Bool) → set.contains c.holders q ≡ b → length d.bytes ≡ 4096 → IsRenewed c.holders bytes q d e → length e.bytes ≡ 4096
-  renewed_long q d e b is l r = grind arith
-
-  renewed_small : (q : Slot) (d e : Cell) (b : Bool) → set.contains c.holders q ≡ b → All (λ b. b < 256) d.bytes → IsRenewed c.holders bytes q d e → All (λ b. b < 256) e.bytes
-  renewed_small q d e b is l r = grind arith
 
   one_renewed : (q : Slot) (d e : Cell) → map.get S q ≡ Some d → IsRenewed c.holders bytes q d e → IsCellAt T q e
   one_renewed q d e at_q r =
       let was = cells q d at_q in
       record {
         user = was.user;
-        long = renewed_long q d e (set.contains c.holders q) refl was.long r;
-        small = renewed_small q d e (set.contains c.holders q) refl was.small r;
+        long = grind arith;
+        small = grind arith;
         write_may = r.write was.write_may;
         dirty_accessed = r.dirty was.dirty_accessed;
         own = ap (λ (g : Set slot_order). set.contains g q) r.holders ∙ was.own;
@@ -111,9 +98,9 @@ module _ (S T : Spaces) (slot : Slot) (c : Cell) (bytes : List ℕ) (at : map.ge
             f.0,
             f.1,
             f.2.holders ∙ o.2 ∙ sym r.holders,
-            bytes_of_one other o.0 f.0 (set.contains c.holders other) refl f.2
+            (grind arith)
                 ∙ (λ i. cond (same_test i) bytes (o.3 i))
-                ∙ sym (bytes_of_one q d e (set.contains c.holders q) refl r),
+                ∙ sym (grind arith),
           )
 
   -- where a group gets other bytes, all cells stay well formed

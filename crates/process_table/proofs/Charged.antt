@@ -1,6 +1,5 @@
 -- What each call leaves of the charges, and that the frames it needs are there.
-use Rattle.process_table.proofs.Prelude
-use Prelude.{◌≡◌, ◌≢◌, ℕ, ◌+◌, ◌<◌, ◌≤◌, true, false, cond, not, ap, ◌∙◌, Option, Some, None, unwrap_or, is_some, length, arith, same, nat_order, same_or_not, same_itself, get-insert, get-retain_keys, cost, without, is_of, directory_of, live_cost, total_cost, sum_one, cost-without_other, Member, quota_of, State, container_of, IsProcesses, ne_eqb, Containers, IsLive, used_of, with_used, after_close, total_used}
+use Rattle.process_table.proofs.Prelude.{◌≡◌, ◌≢◌, ℕ, ◌+◌, ◌<◌, ◌≤◌, true, false, cond, not, ap, ◌∙◌, Some, None, unwrap_or, is_some, length, arith, same, nat_order, same_or_not, same_itself, get-insert, get-retain_keys, cost, without, is_of, directory_of, live_cost, total_cost, sum_one, cost-without_other, quota_of, State, container_of, IsProcesses, ne_eqb, Containers, IsLive, used_of, with_used, after_close, total_used}
 use Rattle.quota_tree.specs.declared.Container.{Container}
 use Rattle.process_table.proofs.Ranges.{found, sum-range}
 use Rattle.page_words.specs.FiniteMap as map
@@ -40,10 +39,9 @@ pub room-for : (v : frames.View) (c c' : Containers) (p k : ℕ) → IsProcesses
     → 1 + total_cost v.directories v.spaces + k ≤ length v.roles
 unfolding total_cost
 room-for v c c' p k kept low small own members used root within =
-    let sum = sum_one after before p k 0 64 (omega arith) (omega (arith, low)) own others in
     let range = sum-range c'.book (λ q _. used_of c' q) 64 (λ q x is. small q (ap is_some is)) in
     let is = kept.root in
-    omega (arith, sum, range, is, root, within)
+    omega (arith, sum_one after before p k 0 64 (omega arith) (omega (arith, low)) own others, range, is, root, within)
   where
     after : ℕ → ℕ
     after q = found (λ _. used_of c' q) (map.get c'.book q)
@@ -51,11 +49,8 @@ room-for v c c' p k kept low small own members used root within =
     before : ℕ → ℕ
     before = live_cost (directory_of v.directories) v.spaces
 
-    each : (q : ℕ) (m : Option Member) (d : Option ℕ) → map.get c.book q ≡ m → is_some d ≡ is_some m → found (λ _. used_of c q) m ≡ cond (is_some d) (cost v.spaces q) 0
-    each q m d is h = grind arith
-
     others : (q : ℕ) → q ≢ p → after q ≡ before q
-    others q n = grind (arith, found, each)
+    others q n = grind (arith, found)
 
 -- a live process was charged for k frames more
 pub room-taken : (v : frames.View) (c c' : Containers) (p k : ℕ) → IsProcesses v c → IsLive c p → c' ≡ with_used c p (used_of c p + k)
@@ -63,19 +58,10 @@ pub room-taken : (v : frames.View) (c c' : Containers) (p k : ℕ) → IsProcess
     → 1 + total_cost v.directories v.spaces + k ≤ length v.roles
 room-taken v c c' p k kept live is small within =
     room-for v c c' p k kept (small p (ap (λ (x : Containers). map.contains_key x.book p) is ∙ live)) small
-    own
+    (grind (arith, found, used-itself))
     (λ q n. ap (λ (x : Containers). map.get x.book q) is)
-    (λ q n. ap (λ x. used_of x q) is ∙ used-other c p (used_of c p + k) q (apart q n))
+    (λ q n. ap (λ x. used_of x q) is ∙ used-other c p (used_of c p + k) q (grind (arith, same_or_not)))
     (ap (λ (x : Containers). quota_of x.book 0) is) within
-  where
-    apart : (q : ℕ) → q ≢ p → same nat_order q p ≡ false
-    apart q n = grind (arith, same_or_not)
-
-    there : (u : ℕ) (m : Option Member) (d : Option ℕ) → is_some m ≡ true → is_some d ≡ is_some m → u ≡ cost v.spaces p + k → found (λ _. u) m ≡ cond (is_some d) (cost v.spaces p) 0 + k
-    there u m d l h e = grind arith
-
-    own : found (λ _. used_of c' p) (map.get c'.book p) ≡ live_cost (directory_of v.directories) v.spaces p + k
-    own = grind (arith, found, there, used-itself)
 
 -- ---- A process that is gone
 
@@ -88,13 +74,10 @@ removed-itself m p = get-retain_keys m (λ j. not (same nat_order p j)) p ∙ ap
 differ-back : (p q : ℕ) → same nat_order p q ≡ false → q ≢ p
 differ-back p q n e = let a : same nat_order p q ≡ true = ap (same nat_order p) e ∙ same_itself nat_order p in cc
 
-apart-root : (p : ℕ) → p ≢ 0 → same nat_order p 0 ≡ false
-apart-root p n = grind (arith, same_or_not)
-
 pub charged-exit : (v w : frames.View) (c : Containers) (p : ℕ) → IsProcesses v c → p ≢ 0 → w.spaces ≡ without v.spaces (is_of p) → length w.roles ≡ length v.roles
     → directory_of w.directories p ≡ None → ((q : ℕ) → q ≢ p → directory_of w.directories q ≡ directory_of v.directories q) → IsProcesses w (after_close c p)
 charged-exit v w c p kept child spaces long none others =
-    grind (arith, same_or_not, removed-itself, differ-back, removed-other, cost-without_other, ne_eqb, apart-root)
+    grind (arith, same_or_not, removed-itself, differ-back, removed-other, cost-without_other, ne_eqb)
 
 -- ---- Readings of a cell
 

@@ -1,6 +1,5 @@
 -- What the test of a fork answers, and what a copy of a process leaves of charges and of states.
-use Rattle.process_table.proofs.Prelude
-use Prelude.{◌≡◌, ◌≢◌, ℕ, ◌+◌, ◌≤◌, ◌==◌, Bool, true, false, cond, refl, sym, ap, subst, ◌∙◌, inl, inr, Option, Some, None, unwrap_or, is_some, is_none, Ok, arith, if◌then◌else◌, nat_lt, option_map, cases_eq, same_Some, nat_order, same_itself, get-insert, some_value, no_value, Slot, Cell, Spaces, cost, copy_of, copied, at_page, copied-own, copied-other, cost-copied, cost-copied_other, Member, given, quota_of, next_number, child_no, State, is_live, room, child_of, spawn_refusal, fork_refusal, after_spawn, after_fork, child_unless, for_copy, spawn_answer, fork_answer, IsCellAt, IsWellFormed, Cause, given-insert, given-none}
+use Rattle.process_table.proofs.Prelude.{◌≡◌, ◌≢◌, ℕ, ◌+◌, ◌≤◌, ◌==◌, Bool, true, false, cond, refl, sym, ap, subst, ◌∙◌, inl, inr, Option, Some, None, unwrap_or, is_some, is_none, Ok, arith, if◌then◌else◌, nat_lt, option_map, cases_eq, same_Some, nat_order, same_itself, get-insert, some_value, no_value, Slot, Cell, Spaces, cost, copy_of, copied, at_page, copied-own, copied-other, cost-copied, cost-copied_other, Member, given, quota_of, next_number, child_no, State, is_live, room, child_of, spawn_refusal, fork_refusal, after_spawn, after_fork, child_unless, for_copy, spawn_answer, fork_answer, IsCellAt, IsWellFormed, Cause, given-insert, given-none}
 use Rattle.process_table.proofs.BookLaws.{next_free, well_formed-spawn, root-spawn}
 use Rattle.process_table.proofs.CellLaws.{AreCells, lone-cell}
 use Rattle.process_table.proofs.SpaceLaws.{not_less, with-spaces}

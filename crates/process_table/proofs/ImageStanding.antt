@@ -1,6 +1,5 @@
 -- What memory and the book together represent: the image of a view is sound, and represents one state.
-use Rattle.process_table.proofs.Prelude
-use Prelude.{◌≡◌, ℕ, ◌+◌, ◌<◌, ◌≤◌, Bool, true, cond, List, [], ◌∷◌, length, refl, sym, ap, subst, ◌∙◌, Option, Some, is_some, sum_by, arith, unwrap_or, ◌*◌, filter, nat_lt, option_map, range_with_len, sum_by-cons, slice_get_within, slot_number, index_number, Slot, Cell, Spaces, pages_of, regions_of, cost, at_page, table_at, page_word, directory_of, contains-pages_of, Member, is_child, given, quota_of, State, is_live, View, Account, as_account, account_of, memory_of, IsCharge, quota_from, IsSoundImage, StandsFor, is_some-map, some_value, same_map, Table, region_member, region_there, stands_for_one, StandsForOne}
+use Rattle.process_table.proofs.Prelude.{◌≡◌, ℕ, ◌+◌, ◌<◌, ◌≤◌, Bool, true, cond, List, [], ◌∷◌, length, refl, sym, ap, subst, ◌∙◌, Some, is_some, sum_by, arith, unwrap_or, ◌*◌, filter, nat_lt, option_map, range_with_len, sum_by-cons, slice_get_within, slot_number, index_number, Slot, Spaces, pages_of, regions_of, cost, at_page, table_at, page_word, directory_of, contains-pages_of, Member, is_child, given, quota_of, State, is_live, View, Account, as_account, account_of, memory_of, IsCharge, quota_from, IsSoundImage, StandsFor, is_some-map, some_value, same_map, Table, region_member, region_there, stands_for_one, StandsForOne}
 use Rattle.process_table.specs.Image.{image_of}
 use Rattle.process_table.proofs.Ranges.{found, sum-same, sum-range}
 use Rattle.page_words.specs.FiniteMap as map
@@ -14,11 +13,8 @@ module _ (M : memory.Image) (S : Spaces) (stands : memory.StandsFor M S) (p : �
   abbrev page_at : ℕ → Slot
   page_at page = at_page p page
 
-  both_or_none : (slot : Slot) (w : Option ℕ) (c : Option Cell) → memory.SlotStands M slot w c → is_some c ≡ is_some w
-  both_or_none slot w c h = grind arith
-
   page_is : (page : ℕ) → set.contains (pages_of S p) page ≡ is_some (page_word M (page_at page))
-  page_is page = contains-pages_of S p page ∙ both_or_none (page_at page) (page_word M (page_at page)) (map.get S (page_at page)) (stands.cells (page_at page))
+  page_is page = contains-pages_of S p page ∙ (grind arith)
 
   -- the table of a mapped page is named
   named-region : (s : ℕ) → set.contains (regions_of (pages_of S p)) s ≡ true → is_some (table_at M p s) ≡ true
@@ -35,29 +31,23 @@ module _ (M : memory.Image) (S : Spaces) (stands : memory.StandsFor M S) (p : �
       let small : nat_lt t (length M.roles) ≡ true = grind (arith, nat_tests) in
       grind (arith, region_there, page_is)
 
-  region-some : (s : ℕ) (x : Option ℕ) → table_at M p s ≡ x → is_some x ≡ true → set.contains (regions_of (pages_of S p)) s ≡ true
-  region-some s x is h = grind (arith, region-named)
-
   -- a process's cost counts its directory, tables and pages
   pub charge-stands : IsCharge M p (cost S p)
   charge-stands = record {
     tables = set.len (regions_of (pages_of S p));
     pages = set.len (pages_of S p);
-    named = record { members = regions_of (pages_of S p); are = λ s. (named-region s, λ h. region-some s (table_at M p s) refl h); count = refl };
+    named = record { members = regions_of (pages_of S p); are = λ s. (named-region s, λ h. (grind (arith, region-named))); count = refl };
     mapped = record { members = pages_of S p; are = λ page. (λ h. sym (page_is page) ∙ h, λ h. page_is page ∙ h); count = refl };
     sum = refl;
   }
 
 -- ---- What a process gives
 
-chosen : {A : Type 0} (f : A → ℕ) (b : Bool) (e : A) (rest : List A) → sum_by f (cond b (e ∷ rest) rest) ≡ cond b (f e) 0 + sum_by f rest
-chosen f b e rest = grind (arith, sum_by-cons)
-
 -- a sum over what passes a test is one with 0 for the others
 pub sum-filter : {A : Type 0} (f : A → ℕ) (t : A → Bool) (es : List A) → sum_by f (filter t es) ≡ sum_by (λ e. cond (t e) (f e) 0) es
 sum-filter f t [] = refl
 sum-filter f t (e ∷ es) =
-    chosen f (t e) e (filter t es)
+    (grind (arith, sum_by-cons))
     ∙ ap (λ n. cond (t e) (f e) 0 + n) (sum-filter f t es)
     ∙ sym (sum_by-cons (λ e. cond (t e) (f e) 0) e es)
 
@@ -65,15 +55,9 @@ pub given-range : (s : State) (p : ℕ) → ((k : ℕ) (m : Member) → map.get 
 given-range s p small =
     sum-filter (λ (e : ℕ × Member). e.1.quota) (is_child p) s.book.entries
     ∙ sum-range s.book (λ k m. cond (is_child p (k, m)) m.quota 0) 64 small
-    ∙ sum-same (λ k. found (λ m. cond (is_child p (k, m)) m.quota 0) (map.get s.book k)) (λ q. quota_from p q (account_of s q)) (range_with_len 0 64) (λ q. each q (map.get s.book q))
-  where
-    each : (q : ℕ) (x : Option Member) → found (λ m. cond (is_child p (q, m)) m.quota 0) x ≡ quota_from p q (option_map (λ m. as_account s q m) x)
-    each q x = grind arith
+    ∙ sum-same (λ k. found (λ m. cond (is_child p (k, m)) m.quota 0) (map.get s.book k)) (λ q. quota_from p q (account_of s q)) (range_with_len 0 64) (λ q. (grind arith))
 
 -- ---- The image of a view
-
-from_some : {A B : Type 0} (f : A → B) (x : Option A) (c : B) → option_map f x ≡ Some c → (a : A) × (x ≡ Some a) × (f a ≡ c)
-from_some f x c h = grind arith
 
 module _ (v : View) (stands : memory.StandsFor (memory_of v) v.state.spaces) (live : (p : ℕ) → is_some (directory_of v.directories p) ≡ is_live v.state p)
     (root_quota : 1 + quota_of v.state.book 0 ≡ length v.roles) (root : is_live v.state 0 ≡ true)
@@ -86,7 +70,7 @@ module _ (v : View) (stands : memory.StandsFor (memory_of v) v.state.spaces) (li
   root_there = some_value (map.get v.state.book 0) root
 
   member_of : (p : ℕ) (c : Account) → account_of v.state p ≡ Some c → (m : Member) × (map.get v.state.book p ≡ Some m) × (as_account v.state p m ≡ c)
-  member_of p c h = from_some (λ m. as_account v.state p m) (map.get v.state.book p) c h
+  member_of p c h = grind arith
 
   parent_there : (p : ℕ) (c : Account) → account_of v.state p ≡ Some c → is_some (account_of v.state c.parent) ≡ true
   parent_there p c h = grind (arith, member_of, is_some-map)
@@ -114,12 +98,9 @@ module _ (v : View) (stands : memory.StandsFor (memory_of v) v.state.spaces) (li
 
 -- ---- One state at most
 
-same_member : (s t : State) (p : ℕ) (x y : Option Member) → option_map (λ m. as_account s p m) x ≡ option_map (λ m. as_account t p m) y → x ≡ y
-same_member s t p x y h = grind arith
-
 -- an image stands for at most one pair of spaces and book
 pub stands_for_one_state : StandsForOne
 stands_for_one_state image s t f g = (
   stands_for_one image.memory s.spaces t.spaces f.memory g.memory,
-  same_map s.book t.book (λ p. same_member s t p (map.get s.book p) (map.get t.book p) (sym (f.accounts p) ∙ g.accounts p)),
+  same_map s.book t.book (λ p. (grind arith)),
 )

@@ -1,6 +1,5 @@
 -- Each call whose test passes keeps states well formed.
-use Rattle.process_table.proofs.Prelude
-use Prelude.{◌≡◌, ℕ, Bool, true, false, refl, sym, ap, subst, ◌∙◌, length, Option, Some, None, arith, if◌then◌else◌, IsOk, IfSome, byte_count, page_number, offset_number, second_page, touched, EachTouched, Size, Spaces, cost, slot_at, stored, with_pages, all_accessed, all_stored, bytes_of, IsThere, bytes_there, key-all_accessed, key-all_stored, with_touched-same, cost-same, Containers, Offers, Read, Write, State, is_live, child_of, container_of, map_refusal, accept_refusal, spawn_refusal, exit_refusal, after_map, after_accept, after_spawn, after_exit, after_access, child_unless, map_answer, accept_answer, spawn_answer, exit_answer, IsProcesses, IsWhole, state_of, IsWellFormed, Cause, NoProcess}
+use Rattle.process_table.proofs.Prelude.{◌≡◌, ℕ, Bool, true, false, refl, sym, ap, subst, ◌∙◌, length, Option, Some, None, arith, if◌then◌else◌, IsOk, IfSome, byte_count, page_number, offset_number, second_page, touched, EachTouched, Size, Spaces, cost, slot_at, stored, with_pages, all_accessed, all_stored, bytes_of, IsThere, bytes_there, key-all_accessed, key-all_stored, with_touched-same, cost-same, Containers, Offers, Read, Write, State, is_live, child_of, container_of, map_refusal, accept_refusal, spawn_refusal, exit_refusal, after_map, after_accept, after_spawn, after_exit, after_access, child_unless, map_answer, accept_answer, spawn_answer, exit_answer, IsProcesses, IsWhole, state_of, IsWellFormed, Cause, NoProcess}
 use Rattle.address_space.proofs.steps.Bytes.{stored_in_page}
 use Rattle.table_walk.specs.declared.Access.{Access}
 use Rattle.process_table.proofs.BookLaws.{well_formed-spawn, well_formed-exit}
@@ -61,12 +60,8 @@ whole-access v w c o p address size access value is there directories roles stat
   well_formed = subst IsWellFormed (sym state) (keeps-access (state_of v c o) p address size access value is.well_formed there);
 }
 
--- what holds of the one page of an access that stays in it
-pub alone : (address : ℕ) (size : Size) (P : ℕ → Type 0) → second_page address size ≡ None → P (page_number address) → EachTouched address size P
-alone address size P none h = (h, subst (λ x. IfSome x P) (sym none) tt)
-
 pub keeps-store_in_page : (s : State) (p address : ℕ) (size : Size) (value : ℕ) → IsWellFormed s → second_page address size ≡ None → IsThere s.spaces p (page_number address)
     → IsWellFormed (record s { spaces = stored s.spaces (slot_at p address) (offset_number address) (bytes_of (byte_count size) value) })
 keeps-store_in_page s p address size value w none there =
     subst (λ (T : Spaces). IsWellFormed (record s { spaces = T })) (stored_in_page s.spaces p address size value none)
-    (well_formed-bytes s p address (byte_count size) value w (bytes_there s.spaces p address size (alone address size (IsThere s.spaces p) none there)))
+    (well_formed-bytes s p address (byte_count size) value w (bytes_there s.spaces p address size ((there, subst (λ x. IfSome x (IsThere s.spaces p)) (sym none) tt))))

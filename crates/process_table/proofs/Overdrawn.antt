@@ -1,6 +1,5 @@
 -- What pages cost a process more, by what it needs for them.
-use Rattle.process_table.proofs.Prelude
-use Prelude.{◌≡◌, ℕ, ◌+◌, ◌-◌, ◌∙◌, false, List, [], ◌∷◌, ap, arith, if◌then◌else◌, touched, Size, cost, need, page_need, access_need, with_pages, at_page, State, is_mapped, cost-with_page, cost-with_touched, extra_cost}
+use Rattle.process_table.proofs.Prelude.{◌≡◌, ℕ, ◌+◌, ◌-◌, ◌∙◌, false, List, [], ◌∷◌, ap, arith, if◌then◌else◌, touched, Size, cost, need, page_need, access_need, with_pages, at_page, State, is_mapped, cost-with_page, cost-with_touched, extra_cost}
 
 rest_of : (a b n : ℕ) → a ≡ b + n → a - b ≡ n
 rest_of a b n is = omega (arith, is)

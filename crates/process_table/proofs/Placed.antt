@@ -1,6 +1,5 @@
 -- What the place of a page says, if there is one.
-use Rattle.process_table.proofs.Prelude
-use Prelude.{◌≡◌, ℕ, true, false, not, ap, ◌&&◌, ◌≤◌, Option, Some, None, arith, is_some, and_parts, not-true, if◌then◌else◌, IfSome, option_map, option_and_then, IsUserPage, is_user_page, Image, is_lazy_at, takes_stores, Spaces, Slot, at_page, cell_or_fresh, State, is_live, is_mapped, View, IsWellFormed, place_in, need_of, place_at, entry_flags, cell_flags}
+use Rattle.process_table.proofs.Prelude.{◌≡◌, ℕ, true, false, not, ap, ◌&&◌, ◌≤◌, Option, Some, None, arith, is_some, and_parts, not-true, if◌then◌else◌, IfSome, option_map, option_and_then, IsUserPage, is_user_page, Image, is_lazy_at, takes_stores, Spaces, Slot, at_page, cell_or_fresh, State, is_live, is_mapped, View, IsWellFormed, place_in, need_of, place_at, entry_flags, cell_flags}
 use Rattle.address_space.specs.Finds.{entry_found}
 use Rattle.address_space.specs.declared.place.Place.{Place}
 use Rattle.address_space.specs.declared.place.Found.{Found}

@@ -1,6 +1,5 @@
 -- Sums over a map's entries as sums over the numbers below a bound.
-use Rattle.process_table.proofs.Prelude
-use Prelude.{◌≡◌, ◌≢◌, ℕ, ◌+◌, ◌<◌, ◌&&◌, Bool, true, cond, List, [], ◌∷◌, refl, sym, ap, subst, ◌∙◌, Option, Some, None, is_some, sum_by, arith, inl, inr, T, nat_cmp, range_with_len, cases_eq, sum_by-cons, Map, nat_order, cost, directory_of, live_cost, total_cost, sum_one, Member, State, is_live, total, eqb-true, eq-eqb, unsigned_tied, below_all, is_sorted, lt_not_eq}
+use Rattle.process_table.proofs.Prelude.{◌≡◌, ℕ, ◌<◌, ◌&&◌, Bool, true, cond, List, [], ◌∷◌, refl, sym, ap, subst, ◌∙◌, Option, Some, None, is_some, sum_by, arith, inl, inr, T, nat_cmp, range_with_len, cases_eq, sum_by-cons, Map, nat_order, cost, directory_of, live_cost, total_cost, sum_one, State, is_live, total, eqb-true, eq-eqb, unsigned_tied, below_all, is_sorted, lt_not_eq}
 use Rattle.std.specs.FinMap.Entries.{find}
 use Rattle.page_words.specs.FiniteMap as map
 
@@ -30,43 +29,30 @@ module _ {X : Type 0} where
   find-head : (e : ℕ × X) (es : List (ℕ × X)) → find nat_cmp e.0 (e ∷ es) ≡ Some e.1
   find-head e es = ap (λ b. cond b (Some e.1) (find nat_cmp e.0 es)) (unsigned_tied e.0 e.0 ∙ eq-eqb e.0 e.0 refl)
 
-  find-other : (k : ℕ) (e : ℕ × X) (es : List (ℕ × X)) → k ≢ e.0 → find nat_cmp k (e ∷ es) ≡ find nat_cmp k es
-  find-other k e es n = grind (arith, eqb-true)
-
   sum-entries : (f : ℕ → X → ℕ) (n : ℕ) (es : List (ℕ × X)) → T (is_sorted nat_cmp es) → ((k : ℕ) (x : X) → find nat_cmp k es ≡ Some x → k < n)
       → sum_by (λ e. f e.0 e.1) es ≡ sum_by (λ k. found (f k) (find nat_cmp k es)) (range_with_len 0 n)
   sum-entries f n [] h keys = sum-zero (range_with_len 0 n)
   sum-entries f n (e ∷ es) h keys =
       let none = find-below e.0 es (both _ _ h).0 in
       let small : e.0 < n = keys e.0 e.1 (find-head e es) in
-      let a = sum_by-cons (λ (e : ℕ × X). f e.0 e.1) e es in
-      let b = sum-entries f n es sorted later in
-      let c = sum_one (λ k. found (f k) (find nat_cmp k (e ∷ es))) (λ k. found (f k) (find nat_cmp k es)) e.0 (f e.0 e.1) 0 n (omega arith) (omega (arith, small)) own (λ q differ. ap (found (f q)) (find-other q e es differ)) in
-      omega (arith, a, b, c)
+      let b = sum-entries f n es ((both (below_all nat_cmp e.0 es) (is_sorted nat_cmp es) h).1) later in
+      let c = sum_one (λ k. found (f k) (find nat_cmp k (e ∷ es))) (λ k. found (f k) (find nat_cmp k es)) e.0 (f e.0 e.1) 0 n (omega arith) (omega (arith, small)) (grind (arith, find-head, find-below, both)) (λ q differ. ap (found (f q)) (grind (arith, eqb-true))) in
+      omega (arith, sum_by-cons (λ (e : ℕ × X). f e.0 e.1) e es, b, c)
     where
-      sorted : T (is_sorted nat_cmp es)
-      sorted = (both (below_all nat_cmp e.0 es) (is_sorted nat_cmp es) h).1
-
       later : (k : ℕ) (x : X) → find nat_cmp k es ≡ Some x → k < n
       later k x is = elim (cases_eq k e.0) [
         | inl same ↦ subst (λ j. j < n) (sym same) (keys e.0 e.1 (find-head e es))
-        | inr differ ↦ keys k x (find-other k e es differ ∙ is)
+        | inr differ ↦ keys k x ((grind (arith, eqb-true)) ∙ is)
       ]
-
-      own : found (f e.0) (find nat_cmp e.0 (e ∷ es)) ≡ found (f e.0) (find nat_cmp e.0 es) + f e.0 e.1
-      own = grind (arith, find-head, find-below, both)
 
   -- a sum over a map's entries is one over the numbers below n, where all its keys are
   pub sum-range : (m : Map nat_order X) (f : ℕ → X → ℕ) (n : ℕ) → ((k : ℕ) (x : X) → map.get m k ≡ Some x → k < n)
       → sum_by (λ e. f e.0 e.1) m.entries ≡ sum_by (λ k. found (f k) (map.get m k)) (range_with_len 0 n)
   sum-range m f n keys = sum-entries f n m.entries m.sorted keys
 
-one-cost : (n : ℕ) (d : Option ℕ) (m : Option Member) → is_some d ≡ is_some m → cond (is_some d) n 0 ≡ found (λ _. n) m
-one-cost n d m h = grind arith
-
 -- costs summed over directories are those summed over the book
 pub total-book : (directories : List (Option ℕ)) (s : State) → ((p : ℕ) → is_some (directory_of directories p) ≡ is_live s p) → ((p : ℕ) → is_live s p ≡ true → p < 64) → total_cost directories s.spaces ≡ total s
 unfolding total_cost
 total-book directories s live small =
-    sum-same (live_cost (directory_of directories) s.spaces) (λ k. found (λ _. cost s.spaces k) (map.get s.book k)) (range_with_len 0 64) (λ p. one-cost (cost s.spaces p) (directory_of directories p) (map.get s.book p) (live p))
+    sum-same (live_cost (directory_of directories) s.spaces) (λ k. found (λ _. cost s.spaces k) (map.get s.book k)) (range_with_len 0 64) (λ p. (grind arith))
     ∙ sym (sum-range s.book (λ k _. cost s.spaces k) 64 (λ k x is. small k (ap is_some is)))

@@ -1,6 +1,5 @@
 -- What follows where a call is not refused.
-use Rattle.process_table.proofs.Prelude
-use Prelude.{◌≡◌, ◌≢◌, ℕ, ◌+◌, ◌<◌, Bool, true, false, [], ◌∷◌, sym, ap, ◌∙◌, Option, Some, None, Ok, Err, arith, is_some, if◌then◌else◌, IsOk, is_user_page, fresh, cell_or_fresh, cost, need, at_page, cost-insert, cost-joined, offer_key, pending, State, is_live, is_mapped, overdrawn, map_refusal, unmap_refusal, protect_refusal, offer_refusal, accept_refusal, Cause, NoProcess, Mapped, Quota, no_value, first_cause, number_unless, done_unless, map_answer, accept_answer, not-false, eqb-false}
+use Rattle.process_table.proofs.Prelude.{◌≡◌, ◌≢◌, ℕ, ◌+◌, ◌<◌, Bool, true, false, [], ◌∷◌, sym, ap, ◌∙◌, Option, Some, None, Ok, Err, arith, is_some, if◌then◌else◌, IsOk, is_user_page, fresh, cell_or_fresh, cost, need, at_page, cost-insert, cost-joined, offer_key, pending, State, is_live, is_mapped, overdrawn, map_refusal, unmap_refusal, protect_refusal, offer_refusal, accept_refusal, Cause, NoProcess, Mapped, Quota, no_value, first_cause, number_unless, done_unless, map_answer, accept_answer, not-false, eqb-false}
 use Rattle.page_words.specs.FiniteMap as map
 
 choice : (b : Bool) (c : Cause) (y : Option Cause) → (if b then Some c else y) ≡ None → (b ≡ false) × (y ≡ None)
@@ -70,10 +69,6 @@ map-charge s p page charge live free is =
     ap (λ x. number_unless x (cost (map.insert s.spaces (at_page p page) (fresh (at_page p page) true)) p)) e
     ∙ ap Ok (cost-insert s.spaces (at_page p page) (fresh (at_page p page) true) (may_map s p page free).none ∙ sym is)
 
--- the charge that the test of an accept answers
-pub accept-charge : (s : State) (p giver giver_page page charge : ℕ) → is_live s p ≡ true → accept_refusal s p giver giver_page page ≡ None → charge ≡ cost s.spaces p + need s.spaces p page → accept_answer s p giver giver_page page ≡ Ok charge
-accept-charge s p giver giver_page page charge live free is = grind (arith, cost-joined, may_accept)
-
 -- ---- A page that is not mapped, by whether there is room for it
 
 -- what the test of a map answers
@@ -84,4 +79,4 @@ test_map s p page live user = grind (arith, map-charge)
 -- what the test of an accept answers
 pub test_accept : (s : State) (p giver giver_page page : ℕ) → is_live s p ≡ true → is_user_page page ≡ true → map.contains_key s.offers (offer_key giver giver_page p) ≡ true
     → (if is_mapped s (at_page p page) then Err Mapped else if overdrawn s p (page ∷ []) then Err Quota else Ok (cost s.spaces p + need s.spaces p page)) ≡ accept_answer s p giver giver_page page
-test_accept s p giver giver_page page live user there = grind (arith, accept-charge)
+test_accept s p giver giver_page page live user there = grind (arith, cost-joined, may_accept)

@@ -1,6 +1,5 @@
 -- What a sound image with current words represents: a state without offers, which is well formed.
-use Rattle.process_table.proofs.Prelude
-use Prelude.{◌≡◌, ℕ, ◌+◌, ◌<◌, ◌≤◌, Bool, true, false, List, length, refl, sym, ap, subst, ◌∙◌, Option, Some, None, is_some, unwrap_or, arith, option_map, option_and_then, range_with_len, slice_get_within, slot_number, index_number, IsUserPage, Order, nat_order, same_set, is_some-map, some_value, Slot, Cell, Spaces, cost, SlotStands, directory_at, table_at, present_word, page_word, word_of, Book, Member, given, quota_of, Containers, IsLive, used_of, Offers, as_account, account_of, IsCharge, quota_from, IsSoundImage, StandsFor, State, IsWhole, IsCellAt, IsWellFormed, ◌↔◌, IsTrue, MatchBool, slice_index, Page, directory_of, spaces_in, one_group, word_names, IsCount, CellStands, IsOneGroup, image_from, named_by, page_frame, from_map, from_then, user_named, account_told, image_in, RootIsItsParent}
+use Rattle.process_table.proofs.Prelude.{◌≡◌, ℕ, ◌+◌, ◌<◌, ◌≤◌, Bool, true, false, List, length, refl, sym, ap, subst, ◌∙◌, Option, Some, None, is_some, unwrap_or, arith, option_map, option_and_then, range_with_len, slice_get_within, slot_number, index_number, IsUserPage, Order, nat_order, same_set, is_some-map, some_value, Slot, Cell, Spaces, cost, SlotStands, directory_at, table_at, present_word, page_word, word_of, Book, Member, given, quota_of, Containers, Offers, as_account, account_of, IsCharge, quota_from, IsSoundImage, StandsFor, State, IsWhole, IsCellAt, IsWellFormed, ◌↔◌, IsTrue, MatchBool, slice_index, Page, directory_of, spaces_in, one_group, word_names, IsCount, CellStands, IsOneGroup, image_from, named_by, page_frame, from_map, from_then, user_named, account_told, image_in, RootIsItsParent}
 use Rattle.process_table.specs.Image.{Image}
 use Rattle.page_words.specs.Words.{frame_number, is_lazy, NamesPage}
 use Rattle.alloc_table.specs.declared.Role.{Role}
@@ -87,11 +86,8 @@ module _ (directories : List (Option ℕ)) (accounts : List (Option quota_tree.A
   given-is : (p : ℕ) (a : quota_tree.Account) → account_at accounts p ≡ Some a → a.given ≡ given book p
   given-is p a is =
       I.given p (account_told a) (account-is p a is)
-      ∙ sum-same (λ q. quota_from p q (image.accounts q)) (λ q. quota_from p q (account_of state q)) (range_with_len 0 64) (λ q. ap (quota_from p q) refl ∙ same q (account_at accounts q) ∙ ap (λ x. quota_from p q (option_map (as_account state q) x)) (sym (get-book q)))
+      ∙ sum-same (λ q. quota_from p q (image.accounts q)) (λ q. quota_from p q (account_of state q)) (range_with_len 0 64) (λ q. ap (quota_from p q) refl ∙ (grind arith) ∙ ap (λ x. quota_from p q (option_map (as_account state q) x)) (sym (get-book q)))
       ∙ sym (given-range state p (λ k member is. process-small k (ap is_some is)))
-    where
-      same : (q : ℕ) (x : Option quota_tree.Account) → quota_from p q (option_map account_told x) ≡ quota_from p q (option_map (as_account state q) (option_map member_in x))
-      same q x = grind arith
 
   root-account : (a : quota_tree.Account) × (account_at accounts 0 ≡ Some a) × (1 + a.quota ≡ length roles)
   root-account = grind (arith, from_map)
@@ -152,10 +148,6 @@ module _ (directories : List (Option ℕ)) (accounts : List (Option quota_tree.A
       → (q : Slot) → IsTrue (set.contains cell.holders q) ↔ (page_frame M q ≡ Some f)
   group-real slot word cell c real f same q = grind arith
 
-  -- a slot is in its own group
-  own-group : (slot : Slot) (word : ℕ) → page_word M slot ≡ Some word → IsOneGroup M slot word slot
-  own-group slot word at = grind (arith, own_is)
-
   -- the slots of a group have the same bytes and the same group
   alike-in : (slot : Slot) (cell : Cell) (word : ℕ) → map.get spaces slot ≡ Some cell → CellStands M slot word cell → (other : Slot) → IsOneGroup M slot word other
       → (c : Cell) × (map.get spaces other ≡ Some c) × (c.holders ≡ cell.holders) × (c.bytes ≡ cell.bytes)
@@ -186,7 +178,7 @@ module _ (directories : List (Option ℕ)) (accounts : List (Option quota_tree.A
         small = memory_restored.cell_small directories bytes roles pids least few I.memory small slot w.0 cell c inside;
         write_may = λ h. c.may ∙ k.right (sym c.write ∙ h);
         dirty_accessed = λ h. c.accessed ∙ k.touched (sym c.dirty ∙ h);
-        own = (c.group slot).1 (own-group slot w.0 w.1);
+        own = (c.group slot).1 (grind (arith, own_is));
         alike = λ other h. alike-in slot cell w.0 found c other ((c.group other).0 h);
       }
 
@@ -227,12 +219,10 @@ module _ (directories : List (Option ℕ)) (accounts : List (Option quota_tree.A
         process-small,
       )
 
-  charged : (p : ℕ) → IsLive (containers_in accounts) p → used_of (containers_in accounts) p ≡ cost spaces p
-  charged p live = grind (arith, some_value, in-book, get-collected, used-is)
-
   -- the parts that are made of the image agree
   pub parts_whole : (v : frames.View) (c : Containers) (o : Offers) → v ≡ view_from directories bytes roles → c ≡ containers_in accounts → o ≡ no_offers → IsWhole v c o
-  parts_whole v c o is_v is_c is_o = grind (arith, live-directory, charged, root-quota, well_formed)
+  parts_whole v c o is_v is_c is_o =
+      grind (arith, live-directory, some_value, in-book, get-collected, used-is, root-quota, well_formed)
 
   -- and the image stands for their state
   pub state_stands : StandsFor image state

@@ -1,6 +1,5 @@
 -- States stay well formed by a change of a right, and by an offer, its withdrawal and its acceptance.
-use Rattle.process_table.proofs.Prelude
-use Prelude.{◌≡◌, ◌≢◌, ℕ, ◌+◌, ◌<◌, ◌≤◌, ◌||◌, ◌==◌, not, Bool, true, false, cond, refl, sym, ap, subst, ◌∙◌, Option, Some, None, is_some, unwrap_or, arith, inl, inr, if◌then◌else◌, nat_lt, option_map, cases_eq, or_cases, or_right, IsUserPage, EachTouched, Size, IsThere, same, Set, same_itself, same-true, get-insert, get-map_values, contains-insert, retain-insert, len-insert, retain-insert_other, same_cases, Slot, slot_order, Cell, Spaces, cost, need, fresh, cell_or_fresh, with_holders, set_holders, joined, at_page, join_in, cost-joined, cost-joined_other, given, quota_of, OfferKey, Offers, offer_order, offer_key, pending, State, is_live, room, protect_refusal, offer_refusal, accept_refusal, offered, after_protect, after_offer, after_withdraw, after_accept, IsCellAt, IsOfferIn, IsWellFormed, eqb-true, same_Some, some_value}
+use Rattle.process_table.proofs.Prelude.{◌≡◌, ◌≢◌, ℕ, ◌+◌, ◌<◌, ◌≤◌, ◌||◌, ◌==◌, not, Bool, true, false, cond, refl, sym, ap, subst, ◌∙◌, Option, Some, None, is_some, unwrap_or, arith, inl, inr, if◌then◌else◌, nat_lt, option_map, cases_eq, or_cases, or_right, IsUserPage, EachTouched, Size, IsThere, same, Set, same_itself, same-true, get-insert, get-map_values, contains-insert, retain-insert, len-insert, retain-insert_other, same_cases, Slot, slot_order, Cell, Spaces, cost, need, fresh, cell_or_fresh, with_holders, set_holders, joined, at_page, join_in, cost-joined, cost-joined_other, given, quota_of, OfferKey, Offers, offer_order, offer_key, pending, State, is_live, room, protect_refusal, offer_refusal, accept_refusal, offered, after_protect, after_offer, after_withdraw, after_accept, IsCellAt, IsOfferIn, IsWellFormed, eqb-true, same_Some, some_value}
 use Rattle.process_table.proofs.Overdrawn.{extra_new}
 use Rattle.process_table.proofs.CellLaws.{AreCells, get-inserted, get-inserted_other}
 use Rattle.process_table.proofs.BookLaws.{retained}
@@ -42,12 +41,9 @@ few-more offers key write new few most p = by (key.offerer == p) refl
         let a = ap map.len (retain-insert offers (λ (k : OfferKey). k.offerer == p) key write is) in
         let b = len-insert (pending offers p) key write in
         let below : map.len (pending offers p) < 32 = subst (λ n. map.len (pending offers n) < 32) (eqb-true key.offerer p is) few in
-        let c = one (map.contains_key (pending offers p) key) (map.len (pending offers p)) below in
-        omega (arith, a, b, c)
+        omega (arith, a, b, one (map.contains_key (pending offers p) key) (map.len (pending offers p)) below)
     by false is =
-        let a = ap map.len (retain-insert_other offers (λ (k : OfferKey). k.offerer == p) key write is) in
-        let b = most p in
-        omega (arith, a, b)
+        omega (arith, ap map.len (retain-insert_other offers (λ (k : OfferKey). k.offerer == p) key write is), most p)
 
 -- whether an offer is well formed does not depend on the other offers
 offer-same : (s : State) (offers : Offers) (key : OfferKey) (right : Bool) → IsOfferIn s key right → IsOfferIn (record s { offers = offers }) key right
@@ -99,12 +95,9 @@ well_formed-withdraw s p page target w = record {
   rooms = w.rooms;
   owners = w.owners;
   cells = w.cells;
-  offers = λ key right h. offer-same s fewer key right (w.offers key right (retained s.offers (λ j. not (same offer_order (offer_key p page target) j)) key right h).1);
+  offers = λ key right h. offer-same s (map.remove s.offers (offer_key p page target)) key right (w.offers key right (retained s.offers (λ j. not (same offer_order (offer_key p page target) j)) key right h).1);
   few = λ q. let a = len-retain s.offers (λ j. not (same offer_order (offer_key p page target) j)) (λ key. key.offerer == q) in let b = w.few q in omega (arith, a, b);
 }
-  where
-    fewer : Offers
-    fewer = map.remove s.offers (offer_key p page target)
 
 -- ---- A slot joins a group
 
@@ -140,12 +133,6 @@ module _ (S : Spaces) (giver slot : Slot) (g : Cell) (right : Bool) (at : map.ge
   get-outside : (q : Slot) (d : Cell) → map.get S q ≡ Some d → set.contains group q ≡ false → map.get joined_spaces q ≡ Some d
   get-outside q d h outside = get-other q (apart q d h) ∙ ap (option_map (widened q)) h ∙ ap (λ b. Some (if b then with_holders d wider else d)) outside
 
-  wider-slot : set.contains wider slot ≡ true
-  wider-slot = contains-insert group slot slot ∙ ap (λ b. b || set.contains group slot) (same_itself slot_order slot)
-
-  wider-inside : (q : Slot) → set.contains group q ≡ true → set.contains wider q ≡ true
-  wider-inside q inside = contains-insert group slot q ∙ or_right (same slot_order q slot) (set.contains group q) inside
-
   -- each slot of the wider group has the group's bytes, and the wider group
   alike_wider : (other : Slot) → set.contains wider other ≡ true → (f : Cell) × (map.get joined_spaces other ≡ Some f) × (f.holders ≡ wider) × (f.bytes ≡ g.bytes)
   alike_wider other h = elim (or_cases (same slot_order other slot) (set.contains group other) (sym (contains-insert group slot other) ∙ h)) [
@@ -160,7 +147,7 @@ module _ (S : Spaces) (giver slot : Slot) (g : Cell) (right : Bool) (at : map.ge
     small = (cells giver g at).small;
     write_may = λ h. h;
     dirty_accessed = λ h. h;
-    own = wider-slot;
+    own = contains-insert group slot slot ∙ ap (λ b. b || set.contains group slot) (same_itself slot_order slot);
     alike = alike_wider;
   }
 
@@ -175,7 +162,7 @@ module _ (S : Spaces) (giver slot : Slot) (g : Cell) (right : Bool) (at : map.ge
         small = was.small;
         write_may = was.write_may;
         dirty_accessed = was.dirty_accessed;
-        own = wider-inside q inside;
+        own = contains-insert group slot q ∙ or_right (same slot_order q slot) (set.contains group q) inside;
         alike = λ other k. let f = alike_wider other k in (f.0, f.1, f.2, f.3 ∙ sym same_bytes);
       }
 

@@ -1,6 +1,5 @@
 -- What fewer members, offers or pages leave of sizes and costs.
-use Rattle.process_table.proofs.Prelude
-use Prelude.{◌≡◌, ℕ, ◌+◌, ◌≤◌, Bool, true, false, cond, List, [], ◌∷◌, length, ap, ◌∙◌, arith, Order, Map, nat_order, Set, same_set, Slot, Spaces, cost, pages_of, regions_of, at_page, contains-pages_of, where_key}
+use Rattle.process_table.proofs.Prelude.{◌≡◌, ℕ, ◌+◌, ◌≤◌, Bool, true, false, cond, List, [], ◌∷◌, length, ap, ◌∙◌, arith, Order, Map, nat_order, Set, same_set, Slot, Spaces, cost, pages_of, regions_of, at_page, contains-pages_of, where_key}
 use Rattle.std.specs.declared.cmp.Ordering.{Ordering}
 use Rattle.address_space.proofs.costs.Sizes.{cost-within}
 use Rattle.page_words.specs.FiniteMap as map
@@ -11,14 +10,8 @@ module _ {K X : Type 0} (R : K → K → Ordering) where
   length-where_both f g [] = omega arith
   length-where_both f g (e ∷ es) = one (f e.0) (length-where_both f g es)
     where
-      kept : (b : Bool) (xs ys : List (K × X)) → length xs ≤ length ys → length (cond b (e ∷ xs) xs) ≤ length (cond b (e ∷ ys) ys)
-      kept b xs ys rest = grind arith
-
-      more : (b : Bool) (xs ys : List (K × X)) → length xs ≤ length ys → length xs ≤ length (cond b (e ∷ ys) ys)
-      more b xs ys rest = grind arith
-
       one : (b : Bool) → length (where_key R g (where_key R f es)) ≤ length (where_key R g es) → length (where_key R g (cond b (e ∷ where_key R f es) (where_key R f es))) ≤ length (where_key R g (e ∷ es))
-      one b rest = grind (arith, kept, more)
+      one b rest = grind (arith)
 
 -- what passes one more test is no more
 pub len-retain : {K X : Type 0} {o : Order K} (m : Map o X) (f g : K → Bool) → map.len (map.retain_keys (map.retain_keys m f) g) ≤ map.len (map.retain_keys m g)

@@ -1,6 +1,5 @@
 -- States stay well formed where their spaces alone change: by a map, an access, or an unmap with its offers.
-use Rattle.process_table.proofs.Prelude
-use Prelude.{◌≡◌, ◌≢◌, ℕ, ◌+◌, ◌<◌, ◌≤◌, not, Bool, true, false, List, [], ◌∷◌, length, refl, sym, ap, subst, ◌∙◌, Option, Some, None, is_some, unwrap_or, arith, inl, inr, zero, suc, ◌/◌, ◌%◌, ◌++◌, take, drop, if◌then◌else◌, nat_lt, IfSome, option_map, All, IsUserPage, is_user_page, byte_count, offset_number, page_number, second_page, touched, EachTouched, page_and, Size, get-map_values, same_cases, Slot, slot_order, Cell, Spaces, cost, cost_of, need, page_need, access_need, fresh, cell_or_fresh, accessed, stored, with_page, with_pages, all_accessed, all_stored, set_bytes, with_bytes, write_at, bytes_of, slot_at, at_page, store_in, same_pages, cost-insert, kept, given, quota_of, OfferKey, State, is_live, is_mapped, overdrawn, room, map_refusal, after_map, after_load, after_store, BadPage, Mapped, Quota, IsCellAt, IsOfferIn, IsWellFormed, same_Some, some_value, no_value, length-replicate, cases_lt, cases_eq, le-ltb, IsThere, AreThere, touched-there, first_there, rest_there, bytes_there, need-in_one, need-in_two, cost-with_page}
+use Rattle.process_table.proofs.Prelude.{◌≡◌, ◌≢◌, ℕ, ◌+◌, ◌<◌, ◌≤◌, not, Bool, true, false, List, [], ◌∷◌, length, refl, sym, ap, subst, ◌∙◌, Option, Some, None, is_some, unwrap_or, arith, inl, inr, zero, suc, ◌/◌, ◌%◌, ◌++◌, take, drop, if◌then◌else◌, nat_lt, IfSome, option_map, All, IsUserPage, is_user_page, byte_count, offset_number, page_number, second_page, touched, EachTouched, page_and, Size, get-map_values, same_cases, Slot, slot_order, Cell, Spaces, cost, cost_of, need, page_need, access_need, fresh, cell_or_fresh, accessed, stored, with_page, with_pages, all_accessed, all_stored, set_bytes, with_bytes, write_at, bytes_of, slot_at, at_page, store_in, same_pages, cost-insert, kept, given, quota_of, OfferKey, State, is_live, is_mapped, overdrawn, room, map_refusal, after_map, after_load, after_store, BadPage, Mapped, Quota, IsCellAt, IsOfferIn, IsWellFormed, same_Some, some_value, no_value, length-replicate, cases_lt, cases_eq, le-ltb, IsThere, AreThere, touched-there, first_there, rest_there, bytes_there, need-in_one, need-in_two, cost-with_page}
 use Rattle.std.proofs.lemmas.List.Elements.{All-nil, All-cons, All-append, All-take, All-drop, All-replicate}
 use Rattle.page_words.specs.declared.addresses.Size.TheVariants.{One}
 use Rattle.address_space.proofs.steps.Stores.{length-write_at, written_long}
@@ -59,8 +58,7 @@ module _ (s : State) (slot : Slot) (write : Bool) (w : IsWellFormed s) (live : i
     | inl own ↦ subst (λ n. cost more n + given s.book n ≤ quota_of s.book n) (sym own) owner
     | inr differ ↦
         let e : cost more p ≡ cost s.spaces p = ap cost_of (same_pages more s.spaces p p (λ page. ap is_some (get-inserted_other s.spaces slot (fresh slot write) (at_page p page) (λ is. differ (ap (λ (q : Slot). q.pid) is))))) in
-        let old = w.rooms p h in
-        omega (arith, e, old)
+        omega (arith, e, w.rooms p h)
   ]
     where
       owner : cost more slot.pid + given s.book slot.pid ≤ quota_of s.book slot.pid
@@ -162,14 +160,11 @@ module _ (s : State) (slot : Slot) (c : Cell) (at : map.get s.spaces slot ≡ So
     written_forth : (q : Slot) (d : Cell) → map.get s.spaces q ≡ Some d → (e : Cell) × (map.get written_spaces q ≡ Some e) × IsRenewed c.holders bytes q d e
     written_forth q d h = elim (same_cases slot_order q slot) [
       | inl is ↦ (written_cell, ap (map.get written_spaces) is.0 ∙ get-inserted (set_bytes s.spaces c.holders bytes) slot written_cell, subst (λ (x : Cell). IsRenewed c.holders bytes q x written_cell) (same_Some c d (sym at ∙ ap (map.get s.spaces) (sym is.0) ∙ h)) (own is.0))
-      | inr other ↦ (changed_in q d, written_other q other.0 ∙ ap (option_map (changed_in q)) h, by (set.contains c.holders q) refl)
+      | inr other ↦ (changed_in q d, written_other q other.0 ∙ ap (option_map (changed_in q)) h, (grind arith))
     ]
       where
         own : q ≡ slot → IsRenewed c.holders bytes q c written_cell
         own is = record { holders = refl; bytes_in = λ _. refl; bytes_out = λ out. absurd (let x : set.contains c.holders q ≡ true = ap (set.contains c.holders) is ∙ (w.cells slot c at).own in cc); write = λ f. f; may = refl; dirty = λ _ _. refl }
-
-        by : (b : Bool) → set.contains c.holders q ≡ b → IsRenewed c.holders bytes q d (if b then with_bytes d bytes else d)
-        by b is = grind arith
 
     written_back : (q : Slot) (e : Cell) → map.get written_spaces q ≡ Some e → (d : Cell) × (map.get s.spaces q ≡ Some d)
     written_back q e h = elim (same_cases slot_order q slot) [
@@ -193,10 +188,7 @@ well_formed-page s p page w live user fits = by (map.contains_key s.spaces (at_p
     by : (b : Bool) → map.contains_key s.spaces (at_page p page) ≡ b → (if b then 0 else need s.spaces p page) ≤ room s p
         → IsWellFormed (record s { spaces = if b then s.spaces else map.insert s.spaces (at_page p page) (fresh (at_page p page) true) })
     by true is h = w
-    by false is h = well_formed-inserted s (at_page p page) true w live user (no_value (map.get s.spaces (at_page p page)) is) (fits-room (room s p) (need s.spaces p page) h)
-      where
-        fits-room : (a b : ℕ) → b ≤ a → nat_lt a b ≡ false
-        fits-room a b h = le-ltb a b h
+    by false is h = well_formed-inserted s (at_page p page) true w live user (no_value (map.get s.spaces (at_page p page)) is) (le-ltb (room s p) (need s.spaces p page) h)
 
 -- the pages that an access touches, where there is room for those that are not mapped
 pub well_formed-touched : (s : State) (p address : ℕ) (size : Size) → IsWellFormed s → is_live s p ≡ true → EachTouched address size IsUserPage → overdrawn s p (touched address size) ≡ false

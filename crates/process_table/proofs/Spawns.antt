@@ -1,6 +1,5 @@
 -- What the test of a spawn answers, and what a child's charge is.
-use Rattle.process_table.proofs.Prelude
-use Prelude.{◌≡◌, ◌≢◌, ℕ, ◌+◌, ◌-◌, ◌<◌, ◌≤◌, ◌==◌, Bool, true, false, cond, not, refl, sym, ap, subst, ◌∙◌, inl, inr, List, [], ◌∷◌, Option, Some, None, unwrap_or, is_some, is_none, length, Ok, Err, arith, Result, if◌then◌else◌, nat_lt, range_with_len, option_map, same, nat_order, same_or_not, same_itself, get-insert, Slot, Cell, Spaces, cost, at_page, directory_of, total_cost, Member, given, quota_of, next_number, Containers, IsLive, used_of, total_used, split_answer, after_split, room_of, fitting, opening, Offers, room, child_of, container_of, spawn_refusal, state_of, IsProcesses, Cause, not-true, Image, SlotStands, directory_at, page_word, image_of, translated, child_unless, spawn_answer, find}
+use Rattle.process_table.proofs.Prelude.{◌≡◌, ◌≢◌, ℕ, ◌+◌, ◌-◌, ◌<◌, ◌≤◌, ◌==◌, Bool, true, false, cond, not, refl, sym, ap, ◌∙◌, inl, inr, List, [], ◌∷◌, Option, Some, None, unwrap_or, is_some, is_none, length, Ok, Err, arith, Result, if◌then◌else◌, nat_lt, range_with_len, option_map, same, nat_order, same_or_not, same_itself, get-insert, Slot, Spaces, cost, at_page, directory_of, total_cost, Member, given, quota_of, next_number, Containers, IsLive, used_of, total_used, split_answer, after_split, room_of, fitting, opening, Offers, room, child_of, container_of, spawn_refusal, state_of, IsProcesses, Cause, not-true, Image, directory_at, page_word, image_of, translated, child_unless, spawn_answer, find}
 use Rattle.page_words.specs.declared.addresses.Pid.{Pid}
 use Rattle.address_space.specs.Image.{StandsFor}
 use Rattle.quota_tree.specs.declared.QuotaFault.{QuotaFault}
@@ -13,9 +12,6 @@ use Rattle.quota_tree.specs.declared.QuotaFault.TheVariants as quota
 use Rattle.quota_tree.specs.Containers as quotas
 use Rattle.process_table.specs.declared.causes.Cause.TheVariants as cause
 
-room-is : (v : frames.View) (c : Containers) (o : Offers) (p : ℕ) → IsProcesses v c → IsLive c p → room_of c p ≡ room (state_of v c o) p
-room-is v c o p kept live = ap (λ u. quota_of c.book p - u - given c.book p) (kept.charged p live)
-
 abbrev refused : Bool → Option ℕ → Bool → Option Cause
 refused none next over = if none then Some cause.BadQuota else if is_none next then Some cause.TableFull else if over then Some cause.Quota else None
 
@@ -23,7 +19,7 @@ refused none next over = if none then Some cause.BadQuota else if is_none next t
 pub spawn-split : (v : frames.View) (c : Containers) (o : Offers) (p asked : ℕ) → IsProcesses v c → IsLive c p → spawn_answer (state_of v c o) p asked ≡ translated (split_answer c p asked)
 spawn-split v c o p asked kept live =
     ap (λ b. child_unless (if b then spawn_refusal (state_of v c o) p asked else Some cause.NoProcess) (unwrap_or (next_number c.book) 0)) live
-    ∙ ap (λ r. child_unless (refused (asked == 0) (next_number c.book) (nat_lt r asked)) (unwrap_or (next_number c.book) 0)) (sym (room-is v c o p kept live))
+    ∙ ap (λ r. child_unless (refused (asked == 0) (next_number c.book) (nat_lt r asked)) (unwrap_or (next_number c.book) 0)) (sym (ap (λ u. quota_of c.book p - u - given c.book p) (kept.charged p live)))
     ∙ by (asked == 0) (next_number c.book) (nat_lt (room_of c p) asked) refl
   where
     by : (b : Bool) (next : Option ℕ) (over : Bool) → nat_lt (room_of c p) asked ≡ over
@@ -80,16 +76,13 @@ child-has_none v c p asked child kept is = no_directory (directory_of v.director
 
 -- a process without a directory has nothing mapped
 pub nothing-mapped : (image : Image) (S : Spaces) (p page : ℕ) → StandsFor image S → directory_at image p ≡ None → map.contains_key S (at_page p page) ≡ false
-nothing-mapped image S p page stands none = by (map.get S slot) (subst (λ x. SlotStands image slot x (map.get S slot)) absent (stands.cells slot))
+nothing-mapped image S p page stands none = grind arith
   where
     slot : Slot
     slot = at_page p page
 
     absent : page_word image slot ≡ None
     absent = rw none refl
-
-    by : (x : Option Cell) → SlotStands image slot None x → is_some x ≡ false
-    by x h = grind arith
 
 pub cost-child : (v : frames.View) (p : ℕ) → StandsFor (image_of v) v.spaces → directory_of v.directories p ≡ None → cost v.spaces p ≡ 1
 cost-child v p stands none = cost-no_pages v.spaces p (λ page. nothing-mapped (image_of v) v.spaces p page stands none)

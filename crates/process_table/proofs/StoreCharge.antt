@@ -1,6 +1,5 @@
 -- What accesses cost.
-use Rattle.process_table.proofs.Prelude
-use Prelude.{◌≡◌, ℕ, ◌+◌, ◌∙◌, byte_count, touched, Size, Spaces, cost, access_need, with_pages, all_accessed, all_stored, bytes_of, cost-same, touched-there, bytes_there, key-all_accessed, key-all_stored, State, after_load, after_store, cost-with_touched}
+use Rattle.process_table.proofs.Prelude.{◌≡◌, ℕ, ◌+◌, ◌∙◌, byte_count, touched, Size, Spaces, cost, access_need, with_pages, all_accessed, all_stored, bytes_of, cost-same, touched-there, bytes_there, key-all_accessed, key-all_stored, State, after_load, after_store, cost-with_touched}
 
 -- a load costs what its pages need
 pub load_charge : (s : State) (p address : ℕ) (size : Size) → cost (after_load s p address size).spaces p ≡ cost s.spaces p + access_need s.spaces p address size

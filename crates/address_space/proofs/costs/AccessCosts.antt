@@ -1,6 +1,5 @@
 -- What accesses cost: nothing where the page is mapped, and what its page needs where it is not.
-use Rattle.address_space.proofs.Prelude
-use Prelude.{arith, ◌≡◌, ℕ, true, cond, List, ap, sym, ◌∙◌, is_some, same, Set, same_or_not, get-insert, get-map_values, Slot, slot_order, Cell, Spaces, cost, cost_of, stored, set_bytes, cell_or_fresh, at_page}
+use Rattle.address_space.proofs.Prelude.{arith, ◌≡◌, ℕ, true, cond, List, ap, sym, ◌∙◌, is_some, same, Set, same_or_not, get-insert, get-map_values, Slot, slot_order, Cell, Spaces, cost, cost_of, stored, set_bytes, cell_or_fresh, at_page}
 use Rattle.address_space.proofs.costs.Costs.{same_pages}
 use Rattle.page_words.specs.FiniteMap as map
 

@@ -1,6 +1,5 @@
 -- What an access needs: what its first page needs, and what the second needs once the first is mapped.
-use Rattle.address_space.proofs.Prelude
-use Prelude.{◌≡◌, ◌≢◌, ℕ, ◌+◌, ◌==◌, Bool, true, false, cond, not, ◌||◌, [], ◌∷◌, refl, ap, sym, ◌∙◌, arith, Option, Some, None, ◌&&◌, is_some, if◌then◌else◌, eqb-true, eq-eqb, slot_number, page_number, touched, page_and, second_page, Size, nat_order, same, Set, crosses, no_value, same_apart, Spaces, Cell, at_page, fresh, cost, pages_of, regions_of, need, page_need, with_page, with_pages, missing, access_need, Place, found_of, same_itself, contains-insert, retain-insert, retain-insert_other, len-insert}
+use Rattle.address_space.proofs.Prelude.{◌≡◌, ◌≢◌, ℕ, ◌+◌, ◌==◌, Bool, true, false, cond, not, [], ◌∷◌, refl, ap, sym, ◌∙◌, arith, Option, Some, None, ◌&&◌, is_some, if◌then◌else◌, eqb-true, eq-eqb, slot_number, page_number, touched, page_and, second_page, Size, nat_order, same, Set, crosses, no_value, same_apart, Spaces, Cell, at_page, fresh, cost, pages_of, regions_of, need, page_need, with_page, with_pages, missing, access_need, Place, found_of, same_itself, contains-insert, retain-insert, retain-insert_other, len-insert}
 use Rattle.address_space.specs.Spaces.{need_of}
 use Rattle.address_space.proofs.costs.AccessCosts.{key-insert}
 use Rattle.address_space.proofs.costs.Costs.{pages-insert, regions-insert, cost-insert}
@@ -19,17 +18,13 @@ cost-with_page S p page = by (map.contains_key S (at_page p page)) refl
 -- a page beside one that is mapped now
 pub need-beside : (S : Spaces) (p page second : ℕ) (cell : Cell) → need (map.insert S (at_page p page) cell) p second ≡ (if slot_number page == slot_number second then 1 else need S p second)
 need-beside S p page second cell =
-    let R : Set nat_order = regions_of (pages_of S p) in
     let r : ℕ = slot_number second in
     ap (λ (s : Set nat_order). if set.contains s r then 1 else 2) (ap regions_of (pages-insert S (at_page p page) cell) ∙ regions-insert (pages_of S p) page)
-    ∙ ap (λ b. if b then 1 else 2) (contains-insert R (slot_number page) r)
-    ∙ by (slot_number page == r) refl (set.contains R r)
+    ∙ ap (λ b. if b then 1 else 2) (contains-insert (regions_of (pages_of S p)) (slot_number page) r)
+    ∙ (grind (arith, eqb-true, r, same_itself, same_apart, eq-eqb))
   where
     r : ℕ
     r = slot_number second
-
-    by : (b : Bool) → (slot_number page == r) ≡ b → (c : Bool) → ◌≡◌ {A = ℕ} (if same nat_order r (slot_number page) || c then 1 else 2) (if b then 1 else (if c then 1 else 2))
-    by b is c = grind (arith, eqb-true, r, same_itself, same_apart, eq-eqb)
 
 -- ---- What pages need together
 
@@ -59,13 +54,10 @@ module _ (S : Spaces) (p : ℕ) where
 
   -- two pages
   need-two_pages : (page second : ℕ) → second ≢ page → need_of S p (set.retain (set.from_list (page ∷ second ∷ [])) is_missing) ≡ page_need S p page + page_need (with_page S p page) p second
-  need-two_pages page second apart = by (map.contains_key S (at_page p page)) refl
+  need-two_pages page second apart = grind (arith, kept_one, need-one_page, unmapped)
     where
       rest : Set nat_order
       rest = set.retain {o = nat_order} (set.insert set.empty second) is_missing
-
-      other : (cell : Cell) → map.contains_key (map.insert S (at_page p page) cell) (at_page p second) ≡ map.contains_key S (at_page p second)
-      other cell = grind (arith, key-insert, same_apart)
 
       last : (b : Bool) → map.contains_key S (at_page p second) ≡ b → rest ≡ cond (not b) (set.insert set.empty second) set.empty
       last b is = kept_one set.empty is_missing second (not b) (ap not is)
@@ -76,29 +68,16 @@ module _ (S : Spaces) (p : ℕ) where
       lone : same nat_order page second ≡ false
       lone = same_apart nat_order page second (λ e. apart (sym e))
 
-      added : (c d e : Bool) → 2 + ((if c then 0 else 1) + (if e then 0 else (if d then 0 else 1))) ≡ (if c then 1 else 2) + (if e then 1 else (if d then 1 else 2))
-      added c d e = grind arith
-
       both : (cell : Cell) → need_of S p (set.insert (set.insert set.empty second) page) ≡ need S p page + need (map.insert S (at_page p page) cell) p second
-      both cell = grind (arith, len-insert, contains-insert, lone, regions, two_new, added, need-beside)
-
-      count : (c : Bool) → ◌≡◌ {A = ℕ} (1 + set.len {o = nat_order} (cond (not c) (set.insert set.empty (slot_number page)) set.empty)) (if c then 1 else 2)
-      count c = grind arith
+      both cell = grind (arith, len-insert, contains-insert, lone, regions, two_new, need-beside)
 
       unmapped : (d : Bool) → map.contains_key S (at_page p second) ≡ d → (cell : Cell)
           → need_of S p (set.insert rest page) ≡ need S p page + (if map.contains_key (map.insert S (at_page p page) cell) (at_page p second) then 0 else need (map.insert S (at_page p page) cell) p second)
       unmapped true is cell =
           ap (λ s. need_of S p (set.insert s page)) (last true is)
-          ∙ alone
-          ∙ sym (ap (λ b. need S p page + (if b then 0 else need (map.insert S (at_page p page) cell) p second)) (other cell ∙ is))
-        where
-          alone : need_of S p (set.insert set.empty page) ≡ need S p page + 0
-          alone = grind (arith, kept_one, count)
-      unmapped false is cell = grind (arith, last, both, other)
-
-      by : (b : Bool) → map.contains_key S (at_page p page) ≡ b
-          → need_of S p (set.retain (set.from_list (page ∷ second ∷ [])) is_missing) ≡ (if b then 0 else need S p page) + page_need (if b then S else map.insert S (at_page p page) (fresh (at_page p page) true)) p second
-      by b is = grind (arith, kept_one, need-one_page, unmapped)
+          ∙ (grind (arith, kept_one))
+          ∙ sym (ap (λ b. need S p page + (if b then 0 else need (map.insert S (at_page p page) cell) p second)) ((grind (arith, key-insert, same_apart)) ∙ is))
+      unmapped false is cell = grind (arith, last, both, key-insert, same_apart)
 
 -- what a page needs once another is mapped
 pub second_need : (S : Spaces) (p page second : ℕ) → second ≢ page

@@ -1,6 +1,5 @@
 -- What a process is charged for, as its directory and tables show it.
-use Rattle.address_space.proofs.Prelude
-use Prelude.{◌≡◌, ℕ, ◌+◌, ◌*◌, ◌<◌, ◌≤◌, Bool, true, false, cond, ◌||◌, List, refl, ap, sym, ◌∙◌, arith, inl, inr, Option, Some, ◌&&◌, is_some, nat_lt, if◌then◌else◌, option_and_then, cases_lt, nat_tests, slot_number, nat_order, same, Set, same_or_not, same_itself, same_set, contains-insert, contains-retain, len-insert, get-map_values, len-change_each, frame_bytes, Role, PageEntry, table_of, get-entries_user, get-entries_other, user_cases, Cell, Spaces, cost, pages_of, regions_of, at_page, cell_of, directory_of, table_in, entries_in, spaces_in, IsSpaces, and-false, and-true, is_some-map, entries_of, counted}
+use Rattle.address_space.proofs.Prelude.{◌≡◌, ℕ, ◌+◌, ◌*◌, ◌<◌, ◌≤◌, Bool, true, false, cond, ◌||◌, List, refl, ap, sym, ◌∙◌, arith, inl, inr, Option, Some, ◌&&◌, is_some, nat_lt, if◌then◌else◌, option_and_then, cases_lt, nat_tests, slot_number, nat_order, same, Set, same_or_not, same_itself, same_set, contains-insert, contains-retain, len-insert, get-map_values, len-change_each, frame_bytes, Role, PageEntry, table_of, get-entries_user, get-entries_other, user_cases, Cell, Spaces, cost, pages_of, regions_of, at_page, cell_of, directory_of, table_in, entries_in, spaces_in, IsSpaces, and-false, and-true, is_some-map, entries_of, counted}
 use Rattle.address_space.proofs.costs.Costs.{contains-pages_of}
 use Rattle.address_space.proofs.costs.CostSteps.{region_member}
 use Rattle.address_space.proofs.steps.Departures.{no_cell_outside}
@@ -26,15 +25,6 @@ regions_below regions s = set.len (set.retain regions (λ r. nat_lt r s))
 lt_true : (q s : ℕ) → q < s → nat_lt q s ≡ true
 lt_true q s l = grind (arith, nat_tests)
 
-lt_false : (q s : ℕ) → s ≤ q → nat_lt q s ≡ false
-lt_false q s l = grind (arith, nat_tests)
-
-next_below : (q s : ℕ) → (q ≡ s → ⊥) → nat_lt q (s + 1) ≡ nat_lt q s
-next_below q s n = grind (arith, cases_lt, lt_true, lt_false)
-
-not_same : (q s : ℕ) → same nat_order q s ≡ false → q ≡ s → ⊥
-not_same q s h e = let t : same nat_order q s ≡ true = ap (same nat_order q) (sym e) ∙ same_itself nat_order q in cc
-
 below_next : (regions : Set nat_order) (s : ℕ) → regions_below regions (s + 1) ≡ regions_below regions s + counted (set.contains regions s)
 below_next regions s = by (set.contains regions s) refl
   where
@@ -55,7 +45,7 @@ below_next regions s = by (set.contains regions s) refl
     with_it there = same_set new (set.insert old s) (λ q.
         at q ∙ elim (same_or_not nat_order q s) [
           | inl h ↦ (λ i. (ap (set.contains regions) h.0 ∙ there) i && (ap (λ n. nat_lt n (s + 1)) h.0 ∙ lt_true s (s + 1) (omega arith)) i) ∙ sym (ap (λ b. b || set.contains old q) h.1)
-          | inr h ↦ ap (λ b. set.contains regions q && b) (next_below q s (not_same q s h)) ∙ sym (before q) ∙ sym (ap (λ b. b || set.contains old q) h)
+          | inr h ↦ ap (λ b. set.contains regions q && b) (grind (arith, cases_lt, lt_true, nat_tests)) ∙ sym (before q) ∙ sym (ap (λ b. b || set.contains old q) h)
         ]
         ∙ sym (contains-insert old s q))
 
@@ -63,12 +53,12 @@ below_next regions s = by (set.contains regions s) refl
     without_it none = same_set new old (λ q.
         at q ∙ elim (same_or_not nat_order q s) [
           | inl h ↦ (let n : set.contains regions q ≡ false = ap (set.contains regions) h.0 ∙ none in ap (λ b. b && nat_lt q (s + 1)) n ∙ sym (ap (λ b. b && nat_lt q s) n))
-          | inr h ↦ ap (λ b. set.contains regions q && b) (next_below q s (not_same q s h))
+          | inr h ↦ ap (λ b. set.contains regions q && b) (grind (arith, cases_lt, lt_true, nat_tests))
         ]
         ∙ sym (before q))
 
     fresh_one : map.contains_key old s ≡ false
-    fresh_one = before s ∙ ap (λ b. set.contains regions s && b) (lt_false s s (omega arith)) ∙ and-false (set.contains regions s)
+    fresh_one = before s ∙ ap (λ b. set.contains regions s && b) (grind (arith, nat_tests)) ∙ and-false (set.contains regions s)
 
     by : (b : Bool) → set.contains regions s ≡ b → set.len new ≡ set.len old + counted b
     by true there = ap set.len (with_it there) ∙ len-insert old s tt ∙ ap (λ b. cond b (set.len old) (set.len old + 1)) fresh_one
@@ -106,16 +96,10 @@ module _ (directories : List (Option ℕ)) (bytes : List ℕ) (roles : List Role
       ∙ ap (λ x. priced (is_some (option_and_then (λ d. table_of (frame_bytes bytes) d s) x))) live)
 
   pub regions_at_first : 0 ≡ regions_below regions 256
-  regions_at_first = sym (ap set.len (same_set (set.retain regions (λ r. nat_lt r 256)) set.empty (λ q. contains-retain regions (λ r. nat_lt r 256) q ∙ by q (set.contains regions q) refl)))
-    where
-      by : (q : ℕ) (b : Bool) → set.contains regions q ≡ b → (b && nat_lt q 256) ≡ false
-      by q b there = grind (arith, user_region, lt_false)
+  regions_at_first = sym (ap set.len (same_set (set.retain regions (λ r. nat_lt r 256)) set.empty (λ q. contains-retain regions (λ r. nat_lt r 256) q ∙ (grind (arith, user_region, nat_tests)))))
 
   pub regions_at_last : regions_below regions 960 ≡ set.len regions
-  regions_at_last = ap set.len (same_set (set.retain regions (λ r. nat_lt r 960)) regions (λ q. contains-retain regions (λ r. nat_lt r 960) q ∙ by q (set.contains regions q) refl))
-    where
-      by : (q : ℕ) (b : Bool) → set.contains regions q ≡ b → (set.contains regions q && nat_lt q 960) ≡ set.contains regions q
-      by q b there = grind (arith, user_region, lt_true, and-true)
+  regions_at_last = ap set.len (same_set (set.retain regions (λ r. nat_lt r 960)) regions (λ q. contains-retain regions (λ r. nat_lt r 960) q ∙ (grind (arith, user_region, lt_true, and-true))))
 
   pub regions_next : (s n k : ℕ) → 256 ≤ s → s < 960 → n ≡ regions_below regions s → k ≡ counted (is_some (table_of (frame_bytes bytes) d s)) → n + k ≡ regions_below regions (s + 1)
   regions_next s n k low high so_far one = grind (arith, below_next, region_table)

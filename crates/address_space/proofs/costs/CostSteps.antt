@@ -1,6 +1,5 @@
 -- The costs of all processes, and what one more page adds.
-use Rattle.address_space.proofs.Prelude
-use Prelude.{◌≡◌, ◌≢◌, ℕ, zero, suc, ◌+◌, ◌<◌, ◌≤◌, Bool, true, false, cond, ◌||◌, List, [], ◌∷◌, map, refl, ap, sym, ◌∙◌, arith, inl, inr, Option, Some, None, ◌*◌, ◌⊎◌, is_some, if◌then◌else◌, sum_by, option_map, option_and_then, list_any, range_with_len, is_some-find, cases_eq, sum_by-cons, slot_number, index_number, Frames, word_entry, entry_from, PageEntry, word_in, Set, nat_order, same, Slot, slot_order, Cell, Spaces, cost, cost_of, need, pages_of, regions_of, at_page, same_itself, same_or_not, get-insert, contains-from_list, list_any-map, same-true, Entries, cell_of, spaces_of, Directories, directory_of, table_in, entry_in, entries_in, live_cost, total_cost, InUseAt, or-true, is_some-map}
+use Rattle.address_space.proofs.Prelude.{◌≡◌, ◌≢◌, ℕ, zero, suc, ◌+◌, ◌<◌, ◌≤◌, Bool, true, false, cond, ◌||◌, List, [], ◌∷◌, map, refl, ap, sym, ◌∙◌, arith, inl, inr, Option, Some, None, ◌*◌, ◌⊎◌, is_some, if◌then◌else◌, sum_by, option_and_then, list_any, range_with_len, is_some-find, cases_eq, sum_by-cons, slot_number, index_number, Frames, word_entry, entry_from, PageEntry, word_in, Set, nat_order, same, Slot, slot_order, Cell, Spaces, cost, cost_of, need, pages_of, regions_of, at_page, same_itself, same_or_not, get-insert, contains-from_list, list_any-map, same-true, Entries, spaces_of, Directories, directory_of, table_in, entry_in, entries_in, live_cost, total_cost, InUseAt, or-true, is_some-map}
 use Rattle.address_space.proofs.entries.UserSlots.{in_user_slots}
 use Rattle.address_space.proofs.costs.Costs.{contains-pages_of, same_pages, cost-insert}
 use Rattle.address_space.proofs.entries.EntrySteps.{get-entries_in, entry_by_table}
@@ -13,26 +12,19 @@ use Rattle.page_words.specs.FiniteSet as set
 sum_same : (f g : ℕ → ℕ) (a n : ℕ) → ((q : ℕ) → a ≤ q → f q ≡ g q) → sum_by f (range_with_len a n) ≡ sum_by g (range_with_len a n)
 sum_same f g a zero is = refl
 sum_same f g a (suc n) is =
-    let s = sum_by-cons f a (range_with_len (a + 1) n) in
-    let t = sum_by-cons g a (range_with_len (a + 1) n) in
     let h : f a ≡ g a = is a (omega arith) in
     let r = sum_same f g (a + 1) n (λ q l. is q (omega arith)) in
-    omega (arith, s, t, h, r)
+    omega (arith, sum_by-cons f a (range_with_len (a + 1) n), sum_by-cons g a (range_with_len (a + 1) n), h, r)
 
 pub sum_one : (f g : ℕ → ℕ) (p k a n : ℕ) → a ≤ p → p < a + n → f p ≡ g p + k → ((q : ℕ) → q ≢ p → f q ≡ g q) → sum_by f (range_with_len a n) ≡ sum_by g (range_with_len a n) + k
 sum_one f g p k a zero low high own others = absurd (omega arith)
 sum_one f g p k a (suc n) low high own others = elim (cases_eq p a) [
-  | inl same ↦ grind (arith, sum_by-cons, sum_same, above)
+  | inl same ↦ grind (arith, sum_by-cons, sum_same)
   | inr differ ↦
-      let s = sum_by-cons f a (range_with_len (a + 1) n) in
-      let t = sum_by-cons g a (range_with_len (a + 1) n) in
       let h : f a ≡ g a = others a (λ e. differ (sym e)) in
       let r = sum_one f g p k (a + 1) n (omega arith) (omega arith) own others in
-      omega (arith, s, t, h, r)
+      omega (arith, sum_by-cons f a (range_with_len (a + 1) n), sum_by-cons g a (range_with_len (a + 1) n), h, r)
 ]
-  where
-    above : (q a p : ℕ) → a + 1 ≤ q → q ≡ p → p ≡ a → ⊥
-    above q a p l e s = omega arith
 
 -- ---- All costs
 
@@ -80,9 +72,6 @@ counted b = if b then 1 else 2
 pub keys : (E : Entries) (m : ℕ → List ℕ) (q : Slot) → map_of.contains_key (spaces_of E m) q ≡ is_some (map_of.get E q)
 keys E m q = grind (arith, get-spaces_of)
 
-none_cell : (E : Entries) (m : ℕ → List ℕ) (q : Slot) (x : Option PageEntry) → x ≡ None → option_map (cell_of E m q) x ≡ None
-none_cell E m q x h = grind arith
-
 -- an entry more costs what its page needs
 pub total-entry : (directories : List (Option ℕ)) (E : Entries) (m m' : ℕ → List ℕ) (slot : Slot) (e : PageEntry) (cell : Cell) (d : ℕ) → slot.pid < 64 → directory_of directories slot.pid ≡ Some d → map_of.get E slot ≡ None
     → total_cost directories (spaces_of (map_of.insert E slot e) m') ≡ total_cost directories (spaces_of E m) + need (spaces_of E m) slot.pid slot.page
@@ -91,7 +80,7 @@ total-entry directories E m m' slot e cell d few live none =
     keys (map_of.insert E slot e) m' q ∙ ap is_some (get-insert E slot e q)
     ∙ either (same slot_order q slot) (map_of.get E q) (map_of.get (spaces_of E m) q) (sym (keys E m q))
     ∙ sym (ap is_some (get-insert (spaces_of E m) slot cell q)))
-    ∙ total-insert directories (spaces_of E m) slot cell d few live (get-spaces_of E m slot ∙ none_cell E m slot (map_of.get E slot) none)
+    ∙ total-insert directories (spaces_of E m) slot cell d few live (get-spaces_of E m slot ∙ (grind arith))
   where
     either : (b : Bool) (x : Option PageEntry) (y : Option Cell) → is_some x ≡ is_some y → is_some (cond b (Some e) x) ≡ is_some (cond b (Some cell) y)
     either b x y h = grind arith
@@ -121,9 +110,6 @@ need-two D m p page none = by (set.contains (regions_of (pages_of (spaces_of (en
 
 -- ---- Removal, as an insertion read backwards
 
-mapped_any : (o : Set nat_order) (k : ℕ) → set.contains o k ≡ true → list_any (same nat_order k) (set.items o) ≡ true
-mapped_any o k h = sym (is_some-find nat_order.cmp k o.entries) ∙ h
-
 spread : (k : ℕ) (ks : List ℕ) → list_any (same nat_order k) ks ≡ true → list_any (λ n. same nat_order (slot_number k) (slot_number n)) ks ≡ true
 spread k [] h = cc
 spread k (x ∷ xs) h = step (same_or_not nat_order k x) h (spread k xs)
@@ -137,7 +123,7 @@ spread k (x ∷ xs) h = step (same_or_not nat_order k x) h (spread k xs)
 pub region_there : (pages : Set nat_order) (k : ℕ) → set.contains pages k ≡ true → set.contains (regions_of pages) (slot_number k) ≡ true
 region_there pages k h =
     contains-from_list nat_order (map slot_number (set.items pages)) (slot_number k) ∙ list_any-map slot_number (same nat_order (slot_number k)) (set.items pages)
-    ∙ spread k (set.items pages) (mapped_any pages k h)
+    ∙ spread k (set.items pages) (sym (is_some-find nat_order.cmp k pages.entries) ∙ h)
 
 -- a table with an entry: so its region has a page, and one more needs no table
 pub need-one : (D : Directories) (m : Frames) (p page t : ℕ) → p < 64 → 0x40000 ≤ page → page < 0xf0000 → table_in D m p (slot_number page) ≡ Some t → InUseAt D m p (slot_number page) → need (spaces_of (entries_in D m) m) p page ≡ 1

@@ -1,6 +1,5 @@
 -- The pages of a process, and what one more page adds to the costs.
-use Rattle.address_space.proofs.Prelude
-use Prelude.{◌≡◌, ℕ, ◌+◌, Bool, true, false, cond, ◌||◌, ◌==◌, List, [], ◌∷◌, map, refl, sym, ap, ◌∙◌, Option, Some, None, arith, ◌&&◌, if◌then◌else◌, is_some, list_any, where_key, is_some-find, nat_order, same, Set, slot_number, Slot, slot_order, slot_cmp, Cell, Spaces, cost, cost_of, need, pages_of, regions_of, at_page, get-insert, same_set, contains-insert, contains-from_list, len-insert, list_any-map, list_any-put, unsigned_tied, eq_by_cmp_equiv, tied_then}
+use Rattle.address_space.proofs.Prelude.{◌≡◌, ℕ, ◌+◌, true, false, cond, ◌||◌, ◌==◌, List, [], ◌∷◌, map, refl, sym, ap, ◌∙◌, None, arith, ◌&&◌, is_some, list_any, where_key, is_some-find, nat_order, same, Set, slot_number, Slot, slot_order, slot_cmp, Cell, Spaces, cost, cost_of, need, pages_of, regions_of, at_page, get-insert, same_set, contains-insert, contains-from_list, len-insert, list_any-map, list_any-put, unsigned_tied, eq_by_cmp_equiv, tied_then}
 use Rattle.page_words.specs.FiniteMap as map
 use Rattle.page_words.specs.FiniteSet as set
 use Rattle.std.specs.Ordering.{is_eq, nat_cmp}
@@ -37,12 +36,9 @@ pub pages-insert : (spaces : Spaces) (slot : Slot) (cell : Cell) → pages_of (m
 pages-insert spaces slot cell = same_set (pages_of (map.insert spaces slot cell) slot.pid) (set.insert (pages_of spaces slot.pid) slot.page) (λ page.
     contains-pages_of (map.insert spaces slot cell) slot.pid page
     ∙ ap is_some (get-insert spaces slot cell (at_page slot.pid page))
-    ∙ some_or (same slot_order (at_page slot.pid page) slot) (map.get spaces (at_page slot.pid page))
+    ∙ (grind arith)
     ∙ (λ i. (sym (tied_then (nat_cmp slot.pid slot.pid) (nat_cmp page slot.page)) ∙ ap (λ b. b && same nat_order page slot.page) ((eq_by_cmp_equiv nat_order.total).refl slot.pid)) i || sym (contains-pages_of spaces slot.pid page) i)
     ∙ sym (contains-insert (pages_of spaces slot.pid) slot.page page))
-  where
-    some_or : (b : Bool) (x : Option Cell) → is_some (cond b (Some cell) x) ≡ (b || is_some x)
-    some_or b x = grind arith
 
 pub regions-insert : (pages : Set nat_order) (page : ℕ) → regions_of (set.insert pages page) ≡ set.insert (regions_of pages) (slot_number page)
 regions-insert pages page = same_set (regions_of (set.insert pages page)) (set.insert (regions_of pages) (slot_number page)) (λ r.
@@ -54,9 +50,6 @@ regions-insert pages page = same_set (regions_of (set.insert pages page)) (set.i
     contains-regions : (pages : Set nat_order) (r : ℕ) → set.contains (regions_of pages) r ≡ list_any (λ e. same nat_order r (slot_number e.0)) pages.entries
     contains-regions pages r = contains-from_list nat_order (map slot_number (set.items pages)) r ∙ list_any-map slot_number (same nat_order r) (set.items pages) ∙ list_any-map (λ e. e.0) (λ n. same nat_order r (slot_number n)) pages.entries
 
-counted : (b : Bool) (m n : ℕ) → 1 + cond b m (m + 1) + (n + 1) ≡ (1 + m + n) + (if b then 1 else 2)
-counted b m n = grind arith
-
 -- a new page costs its process what it needs
 pub cost-insert : (spaces : Spaces) (slot : Slot) (cell : Cell) → map.get spaces slot ≡ None → cost (map.insert spaces slot cell) slot.pid ≡ cost spaces slot.pid + need spaces slot.pid slot.page
 cost-insert spaces slot cell none =
@@ -65,4 +58,4 @@ cost-insert spaces slot cell none =
     ap cost_of (pages-insert spaces slot cell)
     ∙ ap (λ (s : Set nat_order). 1 + set.len s + set.len (set.insert pages slot.page)) (regions-insert pages slot.page)
     ∙ (λ i. 1 + len-insert (regions_of pages) (slot_number slot.page) tt i + (len-insert pages slot.page tt ∙ ap (λ b. cond b (set.len pages) (set.len pages + 1)) new) i)
-    ∙ counted (set.contains (regions_of pages) (slot_number slot.page)) (set.len (regions_of pages)) (set.len pages)
+    ∙ (grind arith)

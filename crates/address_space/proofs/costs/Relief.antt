@@ -1,6 +1,5 @@
 -- What a process's cost falls by when one of its pages goes.
-use Rattle.address_space.proofs.Prelude
-use Prelude.{◌≡◌, ◌≢◌, ℕ, ◌+◌, ◌*◌, ◌%◌, ◌<◌, ◌≤◌, Bool, true, false, cond, not, List, refl, ap, sym, ◌∙◌, arith, inl, inr, Option, Some, None, is_some, if◌then◌else◌, option_and_then, list_any, slot_number, same, same_or_not, same_itself, get-insert, get-retain_keys, get-map_values, frame_bytes, PageEntry, entry_at, Slot, slot_order, Cell, Spaces, cost, cost_of, need, pages_of, regions_of, without, is_slot, with_holders, at_page, user_slots, directory_of, entry_in, entries_in, spaces_in, IsAlone, IsShared, is_some-map, no_value}
+use Rattle.address_space.proofs.Prelude.{◌≡◌, ◌≢◌, ℕ, ◌+◌, ◌*◌, ◌%◌, ◌<◌, ◌≤◌, Bool, true, false, cond, not, List, refl, ap, sym, ◌∙◌, arith, inl, inr, Option, Some, None, is_some, if◌then◌else◌, option_and_then, list_any, slot_number, same, same_or_not, same_itself, get-insert, get-retain_keys, get-map_values, frame_bytes, PageEntry, entry_at, Slot, slot_order, Cell, Spaces, cost, cost_of, need, pages_of, regions_of, without, is_slot, with_holders, at_page, user_slots, directory_of, entry_in, entries_in, spaces_in, IsAlone, IsShared, is_some-map, no_value}
 use Rattle.address_space.proofs.costs.Costs.{contains-pages_of, same_pages, cost-insert}
 use Rattle.address_space.proofs.costs.CostSteps.{need-least, region_there, region_member, keys}
 use Rattle.address_space.proofs.entries.EntrySteps.{get-entries_in}
@@ -21,10 +20,7 @@ module _ (S : Spaces) (p page : ℕ) where
       ap is_some (get-map_values slot_order (λ slot cell. with_holders cell (set.retain cell.holders (λ s. not (is_slot p page s)))) (map.retain_keys S (λ s. not (is_slot p page s))) q)
       ∙ is_some-map (λ cell. with_holders cell (set.retain cell.holders (λ s. not (is_slot p page s)))) (map.get (map.retain_keys S (λ s. not (is_slot p page s))) q)
       ∙ ap is_some (get-retain_keys S (λ s. not (is_slot p page s)) q)
-      ∙ by (not (is_slot p page q))
-    where
-      by : (b : Bool) → is_some (cond b (map.get S q) None) ≡ cond b (is_some (map.get S q)) false
-      by b = grind arith
+      ∙ (grind arith)
 
   pub is_gone : map.get left slot ≡ None
   is_gone = no_value (map.get left slot) (key_left slot ∙ ap (λ b. cond (not b) (map.contains_key S slot) false) (same_itself slot_order slot))
@@ -38,11 +34,9 @@ module _ (S : Spaces) (p page : ℕ) where
       ap is_some (get-insert left slot cell q)
       ∙ elim (same_or_not slot_order q slot) [
         | inl h ↦ ap (λ b. is_some (cond b (Some cell) (map.get left q))) h.1 ∙ sym (ap is_some (ap (map.get S) h.0 ∙ found))
-        | inr h ↦ ap (λ b. is_some (cond b (Some cell) (map.get left q))) h ∙ others_left q (turned q h)
+        | inr h ↦ ap (λ b. is_some (cond b (Some cell) (map.get left q))) h
+            ∙ others_left q (grind (arith, same_or_not, same_itself))
       ]
-    where
-      turned : (q : Slot) → same slot_order q slot ≡ false → is_slot p page q ≡ false
-      turned q h = grind (arith, same_or_not, same_itself)
 
   pub cost_left : (cell : Cell) → map.get S slot ≡ Some cell → cost S p ≡ cost left p + need left p page
   cost_left cell found = ap cost_of (same_pages S (map.insert left slot cell) p p (λ other. sym (put_back_keys cell found (at_page p other)))) ∙ cost-insert left slot cell is_gone

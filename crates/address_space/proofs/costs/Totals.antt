@@ -1,6 +1,5 @@
 -- What each process and all together cost after each kind of change, as laws of the definitions.
-use Rattle.address_space.proofs.Prelude
-use Prelude.{◌≡◌, ◌≢◌, ℕ, ◌+◌, ◌<◌, ◌≤◌, Bool, true, false, cond, List, ap, sym, ◌∙◌, arith, Option, None, is_some, if◌then◌else◌, option_map, same, get-map_values, Slot, slot_order, Cell, Spaces, cost, cost_of, need, accessed, stored, protected, joined, set_holders, with_holders, cell_or_fresh, without, at_page, directory_of, total_cost, some_value}
+use Rattle.address_space.proofs.Prelude.{◌≡◌, ◌≢◌, ℕ, ◌+◌, ◌<◌, ◌≤◌, Bool, true, false, cond, List, ap, sym, ◌∙◌, arith, Option, None, is_some, if◌then◌else◌, option_map, same, get-map_values, Slot, slot_order, Cell, Spaces, cost, cost_of, need, accessed, stored, protected, joined, set_holders, with_holders, cell_or_fresh, without, at_page, directory_of, total_cost, some_value}
 use Rattle.address_space.proofs.costs.AccessCosts.{cost-same, key-insert, key-stored, kept}
 use Rattle.address_space.proofs.costs.Costs.{cost-insert, same_pages}
 use Rattle.address_space.proofs.costs.CostSteps.{total-insert, other_slot, need-most}

@@ -1,7 +1,6 @@
 -- Where frames agree, they and the lazy pages weigh no more than the costs: each process has as many uses as it costs,
 -- and a frame has a use for each of its slots.
-use Rattle.address_space.proofs.Prelude
-use Prelude.{◌≡◌, ℕ, zero, suc, ◌+◌, ◌*◌, ◌<◌, ◌≤◌, ◌==◌, Bool, true, cond, ◌||◌, List, [], ◌∷◌, ◌++◌, length, length-append, refl, ap, sym, subst, ◌∙◌, arith, inl, inr, Option, Some, None, slice_get, is_some, if◌then◌else◌, sum_by, unwrap_or, option_map, option_and_then, list_any, range_with_len, is_some-find, cases_eq, cases_lt, or_right, length-map, sum_by-cons, slot_number, index_number, Order, nat_order, same, Set, same_or_not, same_itself, contains-from_list, len-insert, frame_bytes, word_in, Role, Reserved, Free, Directory, Table, Page, weight, frames_weight, PageEntry, Frames, table_of, word_entry, entry_from, entry_at, Slot, slot_order, Spaces, cost, pages_of, regions_of, at_page, user_slots, Entries, names, holders_of, lazy_count, spaces_of, Directories, directory_of, table_in, entry_in, entries_in, spaces_in, live_cost, total_cost, eqb-true, eq-eqb, IsSound, InUse, weight_in, map as list_map}
+use Rattle.address_space.proofs.Prelude.{◌≡◌, ℕ, zero, suc, ◌+◌, ◌*◌, ◌<◌, ◌≤◌, ◌==◌, Bool, true, cond, ◌||◌, List, [], ◌∷◌, ◌++◌, length, length-append, refl, ap, sym, subst, ◌∙◌, arith, inl, inr, Option, Some, None, slice_get, is_some, if◌then◌else◌, sum_by, unwrap_or, option_map, option_and_then, list_any, range_with_len, is_some-find, cases_eq, cases_lt, or_right, length-map, sum_by-cons, slot_number, index_number, Order, nat_order, same, Set, same_or_not, contains-from_list, len-insert, frame_bytes, word_in, Role, Reserved, Free, Directory, Table, Page, weight, frames_weight, PageEntry, Frames, table_of, word_entry, entry_from, entry_at, Slot, slot_order, Spaces, cost, pages_of, regions_of, at_page, user_slots, Entries, names, holders_of, lazy_count, spaces_of, Directories, directory_of, table_in, entry_in, entries_in, spaces_in, live_cost, total_cost, eqb-true, eq-eqb, IsSound, InUse, weight_in, map as list_map}
 use Rattle.address_space.proofs.costs.Costs.{contains-pages_of}
 use Rattle.address_space.proofs.costs.CostSteps.{keys, region_there}
 use Rattle.address_space.proofs.costs.Hits.{once, hits, sum-hits, hits-append, hits-map, weights-below}
@@ -23,10 +22,7 @@ member {K} {o} s k h = sym (is_some-find o.cmp k s.entries) ∙ h
 
 any-append : {A : Type 0} (t : A → Bool) (xs ys : List A) → list_any t (xs ++ ys) ≡ (list_any t xs || list_any t ys)
 any-append t [] ys = refl
-any-append t (x ∷ xs) ys = ap (λ b. t x || b) (any-append t xs ys) ∙ or_assoc (t x) (list_any t xs) (list_any t ys)
-  where
-    or_assoc : (a b c : Bool) → (a || (b || c)) ≡ ((a || b) || c)
-    or_assoc a b c = grind arith
+any-append t (x ∷ xs) ys = ap (λ b. t x || b) (any-append t xs ys) ∙ (grind arith)
 
 module _ (directories : List (Option ℕ)) (bytes : List ℕ) (roles : List Role) (S : IsSound directories bytes roles) (used : InUse (directory_of directories) (frame_bytes bytes)) where
   abbrev D : Directories
@@ -71,11 +67,8 @@ module _ (directories : List (Option ℕ)) (bytes : List ℕ) (roles : List Role
   unfolding uses
   length-uses a zero = refl
   length-uses a (suc n) =
-      let both = length-append (uses_of a (D a)) (uses (a + 1) n) in
       let s = sum_by-cons (live_cost D spaces) a (range_with_len (a + 1) n) in
-      let own = length-uses_of a (D a) in
-      let rest = length-uses (a + 1) n in
-      omega (arith, both, s, own, rest)
+      omega (arith, length-append (uses_of a (D a)) (uses (a + 1) n), s, length-uses_of a (D a), length-uses (a + 1) n)
 
   hits-uses : (f p a n : ℕ) → a ≤ p → p < a + n → hits f (uses_of p (D p)) ≤ hits f (uses a n)
   unfolding uses
@@ -83,9 +76,8 @@ module _ (directories : List (Option ℕ)) (bytes : List ℕ) (roles : List Role
   hits-uses f p a (suc n) low high = elim (cases_eq p a) [
     | inl is ↦ grind (arith, hits-append, hits)
     | inr differ ↦
-        let both = hits-append f (uses_of a (D a)) (uses (a + 1) n) in
         let rest = hits-uses f p (a + 1) n (omega (arith, differ)) (omega arith) in
-        omega (arith, both, rest)
+        omega (arith, hits-append f (uses_of a (D a)) (uses (a + 1) n), rest)
   ]
 
   -- ---- Directories and tables
@@ -132,13 +124,11 @@ module _ (directories : List (Option ℕ)) (bytes : List ℕ) (roles : List Role
       by : (x : Option ℕ) → D p ≡ x → 1 ≤ hits f (uses 0 64)
       by None is = absurd (let n : table_in D m p s ≡ None = ap (option_and_then (λ d. table_of m d s)) is in cc)
       by (Some d) is =
-          let few = small p d is in
           let region = member (regions p) s (region-there p d s f is wide there) in
           let own = hits-map nat_order (table_at p) s f (set.items (regions p)) region (ap (λ o. unwrap_or o 0) there) in
           let both = hits-append f (list_map (table_at p) (set.items (regions p))) (list_map (frame_at p) (set.items (pages p))) in
-          let here : 1 ≤ hits f (uses_of p (D p)) = subst (λ x. 1 ≤ hits f (uses_of p x)) (sym is) (omega (arith, own, both)) in
-          let all = hits-uses f p 0 64 (omega arith) (omega (arith, few)) in
-          omega (arith, here, all)
+          let all = hits-uses f p 0 64 (omega arith) (omega (arith, small p d is)) in
+          omega (arith, subst (λ x. 1 ≤ hits f (uses_of p x)) (sym is) (omega (arith, own, both)), all)
 
   -- ---- Pages
 
@@ -157,13 +147,10 @@ module _ (directories : List (Option ℕ)) (bytes : List ℕ) (roles : List Role
   any-slots_hit : (f p page : ℕ) (ps : List ℕ) → list_any (same nat_order page) ps ≡ true → frame_at p page ≡ f → list_any (same slot_order (at_page p page)) (slots_hit f p ps) ≡ true
   any-slots_hit f p page [] h e = cc
   any-slots_hit f p page (x ∷ xs) h e = elim (same_or_not nat_order page x) [
-    | inl is ↦ first (frame_at p x == f) (eq-eqb (frame_at p x) f (ap (frame_at p) (sym is.0) ∙ e)) (ap (λ y. same slot_order (at_page p page) (at_page p y)) (sym is.0) ∙ same_itself slot_order (at_page p page))
+    | inl is ↦ grind arith
     | inr other ↦ later (frame_at p x == f) (any-slots_hit f p page xs (ap (λ b. b || list_any (same nat_order page) xs) (sym other) ∙ h) e)
   ]
     where
-      first : (b : Bool) → b ≡ true → same slot_order (at_page p page) (at_page p x) ≡ true → list_any (same slot_order (at_page p page)) (cond b (at_page p x ∷ slots_hit f p xs) (slots_hit f p xs)) ≡ true
-      first b h t = grind arith
-
       later : (b : Bool) → list_any (same slot_order (at_page p page)) (slots_hit f p xs) ≡ true → list_any (same slot_order (at_page p page)) (cond b (at_page p x ∷ slots_hit f p xs) (slots_hit f p xs)) ≡ true
       later b h = grind (arith, or_right)
 
@@ -232,12 +219,9 @@ module _ (directories : List (Option ℕ)) (bytes : List ℕ) (roles : List Role
   all-weigh [] first each = cc
   all-weigh (r ∷ rs) first each =
       let is : r ≡ Reserved = ap (λ o. unwrap_or o r) first in
-      let w : weight r ≡ 1 = ap weight is in
-      let s = sum_by-cons weight r rs in
       let rest = weights-below rs (λ f. hits f (uses 0 64)) 1 (λ i q is. (let e : suc i ≡ 1 + i = omega arith in subst (λ k. weight q ≤ hits k (uses 0 64)) e (each (suc i) q is (omega arith)))) in
-      let lazy = holders-hits 0 in
       let most = sum-hits (uses 0 64) 0 (suc (length rs)) in
-      omega (arith, w, s, rest, lazy, most)
+      omega (arith, ap weight is, sum_by-cons weight r rs, rest, holders-hits 0, most)
 
   weigh : ((p s t : ℕ) → slice_get roles t ≡ Some (Table p s) → s < 1024) → frames_weight roles + lazy_count E ≤ 1 + sum_by (live_cost D spaces) (range_with_len 0 64)
   weigh wide = subst (λ n. frames_weight roles + lazy_count E ≤ 1 + n) (length-uses 0 64) (all-weigh roles S.tables.zero_role (frame-hits wide))

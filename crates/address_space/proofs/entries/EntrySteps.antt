@@ -1,6 +1,5 @@
 -- How tables and entries change where one frame, one word or one role does.
-use Rattle.address_space.proofs.Prelude
-use Prelude.{◌≡◌, ◌≢◌, ℕ, ◌^◌, ◌<◌, ◌≤◌, Bool, true, false, cond, length, refl, ap, sym, ◌∙◌, subst, arith, inl, inr, Option, Some, None, option_and_then, list_any, cases_eq, slot_number, index_number, IsKernelTableWord, is_present, word_in, with_word_in, with_frame, with_frame-same, with_frame-other, word_in_same, word_in_other, length-with_word_in, Reserved, Directory, Table, PageEntry, Frames, word_table, table_of, word_entry, entry_at, Slot, slot_order, at_page, same, user_slots, same_or_not, same_itself, get-insert, same_map, get-collect, Directories, Roles, table_in, entry_in, entries_in, Tables, InUseAt}
+use Rattle.address_space.proofs.Prelude.{◌≡◌, ◌≢◌, ℕ, ◌^◌, ◌<◌, ◌≤◌, true, false, cond, length, refl, ap, sym, ◌∙◌, subst, arith, inl, inr, Option, Some, None, option_and_then, list_any, cases_eq, slot_number, index_number, IsKernelTableWord, is_present, word_in, with_word_in, with_frame, with_frame-same, with_frame-other, word_in_same, word_in_other, length-with_word_in, Reserved, Directory, Table, PageEntry, Frames, word_table, table_of, word_entry, entry_at, Slot, slot_order, at_page, same, user_slots, same_or_not, same_itself, get-insert, same_map, get-collect, Directories, Roles, table_in, entry_in, entries_in, Tables, InUseAt}
 use Rattle.address_space.proofs.entries.UserSlots.{in_user_slots}
 use Rattle.address_space.proofs.entries.Removal.{removed, kept_other}
 use Rattle.page_words.specs.FiniteMap as map
@@ -74,15 +73,11 @@ module _ (D : Directories) (m : Frames) (R : Roles) (T : Tables D m R) (p d page
         | inr differ ↦ ap (λ l. word_in l (index_number q.page)) (with_frame-other m t t' _ differ)
       ]
 
-      with_table_at : (d' : ℕ) → D q.pid ≡ Some d' → (y : Option ℕ) → table_of m d' (slot_number q.page) ≡ y
-          → option_and_then (λ table. word_entry (word_in (with_word_at m t page w table) (index_number q.page))) y ≡ option_and_then (λ table. word_entry (word_in (m table) (index_number q.page))) y
-      with_table_at d' is y found = grind (arith, word)
-
       by : (x : Option ℕ) → D q.pid ≡ x → option_and_then (λ d. entry_at (with_word_at m t page w) d q.page) x ≡ option_and_then (λ d. entry_at m d q.page) x
       by None is = refl
       by (Some d') is =
           ap (option_and_then (λ table. word_entry (word_in (with_word_at m t page w table) (index_number q.page)))) (ap (λ l. word_table (word_in l (slot_number q.page))) (dir_kept q.pid d' is))
-          ∙ with_table_at d' is (table_of m d' (slot_number q.page)) refl
+          ∙ (grind (arith, word))
 
   -- the whole map has that entry more
   pub entries-insert : (e : PageEntry) → word_entry w ≡ Some e → p < 64 → 0x40000 ≤ page → page < 0xf0000 → entries_in D (with_word_at m t page w) ≡ map.insert (entries_in D m) (at_page p page) e
@@ -118,18 +113,16 @@ module _ (D : Directories) (m : Frames) (R : Roles) (T : Tables D m R) (p d page
         differ,
       )
 
-  word_own : (g : ℕ) → g ≡ t → word_in (with_word_at m t page w g) (index_number page) ≡ w
-  word_own g same = grind (arith, with_frame-same, word_in_same, long_t)
-
   pub use_own : is_present w ≡ true → InUseAt D (with_word_at m t page w) p (slot_number page)
   use_own present g found =
       let k : Some g ≡ Some t = sym found ∙ tables_kept p (slot_number page) ∙ named in
       let same : g ≡ t = cc in
-      (index_number page, omega arith, ap is_present (word_own g same) ∙ present)
+      (index_number page, omega arith, ap is_present (grind (arith, with_frame-same, word_in_same, long_t)) ∙ present)
 
   pub use_kept : is_present w ≡ true → (q r : ℕ) → InUseAt D m q r → InUseAt D (with_word_at m t page w) q r
   use_kept present q r use_at g found = elim (cases_eq g t) [
-    | inl same ↦ (index_number page, omega arith, ap is_present (word_own g same) ∙ present)
+    | inl same ↦ (index_number page, omega arith, ap is_present (grind (arith, with_frame-same, word_in_same, long_t))
+        ∙ present)
     | inr differ ↦ let u = use_at g (sym (tables_kept q r) ∙ found) in (u.0, u.1, ap (λ l. is_present (word_in l u.0)) (with_frame-other m t g _ differ) ∙ u.2)
   ]
 
@@ -138,9 +131,6 @@ module _ (D : Directories) (m : Frames) (R : Roles) (T : Tables D m R) (p d page
   entries-remove holds = same_map _ _ (λ q.
       get-entries_in D (with_word_at m t page w) q
       ∙ elim (same_or_not slot_order q (at_page p page)) [
-        | inl h ↦ grind (arith, entry_own, nothing_there, removed)
+        | inl h ↦ grind (arith, entry_own, removed)
         | inr h ↦ grind (arith, entry_other, differ, get-entries_in, kept_other)
       ])
-    where
-      nothing_there : (b : Bool) → ◌≡◌ {A = Option PageEntry} (cond b None None) None
-      nothing_there b = grind arith

@@ -1,6 +1,5 @@
 -- What a slot, its bytes and its needs are read as.
-use Rattle.address_space.proofs.Prelude
-use Prelude.{◌≡◌, ℕ, ◌+◌, ◌*◌, ◌<◌, ◌≤◌, true, false, cond, List, length, take, refl, sym, arith, Option, Some, None, length-drop, slice_index, slice_get, is_some, option_and_then, option_map, get_or-drop, is_some-map, slot_number, frame_bytes, word_at, Role, Page, entry_at, IsKernelEntry, PageEntry, Slot, need, value_of, bytes_at, at_page, group_of, cell_of, spaces_of, holders_of, directory_of, entries_in, spaces_in, table_in, IsSound, InUse, Inside, byte-frame, length-frame, word_at-frame}
+use Rattle.address_space.proofs.Prelude.{◌≡◌, ℕ, ◌+◌, ◌*◌, ◌<◌, ◌≤◌, true, false, cond, List, refl, sym, arith, Option, Some, None, length-drop, slice_index, slice_get, is_some, option_and_then, option_map, get_or-drop, is_some-map, slot_number, frame_bytes, word_at, Role, Page, entry_at, IsKernelEntry, PageEntry, Slot, need, value_of, bytes_at, at_page, group_of, cell_of, spaces_of, directory_of, entries_in, spaces_in, table_in, IsSound, InUse, Inside, byte-frame, length-frame, word_at-frame}
 use Rattle.address_space.proofs.entries.UserSlots.{in_user_slots}
 use Rattle.address_space.proofs.entries.EntrySteps.{get-entries_in}
 use Rattle.address_space.proofs.costs.CostSteps.{need-one, need-two}
@@ -22,21 +21,15 @@ mapped_read directories bytes p d page live few low high = grind (arith, get-spa
 
 -- ---- Numbers in a page
 
-four_of : (xs : List ℕ) → 4 ≤ length xs → slice_index xs 0 + 256 * (slice_index xs 1 + 256 * (slice_index xs 2 + 256 * (slice_index xs 3 + 256 * 0))) ≡ value_of (take 4 xs)
-four_of xs h = grind arith
-
-one_of : (xs : List ℕ) → 1 ≤ length xs → slice_index xs 0 ≡ value_of (take 1 xs)
-one_of xs h = grind arith
-
 -- a word of memory is the number in its page's bytes
 pub word_read_in : (bytes : List ℕ) (f at : ℕ) → Inside bytes f → at + 4 ≤ 4096 → word_at bytes (4096 * f + at) ≡ value_of (bytes_at (frame_bytes bytes f) at 4)
 unfolding word_at
-word_read_in bytes f at i l = grind (arith, length-frame, length-drop, word_at-frame, four_of)
+word_read_in bytes f at i l = grind (arith, length-frame, length-drop, word_at-frame)
 
 pub byte_read_in : (bytes : List ℕ) (f at : ℕ) → Inside bytes f → at < 4096 → slice_index bytes (4096 * f + at) ≡ value_of (bytes_at (frame_bytes bytes f) at 1)
 byte_read_in bytes f at i l =
     let z : at ≡ at + 0 = omega arith in
-    grind (arith, length-frame, length-drop, byte-frame, get_or-drop, one_of)
+    grind (arith, length-frame, length-drop, byte-frame, get_or-drop)
 
 pub byte_in_frame : (bytes : List ℕ) (f at : ℕ) → at < 4096 → slice_index bytes (4096 * f + at) ≡ slice_index (frame_bytes bytes f) at
 byte_in_frame bytes f at l = sym (byte-frame bytes f at l)
@@ -53,12 +46,7 @@ need_read directories bytes p page used few low high = by (table_in (directory_o
     by None is = need-two (directory_of directories) (frame_bytes bytes) p page is
     by (Some t) is = need-one (directory_of directories) (frame_bytes bytes) p page t few low high is (used p (slot_number page))
 
--- the count of a page's frame is the size of the group
-pub holders_counted : (directories : List (Option ℕ)) (bytes : List ℕ) (roles : List Role) (f c : ℕ) → IsSound directories bytes roles → slice_get roles f ≡ Some (Page c)
-    → c ≡ set.len (holders_of (entries_in (directory_of directories) (frame_bytes bytes)) f)
-holders_counted directories bytes roles f c sound is = (sound.pages.counts f c is).1
-
 -- the size of a slot's group: the count of its page's frame, and 1 where it is lazy
 pub group_counted : (directories : List (Option ℕ)) (bytes : List ℕ) (roles : List Role) (slot : Slot) (e : PageEntry) (n : ℕ) → IsSound directories bytes roles → IsKernelEntry e
     → (e.lazy ≡ true → n ≡ 1) → (e.lazy ≡ false → slice_get roles e.frame ≡ Some (Page n)) → n ≡ set.len (group_of (entries_in (directory_of directories) (frame_bytes bytes)) slot e.frame)
-group_counted directories bytes roles slot e n sound rules lazy real = grind (arith, holders_counted, group-real)
+group_counted directories bytes roles slot e n sound rules lazy real = grind (arith, group-real)

@@ -1,17 +1,13 @@
 -- The spaces that a map from slots to page entries represents, given bytes for each frame; its steps are the machine's.
-use Rattle.address_space.proofs.Prelude
-use Prelude.{◌≡◌, ℕ, inl, inr, Bool, true, false, cond, not, ◌||◌, ◌==◌, List, refl, sym, ap, ◌∙◌, Option, Some, None, arith, ◌&&◌, if◌then◌else◌, is_some, unwrap_or, option_map, Map, same, Set, Slot, slot_order, Cell, Spaces, write_at, stored, joined, set_bytes, set_holders, store_in, with_bytes, with_holders, without, fresh, cell_or_fresh, join_in, zeros, same_or_not, get-insert, get-retain_keys, same_map, get-map_values, contains-insert, contains-retain, same_set, nat_eq_equiv, PageEntry, with_frame, Entries, names, nothing, holders_of, group_of, cell_of, spaces_of, eqb-true, eq-eqb, and-false, and-true}
+use Rattle.address_space.proofs.Prelude.{◌≡◌, ℕ, inl, inr, Bool, true, false, cond, not, ◌||◌, ◌==◌, List, refl, sym, ap, ◌∙◌, Option, Some, None, arith, ◌&&◌, if◌then◌else◌, is_some, unwrap_or, option_map, Map, same, Set, Slot, slot_order, Cell, Spaces, write_at, stored, joined, set_bytes, set_holders, store_in, with_bytes, with_holders, without, fresh, cell_or_fresh, join_in, zeros, same_or_not, get-insert, get-retain_keys, same_map, get-map_values, contains-insert, contains-retain, same_set, nat_eq_equiv, PageEntry, with_frame, Entries, names, nothing, holders_of, group_of, cell_of, spaces_of, eqb-true, eq-eqb, and-false, and-true}
 use Rattle.page_words.specs.FiniteMap as map
 use Rattle.page_words.specs.FiniteSet as set
-
-contained : (slot : Slot) (x : Option PageEntry) (f : ℕ) → (is_some (option_map (nothing slot) x) && names f x) ≡ names f x
-contained slot x f = grind arith
 
 pub contains-holders_of : (entries : Entries) (f : ℕ) (slot : Slot) → set.contains (holders_of entries f) slot ≡ names f (map.get entries slot)
 contains-holders_of entries f slot =
     contains-retain (map.map_values nothing entries) (λ s. names f (map.get entries s)) slot
     ∙ ap (λ x. is_some x && names f (map.get entries slot)) (get-map_values slot_order nothing entries slot)
-    ∙ contained slot (map.get entries slot) f
+    ∙ (grind arith)
 
 -- two maps name each frame at the same slots
 pub same_holders : (d e : Entries) (f : ℕ) → ((slot : Slot) → names f (map.get d slot) ≡ names f (map.get e slot)) → holders_of d f ≡ holders_of e f
@@ -65,10 +61,7 @@ spaces_kept : (entries : Entries) (bytes : ℕ → List ℕ) (slot : Slot) (new 
     → ((q : Slot) (d : PageEntry) → map.get entries q ≡ Some d → group_of (map.insert entries slot new) q d.frame ≡ group_of entries q d.frame)
     → spaces_of (map.insert entries slot new) bytes ≡ map.insert (spaces_of entries bytes) slot own
 spaces_kept entries bytes slot new own mine kept =
-    spaces_insert entries bytes slot new (spaces_of entries bytes) own mine (λ q x is. by q x is ∙ sym (get-spaces_of entries bytes q ∙ ap (option_map (cell_of entries bytes q)) is))
-  where
-    by : (q : Slot) (x : Option PageEntry) → map.get entries q ≡ x → option_map (cell_of (map.insert entries slot new) bytes q) x ≡ option_map (cell_of entries bytes q) x
-    by q x is = grind arith
+    spaces_insert entries bytes slot new (spaces_of entries bytes) own mine (λ q x is. (grind arith) ∙ sym (get-spaces_of entries bytes q ∙ ap (option_map (cell_of entries bytes q)) is))
 
 -- storing into the frame of a slot changes its group as the machine says
 pub store_refines : (entries : Entries) (bytes : ℕ → List ℕ) (slot : Slot) (e : PageEntry) (at : ℕ) (new : List ℕ) → map.get entries slot ≡ Some e → (e.frame == 0) ≡ false
@@ -97,16 +90,13 @@ pub names-insert : (entries : Entries) (slot : Slot) (new : PageEntry) (f : ℕ)
     → names f (map.get (map.insert entries slot new) q) ≡ cond (same slot_order q slot) (new.frame == f) (names f (map.get entries q))
 names-insert entries slot new f q = grind (arith, get-insert)
 
-either : (b x : Bool) → cond b true x ≡ (b || x)
-either b x = grind arith
-
 -- the frame of the new entry has that slot more
 pub holders-insert : (entries : Entries) (slot : Slot) (new : PageEntry) → holders_of (map.insert entries slot new) new.frame ≡ set.insert (holders_of entries new.frame) slot
 holders-insert entries slot new =
     same_set _ _ (λ q.
     contains-holders_of (map.insert entries slot new) new.frame q ∙ names-insert entries slot new new.frame q
     ∙ ap (λ b. cond (same slot_order q slot) b (names new.frame (map.get entries q))) (eqb_itself new.frame)
-    ∙ either (same slot_order q slot) (names new.frame (map.get entries q))
+    ∙ (grind arith)
     ∙ ap (λ b. same slot_order q slot || b) (sym (contains-holders_of entries new.frame q))
     ∙ sym (contains-insert (holders_of entries new.frame) slot q))
 
@@ -147,19 +137,13 @@ join_refines entries bytes giver slot e right found real none =
 
 -- ---- Slots that leave
 
-option_filter : {X Y : Type 0} (f : X → Y) (b : Bool) (x : Option X) → option_map f (cond b x None) ≡ cond b (option_map f x) None
-option_filter f b x = grind arith
-
-names-filter : (f : ℕ) (b : Bool) (x : Option PageEntry) → names f (cond b x None) ≡ (names f x && b)
-names-filter f b x = grind (arith, and-true, and-false)
-
 -- the entries of some slots go: the slots leave their groups as the machine says
 pub leave_refines : (entries : Entries) (bytes : ℕ → List ℕ) (gone : Slot → Bool) → spaces_of (map.retain_keys entries (λ s. not (gone s))) bytes ≡ without (spaces_of entries bytes) gone
 leave_refines entries bytes gone =
     let kept : Slot → Bool = λ s. not (gone s) in
     let entries' : Entries = map.retain_keys entries kept in
     let fewer : (f : ℕ) → holders_of entries' f ≡ set.retain (holders_of entries f) kept = λ f. same_set (holders_of entries' f) (set.retain (holders_of entries f) kept) (λ q.
-    contains-holders_of entries' f q ∙ ap (names f) (get-retain_keys entries kept q) ∙ names-filter f (kept q) (map.get entries q)
+    contains-holders_of entries' f q ∙ ap (names f) (get-retain_keys entries kept q) ∙ (grind (arith, and-true, and-false))
     ∙ ap (λ b. b && kept q) (sym (contains-holders_of entries f q)) ∙ sym (contains-retain (holders_of entries f) kept q)) in
     let f : Slot → Cell → Cell = λ q c. with_holders c (set.retain c.holders kept) in
     let alone : (q : Slot) → kept q ≡ true → set.insert set.empty q ≡ set.retain (set.insert set.empty q) kept = λ q stays. same_set (set.insert set.empty q) (set.retain (set.insert set.empty q) kept) (λ s.
@@ -181,9 +165,9 @@ leave_refines entries bytes gone =
     ] in
     same_map _ _ (λ q.
     get-spaces_of entries' bytes q ∙ ap (option_map (cell_of entries' bytes q)) (get-retain_keys entries kept q)
-    ∙ option_filter (cell_of entries' bytes q) (kept q) (map.get entries q)
+    ∙ (grind arith)
     ∙ each q (map.get entries q) (kept q) refl ∙ ap (λ x. cond (kept q) (option_map (f q) x) None) (sym (get-spaces_of entries bytes q))
-    ∙ sym (option_filter (f q) (kept q) (map.get (spaces_of entries bytes) q))
+    ∙ sym (grind arith)
     ∙ ap (option_map (f q)) (sym (get-retain_keys (spaces_of entries bytes) kept q))
     ∙ sym (get-map_values slot_order f (map.retain_keys (spaces_of entries bytes) kept) q))
 

@@ -1,6 +1,5 @@
 -- A map without a key, and the key put back.
-use Rattle.address_space.proofs.Prelude
-use Prelude.{arith, ◌≡◌, true, cond, ap, sym, ◌∙◌, inl, inr, Some, None, not, Map, same, Slot, slot_order, same_itself, same_or_not, same_map, get-insert, get-retain_keys}
+use Rattle.address_space.proofs.Prelude.{arith, ◌≡◌, true, cond, ap, sym, ◌∙◌, inl, inr, Some, None, not, Map, same, Slot, slot_order, same_itself, same_or_not, same_map, get-insert, get-retain_keys}
 use Rattle.page_words.specs.FiniteMap as map_of
 
 get-remove : {X : Type 0} (m : Map slot_order X) (k q : Slot) → map_of.get (map_of.remove m k) q ≡ cond (not (same slot_order k q)) (map_of.get m q) None

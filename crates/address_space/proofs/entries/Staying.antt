@@ -1,6 +1,5 @@
 -- Entries on the same frame, and in the same table, after a change.
-use Rattle.address_space.proofs.Prelude
-use Prelude.{arith, subst, ◌≡◌, ℕ, false, cond, ap, sym, ◌∙◌, inl, inr, Some, None, none_goes, Gone, of_page, of_lazy, entry_frame, EntriesStay, PlacesStay, slot_table, option_map, get-insert, same_or_not, same_itself, PageEntry, Slot, slot_order, at_page, Entries, slot_number, Frames, Directories, table_in, entries_in, eq-eqb}
+use Rattle.address_space.proofs.Prelude.{arith, subst, ◌≡◌, ℕ, false, cond, ap, sym, ◌∙◌, inl, inr, Some, None, none_goes, Gone, of_page, of_lazy, entry_frame, EntriesStay, PlacesStay, slot_table, option_map, get-insert, same_or_not, same_itself, PageEntry, Slot, slot_order, at_page, Entries, slot_number, Frames, Directories, table_in, entries_in, eq-eqb}
 use Rattle.address_space.proofs.entries.EntrySteps.{get-entries_in, entry_by_table}
 use Rattle.address_space.proofs.entries.Removal.{kept_other}
 use Rattle.page_words.specs.FiniteMap as map

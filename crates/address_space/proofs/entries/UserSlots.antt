@@ -1,13 +1,9 @@
 -- Every slot of the user range is one of the user slots.
-use Rattle.address_space.proofs.Prelude
-use Prelude.{◌≡◌, ℕ, zero, suc, ◌+◌, ◌<◌, ◌≤◌, Bool, true, false, ◌||◌, List, [], ◌∷◌, ◌++◌, map, refl, sym, ap, ◌∙◌, arith, inl, inr, list_any, range_with_len, same, nat_order, same_or_not, same_itself, list_any-map, slot_order, at_page, user_slots, slots_below, or-true}
+use Rattle.address_space.proofs.Prelude.{◌≡◌, ℕ, zero, suc, ◌+◌, ◌<◌, ◌≤◌, Bool, true, false, ◌||◌, List, [], ◌∷◌, ◌++◌, map, refl, sym, ap, ◌∙◌, arith, inl, inr, list_any, range_with_len, same, nat_order, same_or_not, same_itself, list_any-map, slot_order, at_page, user_slots, slots_below, or-true}
 
 any-append : {A : Type 0} (t : A → Bool) (xs ys : List A) → list_any t (xs ++ ys) ≡ (list_any t xs || list_any t ys)
 any-append t [] ys = refl
-any-append t (x ∷ xs) ys = ap (λ b. t x || b) (any-append t xs ys) ∙ or_assoc (t x) (list_any t xs) (list_any t ys)
-  where
-    or_assoc : (a b c : Bool) → (a || (b || c)) ≡ ((a || b) || c)
-    or_assoc a b c = grind arith
+any-append t (x ∷ xs) ys = ap (λ b. t x || b) (any-append t xs ys) ∙ (grind arith)
 
 range_any : (x a n : ℕ) → a ≤ x → x < a + n → list_any (λ y. same nat_order x y) (range_with_len a n) ≡ true
 range_any x a zero low high = absurd (omega arith)

@@ -1,6 +1,5 @@
 -- How tables and entries stay where a page's bytes or its role change, and how a blank table is linked.
-use Rattle.address_space.proofs.Prelude
-use Prelude.{◌≡◌, ◌≢◌, ℕ, ◌^◌, ◌<◌, ◌≤◌, false, List, length, replicate, ap, sym, ◌∙◌, subst, arith, inl, inr, Some, None, ◌⊎◌, option_and_then, cases_eq, length-replicate, slot_number, index_number, IsKernelDirWord, IsKernelTableWord, is_present, word_in, with_word_in, with_frame, with_frame-same, with_frame-other, word_in_same, word_in_other, length-with_word_in, word_in-zeros, Role, Reserved, Free, Directory, Table, Frames, table_of, word_entry, with_table, without_table, link_word, Slot, Directories, Roles, table_in, entry_in, entries_in, Tables, InUseAt, link_word-lt, word_table-link_word, link_word-names}
+use Rattle.address_space.proofs.Prelude.{◌≡◌, ◌≢◌, ℕ, ◌^◌, ◌<◌, ◌≤◌, false, List, length, replicate, ap, sym, ◌∙◌, subst, arith, inl, inr, Some, None, ◌⊎◌, option_and_then, cases_eq, length-replicate, slot_number, index_number, IsKernelDirWord, IsKernelTableWord, is_present, word_in, with_word_in, with_frame, with_frame-same, with_frame-other, word_in_same, word_in_other, length-with_word_in, word_in-zeros, Role, Reserved, Free, Directory, Table, Frames, table_of, word_entry, with_table, without_table, link_word, Slot, Directories, Roles, table_in, entry_in, entries_in, Tables, InUseAt, link_word-lt, word_table-link_word, link_word-names}
 use Rattle.address_space.proofs.entries.EntrySteps.{Loose, same_entries, entry_by_table, entry_kept}
 
 -- ---- A frame's bytes
@@ -108,7 +107,7 @@ module _ (D : Directories) (m : Frames) (R : Roles) (T : Tables D m R) (p d s t 
       | inl x ↦ grind (arith, one_directory, word_in_same, long_d, link_word-lt, link_word-names, one_up)
       | inr n ↦ subst IsKernelDirWord (sym (dir_word_kept q d' r is n)) (T.dir_words q d' r is h)
     ];
-    outside = λ q d' r is h o. dir_word_kept q d' r is (λ a b. out r o b) ∙ T.outside q d' r is h o;
+    outside = λ q d' r is h o. dir_word_kept q d' r is (λ a b. (grind arith)) ∙ T.outside q d' r is h o;
     table_words = λ q r f i is h. elim (here_or_not p s q r) [
       | inl x ↦
           let e : Some f ≡ Some t = sym is ∙ (λ i. table_in D (with_table m d s t) (x.0 i) (x.1 i)) ∙ linked-own in
@@ -119,9 +118,6 @@ module _ (D : Directories) (m : Frames) (R : Roles) (T : Tables D m R) (p d s t 
     long =
         grind (arith, cases_eq, own_table, length-replicate, length-with_word_in, long_d, linked-other);
   }
-    where
-      out : (r : ℕ) → (r < 256) ⊎ (960 ≤ r) → r ≡ s → ⊥
-      out r h b = grind arith
 
 -- ---- A table is unlinked
 

@@ -1,14 +1,9 @@
 -- How pages and their counts change with one entry, and what the bytes of pages give.
-use Rattle.address_space.proofs.Prelude
-use Prelude.{Bool, ◌≡◌, ◌≢◌, ℕ, ◌+◌, true, false, cond, List, refl, ap, sym, ◌∙◌, arith, inl, inr, Option, Some, None, ◌⊎◌, option_map, cases_eq, ne_eqb, Reserved, Free, Directory, Table, Page, PageEntry, same, Slot, slot_order, same_or_not, same_itself, get-insert, same_map, same_set, len-insert, Entries, names, holders_of, lazy_count, cell_of, spaces_of, Roles, Pages, HoldsPage}
+use Rattle.address_space.proofs.Prelude.{◌≡◌, ◌≢◌, ℕ, ◌+◌, true, false, cond, List, ap, sym, ◌∙◌, arith, inl, inr, Some, None, cases_eq, ne_eqb, Reserved, Free, Directory, Table, Page, PageEntry, same, Slot, slot_order, same_or_not, same_itself, get-insert, same_map, same_set, len-insert, Entries, names, holders_of, lazy_count, spaces_of, Roles, Pages, HoldsPage}
 use Rattle.address_space.proofs.entries.Removal.{put_back, removed, kept_other}
 use Rattle.address_space.proofs.entries.Refinement.{contains-holders_of, same_holders, names-insert_same, holders-insert, holders-other, get-spaces_of, Unused}
 use Rattle.page_words.specs.FiniteMap as map
 use Rattle.page_words.specs.FiniteSet as set
-
--- the entry at a slot after one was put in: the new one, or one from before
-inserted : (E : Entries) (slot : Slot) (e : PageEntry) (q : Slot) (d : PageEntry) → map.get (map.insert E slot e) q ≡ Some d → (d ≡ e) ⊎ (map.get E q ≡ Some d)
-inserted E slot e q d is = grind (arith, same_or_not, get-insert)
 
 -- a frame that an entry may name is no free frame, no table and no directory
 pub no_free : (R : Roles) (f g : ℕ) → HoldsPage (R f) → R g ≡ Some Free → f ≢ g
@@ -30,15 +25,12 @@ unused_count E R f P free = sym (ap set.len (same_set (holders_of E f) set.empty
 
 -- spaces see the bytes of the frames that entries name, and no others
 pub same_bytes : (E : Entries) (m m' : ℕ → List ℕ) → ((q : Slot) (d : PageEntry) → map.get E q ≡ Some d → m' d.frame ≡ m d.frame) → spaces_of E m' ≡ spaces_of E m
-same_bytes E m m' is = same_map _ _ (λ q. get-spaces_of E m' q ∙ by q (map.get E q) refl ∙ sym (get-spaces_of E m q))
-  where
-    by : (q : Slot) (x : Option PageEntry) → map.get E q ≡ x → option_map (cell_of E m' q) x ≡ option_map (cell_of E m q) x
-    by q x found = grind arith
+same_bytes E m m' is = same_map _ _ (λ q. get-spaces_of E m' q ∙ (grind arith) ∙ sym (get-spaces_of E m q))
 
 -- an entry that keeps its frame
 pub pages-same : (E : Entries) (R : Roles) (slot : Slot) (old new : PageEntry) → Pages E R → map.get E slot ≡ Some old → new.frame ≡ old.frame → Pages (map.insert E slot new) R
 pages-same E R slot old new P found kept = record {
-  pages = grind (arith, inserted);
+  pages = grind (arith, same_or_not, get-insert);
   counts = λ f c is. let old_counts = P.counts f c is in (old_counts.0, old_counts.1 ∙ sym (ap set.len (same_holders (map.insert E slot new) E f (names-insert_same E slot old new found kept f))));
 }
 
@@ -46,7 +38,7 @@ pages-same E R slot old new P found kept = record {
 pub pages-more : (E : Entries) (R R' : Roles) (slot : Slot) (e : PageEntry) (n : ℕ) → Pages E R → ((f c : ℕ) → R' f ≡ Some (Page c) → names f (map.get E slot) ≡ false) → R' e.frame ≡ Some (Page (n + 1)) → n ≡ set.len (holders_of E e.frame)
     → ((g : ℕ) → g ≢ e.frame → R' g ≡ R g) → Pages (map.insert E slot e) R'
 pages-more E R R' slot e n P none own count others = record {
-  pages = grind (arith, inserted, cases_eq);
+  pages = grind (arith, same_or_not, get-insert, cases_eq);
   counts = λ f c is. elim (cases_eq f e.frame) [
     | inl same ↦
         let k : Some (Page c) ≡ Some (Page (n + 1)) = sym is ∙ ap R' same ∙ own in
@@ -85,7 +77,7 @@ pages-role E R R' f h k before after others = grind arith
 -- a new lazy entry
 pub pages-lazy : (E : Entries) (R : Roles) (slot : Slot) (e : PageEntry) → Pages E R → map.get E slot ≡ None → e.frame ≡ 0 → R 0 ≡ Some Reserved → Pages (map.insert E slot e) R
 pages-lazy E R slot e P none lazy zero = record {
-  pages = grind (arith, inserted);
+  pages = grind (arith, same_or_not, get-insert);
   counts = λ f c is. let old = P.counts f c is in (old.0, old.1 ∙ sym (ap set.len (holders-other E slot e f (ap (names f) none) (ne_eqb e.frame f (λ same. let k : R 0 ≡ R f = ap R (sym lazy ∙ same) in cc)))));
 }
 
@@ -107,10 +99,7 @@ lazy-same E slot old new found kept = same_holders (map.insert E slot new) E 0 (
 -- or where one has a frame of its own from now on
 pub lazy-fewer : (E : Entries) (slot : Slot) (new : PageEntry) → new.frame ≢ 0 → (q : Slot) → set.contains (holders_of E 0) q ≡ false → set.contains (holders_of (map.insert E slot new) 0) q ≡ false
 lazy-fewer E slot new real q was =
-    contains-holders_of (map.insert E slot new) 0 q ∙ ap (names 0) (get-insert E slot new q) ∙ by (same slot_order q slot)
-  where
-    by : (b : Bool) → names 0 (cond b (Some new) (map.get E q)) ≡ false
-    by b = grind (arith, ne_eqb, contains-holders_of)
+    contains-holders_of (map.insert E slot new) 0 q ∙ ap (names 0) (get-insert E slot new q) ∙ (grind (arith, ne_eqb, contains-holders_of))
 
 -- an entry that goes: its frame has one slot less, and every other as many
 pub holders-less : (E : Entries) (slot : Slot) (e : PageEntry) → map.get E slot ≡ Some e
@@ -130,12 +119,10 @@ holders-less E slot e found = (
 -- a lazy page gets a frame: one lazy page less
 pub lazy-filled : (E : Entries) (slot : Slot) (old new : PageEntry) → map.get E slot ≡ Some old → old.frame ≡ 0 → new.frame ≢ 0 → lazy_count (map.insert E slot new) + 1 ≡ lazy_count E
 lazy-filled E slot old new found lazy real =
-    let less = (holders-less E slot old found).0 in
     let same : holders_of (map.insert E slot new) 0 ≡ holders_of (map.remove E slot) 0 = same_holders (map.insert E slot new) (map.remove E slot) 0 (λ q.
     elim (same_or_not slot_order q slot) [
       | inl h ↦ ap (names 0) (get-insert E slot new q ∙ ap (λ b. cond b (Some new) (map.get E q)) h.1) ∙ ne_eqb new.frame 0 real ∙ sym (ap (names 0) (ap (map.get (map.remove E slot)) h.0 ∙ removed E slot))
       | inr h ↦ ap (names 0) (get-insert E slot new q ∙ ap (λ b. cond b (Some new) (map.get E q)) h) ∙ sym (ap (names 0) (kept_other E slot q (λ e. let b = same_itself slot_order slot in let c : same slot_order q slot ≡ true = ap (λ x. same slot_order x slot) e ∙ b in cc)))
     ]) in
     let l : set.len (holders_of (map.insert E slot new) 0) ≡ set.len (holders_of (map.remove E slot) old.frame) = ap set.len (same ∙ ap (holders_of (map.remove E slot)) (sym lazy)) in
-    let r : set.len (holders_of E old.frame) ≡ set.len (holders_of E 0) = ap (λ g. set.len (holders_of E g)) lazy in
-    omega (arith, less, l, r)
+    omega (arith, (holders-less E slot old found).0, l, ap (λ g. set.len (holders_of E g)) lazy)

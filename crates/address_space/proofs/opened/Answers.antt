@@ -1,5 +1,4 @@
-use Rattle.address_space.proofs.Prelude
-use Prelude.{ap, sym, ◌∙◌, subst, replicate, length, None, blank_bytes, spaces_in, IsSpaces, opening_roles, IsCounted}
+use Rattle.address_space.proofs.Prelude.{ap, sym, ◌∙◌, subst, replicate, length, None, blank_bytes, spaces_in, IsSpaces, opening_roles, IsCounted}
 use Rattle.address_space.proofs.steps.Openings.{opening_is_sound, opening_spaces, opening_length, opening_cost}
 use Rattle.address_space.proofs.steps.CountSteps.{opening_counted}
 use Rattle.address_space.proofs.opened.Goals as goal

@@ -1,6 +1,5 @@
 -- Slots whose walk leads to the same frame after a change.
-use Rattle.address_space.proofs.Prelude
-use Prelude.{arith, ◌≡◌, ℕ, false, List, refl, ap, sym, ◌∙◌, Option, Some, option_map, option_and_then, frame_number, slot_number, frame_bytes, Role, PageEntry, entry_from, Slot, at_page, Image, directory_at, page_word, image_from, directory_of, entries_in, IsSound, LooseStay, way_of, Gone, FramesStay, none_goes, entry_frame, PlacesStay}
+use Rattle.address_space.proofs.Prelude.{arith, ◌≡◌, ℕ, false, List, refl, ap, sym, ◌∙◌, Option, Some, option_map, option_and_then, frame_number, slot_number, frame_bytes, Role, PageEntry, Slot, at_page, Image, directory_at, page_word, image_from, directory_of, entries_in, IsSound, LooseStay, way_of, Gone, FramesStay, none_goes, entry_frame, PlacesStay}
 use Rattle.address_space.proofs.standing.Standing.{read_entry, same_table}
 
 -- the frame of a slot's word is that of its entry
@@ -9,10 +8,7 @@ pub frame_read : (directories : List (Option ℕ)) (bytes : List ℕ) (roles : L
     → entry_frame (entries_in (directory_of directories) (frame_bytes bytes)) slot ≡ option_map frame_number
     (page_word (image_from directories bytes roles) slot)
 frame_read directories bytes roles sound slot = ap (option_map (λ (x : PageEntry). x.frame))
-    (read_entry directories bytes roles sound slot) ∙ by (page_word (image_from directories bytes roles) slot)
-  where
-    by : (x : Option ℕ) → option_map (λ (x : PageEntry). x.frame) (option_map entry_from x) ≡ option_map frame_number x
-    by x = grind arith
+    (read_entry directories bytes roles sound slot) ∙ (grind arith)
 
 -- a way is a directory and a frame
 pub record Way (image : Image) (slot : Slot) (directory frame : ℕ) : Type 0 where
@@ -43,10 +39,9 @@ frames_stay_by gone directories directories' bytes bytes' roles roles' sound sou
       ∙ stay.tables slot f t stays (frame_read directories bytes roles sound slot ∙ was.names)
       (sym (same_table directories bytes roles sound slot.pid (slot_number slot.page)) ∙ is);
   ways = λ slot d f stays way.
-      let was = way_parts (image_from directories bytes roles) slot d f way in
       way_whole (image_from directories' bytes' roles') slot d f
       (record {
-        live = dirs slot d f stays was.live;
+        live = dirs slot d f stays (way_parts (image_from directories bytes roles) slot d f way).live;
         names = grind (arith, frame_read);
       });
 }

@@ -1,6 +1,5 @@
 -- The frames of a sound image with today's words agree, as a machine's own do.
-use Rattle.address_space.proofs.Prelude
-use Prelude.{◌≡◌, ℕ, zero, suc, ◌+◌, ◌*◌, ◌<◌, ◌≤◌, Bool, true, false, cond, List, [], ◌∷◌, length, refl, ap, sym, ◌∙◌, subst, arith, inl, inr, Option, Some, None, ◌⊎◌, ◌↔◌, is_some, slice_get, slice_index, IsTrue, if◌then◌else◌, option_and_then, option_map, cases_lt, slice_get_within, slot_number, index_number, frame_number, is_present, is_lazy, NamesPage, same_set, frame_bytes, word_in, length-frame, byte-frame, Role, Reserved, Directory, Table, Page, PageEntry, Frames, dir_word, word_entry, entry_from, count_range-same, Slot, slot_order, Cell, at_page, Entries, holders_of, spaces_of, Image, IsSoundImage, StandsFor, image_from, directory_at, word_of, is_user_slot, named_by, table_at, page_word, page_frame, CellStands, IsCount, own_frame, Directories, directory_of, table_in, entry_in, entries_in, spaces_in, IsCounted, pages_by, Tables, HoldsPage, IsSound, InUse, IsSpaces, All, range_with_len, get_or_default, HasRoom, words_by, counted_at, map as list_map}
+use Rattle.address_space.proofs.Prelude.{◌≡◌, ℕ, zero, suc, ◌+◌, ◌*◌, ◌<◌, ◌≤◌, Bool, true, false, cond, List, [], ◌∷◌, length, refl, ap, sym, ◌∙◌, subst, arith, inl, inr, Option, Some, None, is_some, slice_get, slice_index, option_and_then, option_map, cases_lt, slice_get_within, slot_number, index_number, frame_number, is_present, is_lazy, NamesPage, same_set, frame_bytes, word_in, length-frame, byte-frame, Role, Reserved, Directory, Table, Page, PageEntry, Frames, dir_word, word_entry, entry_from, count_range-same, Slot, slot_order, Cell, at_page, Entries, holders_of, spaces_of, Image, IsSoundImage, StandsFor, image_from, directory_at, word_of, is_user_slot, named_by, table_at, page_word, page_frame, CellStands, IsCount, own_frame, Directories, directory_of, table_in, entry_in, entries_in, spaces_in, IsCounted, pages_by, Tables, HoldsPage, IsSound, InUse, IsSpaces, All, range_with_len, get_or_default, HasRoom, words_by, counted_at, map as list_map}
 use Rattle.address_space.proofs.costs.CostSteps.{keys}
 use Rattle.address_space.proofs.costs.Weighed.{weighs}
 use Rattle.address_space.proofs.entries.EntrySteps.{get-entries_in, entry_by_table}
@@ -15,13 +14,9 @@ use Rattle.address_space.proofs.standing.TablesStand as tables
 pub some_of : (n : ℕ) → 16 ≤ n → 0 < n
 some_of n h = omega (arith, h)
 
--- a slot past either end of the user range
-beside : (s : ℕ) → (s < 256) ⊎ (960 ≤ s) → is_user_slot s ≡ false
-beside s h = grind arith
-
 -- a slot that names a table is one of the user range
 pub user_named : (s word t : ℕ) → named_by s word ≡ Some t → (256 ≤ s) × (s < 960)
-user_named s word t h = grind (arith, cases_lt, beside)
+user_named s word t h = grind (arith, cases_lt)
 
 pub from_map : {A B : Type 0} (f : A → B) (x : Option A) (b : B) → option_map f x ≡ Some b → (a : A) × (x ≡ Some a) × (f a ≡ b)
 from_map f x b h = grind arith
@@ -59,8 +54,7 @@ module _ (directories : List (Option ℕ)) (bytes : List ℕ) (roles : List Role
   wide : (p s t : ℕ) → slice_get roles t ≡ Some (Table p s) → s < 1024
   wide p s t is =
       let d = from_then (λ d. named_by s (word_of image d s)) (directory_at image p) t ((I.tables t p s).0 is) in
-      let low = user_named s (word_of image d.0 s) t d.2 in
-      omega (arith, low.1)
+      omega (arith, (user_named s (word_of image d.0 s) t d.2).1)
 
   tables_agree : Tables D m (slice_get roles)
   tables_agree = record {
@@ -72,19 +66,13 @@ module _ (directories : List (Option ℕ)) (bytes : List ℕ) (roles : List Role
     table = λ p s t is. (I.tables t p s).1 (same_table p s ∙ is);
     table_back = λ p s t is. sym (same_table p s) ∙ (I.tables t p s).0 is;
     dir_words = I.directory_words;
-    outside = λ p d s live inside out. I.no_more p d s live inside (beside s out);
+    outside = λ p d s live inside out. I.no_more p d s live inside (grind arith);
     table_words = λ p s t i is inside. I.table_words p s t i (same_table p s ∙ is) inside;
     long = λ f r is. whole f (slice_get_within roles f r is);
   }
 
   read_entry : (slot : Slot) → map.get E slot ≡ option_map entry_from (page_word image slot)
   read_entry = tables.read_entry directories bytes roles tables_agree pids
-
-  group_is : (f : ℕ) (slot : Slot) → 1 ≤ f → IsTrue (set.contains (holders_of E f) slot) ↔ (page_frame image slot ≡ Some f)
-  group_is = tables.group_is directories bytes roles tables_agree pids
-
-  page_up : (f c : ℕ) → slice_get roles f ≡ Some (Page c) → 1 ≤ f
-  page_up f c is = grind arith
 
   holds : (slot : Slot) (e : PageEntry) → map.get E slot ≡ Some e → HoldsPage (slice_get roles e.frame)
   holds slot e found =
@@ -100,7 +88,7 @@ module _ (directories : List (Option ℕ)) (bytes : List ℕ) (roles : List Role
   counted f c is =
       let k = I.counts f c is in
       let n : IsCount slot_order c (λ slot. page_frame image slot ≡ Some f) = k.1 in
-      let same = same_set n.members (holders_of E f) (λ slot. one_group _ _ (n.are slot) (group_is f slot (page_up f c is))) in
+      let same = same_set n.members (holders_of E f) (λ slot. one_group _ _ (n.are slot) ((tables.group_is directories bytes roles tables_agree pids) f slot (grind arith))) in
       (k.0, n.count ∙ ap set.len same)
 
   pub sound : IsSound directories bytes roles
@@ -132,8 +120,7 @@ module _ (directories : List (Option ℕ)) (bytes : List ℕ) (roles : List Role
     where
       each : All (λ b. b < 256) (m (frame_number word))
       each k d low =
-          let long = whole (frame_number word) inside in
-          let within : k < 4096 = omega (arith, low, long) in
+          let within : k < 4096 = omega (arith, low, whole (frame_number word) inside) in
           subst (λ b. b < 256) (sym (byte-frame bytes (frame_number word) k within) ∙ get_or_default (m (frame_number word)) k 0 d low) (small (4096 * frame_number word + k))
 
   -- cells on one frame have the same bytes
@@ -156,10 +143,7 @@ module _ (directories : List (Option ℕ)) (bytes : List ℕ) (roles : List Role
       let entry : entry_in D m q ≡ word_entry (word_in (m t) i) =
       entry_by_table D m q ∙ ap (option_and_then (λ table. word_entry (word_in (m table) (index_number page)))) (ap (table_in D m p) r ∙ sym (same_table p s) ∙ there) ∙ ap (λ i. word_entry (word_in (m t) i)) index in
       let found : map.get E q ≡ entry_in D m q = get-entries_in D m q ∙ ap (λ b. cond b (entry_in D m q) None) (in_user_slots p page (live_small directories p d.0 pids d.1) (omega (arith, user.0)) (omega (arith, user.1, low))) in
-      ap (λ i. is_present (word_in (m t) i)) first ∙ sym (keys E m q ∙ ap is_some (found ∙ entry) ∙ present (is_present (word_in (m t) i)) (entry_from (word_in (m t) i)))
-    where
-      present : (b : Bool) (e : PageEntry) → is_some (if b then Some e else None) ≡ b
-      present b e = grind arith
+      ap (λ i. is_present (word_in (m t) i)) first ∙ sym (keys E m q ∙ ap is_some (found ∙ entry) ∙ (grind arith))
 
   pages-words : (f : ℕ) (r : Role) → slice_get roles f ≡ Some r → words_by bytes f r ≡ pages_by (spaces_of E m) r
   pages-words f r is = grind (arith, count_range-same, word-mapped)

@@ -1,6 +1,5 @@
 -- Directories, memory and roles that agree represent their spaces, and no others.
-use Rattle.address_space.proofs.Prelude
-use Prelude.{◌≡◌, ◌≢◌, ℕ, ◌<◌, ◌≤◌, Bool, true, false, List, refl, ap, sym, ◌∙◌, subst, arith, inl, inr, Option, Some, None, not, ◌↔◌, ◌&&◌, is_some, slice_get, IsTrue, option_and_then, option_map, frame_number, is_present, NamesPage, same, same_map, same_set, frame_bytes, word_in, Role, Page, PageEntry, Frames, entry_from, entry_at, is_lazy_entry, Slot, Cell, cell_or_fresh, at_page, Entries, spaces_of, holders_of, Image, table_at, is_lazy_at, takes_stores, page_word, page_frame, IsSoundImage, SlotStands, StandsFor, image_from, StandsForOne, own_frame, Directories, directory_of, table_in, entry_in, entries_in, spaces_in, IsSound, IsSpaces, takes_stores_through, both_ways}
+use Rattle.address_space.proofs.Prelude.{◌≡◌, ◌≢◌, ℕ, ◌<◌, ◌≤◌, Bool, true, false, List, refl, ap, sym, ◌∙◌, subst, arith, inl, inr, Option, Some, None, not, ◌↔◌, ◌&&◌, is_some, slice_get, IsTrue, option_and_then, option_map, frame_number, is_present, NamesPage, same, same_map, same_set, frame_bytes, word_in, Role, Page, PageEntry, Frames, entry_from, entry_at, is_lazy_entry, Slot, Cell, cell_or_fresh, at_page, Entries, spaces_of, holders_of, Image, table_at, is_lazy_at, takes_stores, page_word, page_frame, IsSoundImage, SlotStands, StandsFor, image_from, StandsForOne, own_frame, Directories, directory_of, table_in, entry_in, entries_in, spaces_in, IsSound, IsSpaces, takes_stores_through, both_ways}
 use Rattle.address_space.proofs.entries.Readings.{mapped_read}
 use Rattle.address_space.proofs.steps.Steps.{live_small}
 use Rattle.address_space.proofs.steps.Stores.{cell_read}
@@ -65,9 +64,6 @@ module _ (directories : List (Option ℕ)) (bytes : List ℕ) (roles : List Role
   pub same_lazy : (slot : Slot) → is_lazy_at image slot ≡ is_lazy_entry (entry_in D m slot)
   same_lazy = tables.same_lazy directories bytes roles S.tables S.pids
 
-  group_is : (f : ℕ) (slot : Slot) → 1 ≤ f → IsTrue (set.contains (holders_of E f) slot) ↔ (page_frame image slot ≡ Some f)
-  group_is = tables.group_is directories bytes roles S.tables S.pids
-
   -- the slots that name frame 0 are the lazy ones
   pub lazy_slots : (slot : Slot) → IsTrue (set.contains (holders_of E 0) slot) ↔ IsTrue (is_lazy_at image slot)
   lazy_slots = tables.lazy_slots directories bytes roles S.tables S.pids
@@ -99,7 +95,7 @@ module _ (directories : List (Option ℕ)) (bytes : List ℕ) (roles : List Role
     directories = λ f p. (S.tables.directory_back p f, S.tables.directory p f);
     tables = λ f p s. (λ h. same_table p s ∙ S.tables.table_back p s f h, λ h. S.tables.table p s f (sym (same_table p s) ∙ h));
     pages = page_role;
-    counts = λ f c is. let a = S.pages.counts f c is in (a.0, record { members = holders_of E f; are = λ slot. group_is f slot (page_up f c is); count = a.1 });
+    counts = λ f c is. let a = S.pages.counts f c is in (a.0, record { members = holders_of E f; are = λ slot. (tables.group_is directories bytes roles S.tables S.pids) f slot (page_up f c is); count = a.1 });
     directory_words = S.tables.dir_words;
     no_more = λ p d s live i out. S.tables.outside p d s live i (not_user_slot s out);
     table_words = λ p s t i is l. S.tables.table_words p s t i (sym (same_table p s) ∙ is) l;
@@ -122,7 +118,7 @@ lazy_read directories bytes roles p d page sound live =
 -- whether the entry of a slot takes stores
 pub stores_read : (directories : List (Option ℕ)) (bytes : List ℕ) (roles : List Role) (p page : ℕ) → IsSound directories bytes roles → 0x40000 ≤ page → page < 0xf0000
     → takes_stores_through (entry_in (directory_of directories) (frame_bytes bytes) (at_page p page)) ≡ takes_stores (spaces_in directories bytes) (image_from directories bytes roles) (at_page p page)
-stores_read directories bytes roles p page sound low high = by_directory (directory_of directories p) refl
+stores_read directories bytes roles p page sound low high = grind (arith, m, others, no_cell, by_entry)
   where
     m : Frames
     m = frame_bytes bytes
@@ -144,12 +140,6 @@ stores_read directories bytes roles p page sound low high = by_directory (direct
         let lazy : is_lazy_at (image_from directories bytes roles) slot ≡ e.lazy = sym (lazy_read directories bytes roles p d page sound live) ∙ ap is_lazy_entry is in
         sym (λ i. there i && (write i && not (lazy i)))
 
-    by_directory : (x : Option ℕ) → directory_of directories p ≡ x → takes_stores_through (entry_in (directory_of directories) m slot) ≡ takes_stores (spaces_in directories bytes) (image_from directories bytes roles) slot
-    by_directory x none = grind (arith, m, others, no_cell, by_entry)
-
-same_truth : (x y : Bool) → (IsTrue x → IsTrue y) → (IsTrue y → IsTrue x) → x ≡ y
-same_truth x y f g = grind arith
-
 -- where the same slots name frame 0, the same pages are lazy
 pub lazy_kept : (directories : List (Option ℕ)) (bytes bytes' : List ℕ) (roles : List Role) → IsSound directories bytes roles → IsSound directories bytes' roles
     → holders_of (entries_in (directory_of directories) (frame_bytes bytes')) 0 ≡ holders_of (entries_in (directory_of directories) (frame_bytes bytes)) 0
@@ -158,7 +148,7 @@ lazy_kept directories bytes bytes' roles sound sound' same slot =
     let old = lazy_slots directories bytes roles sound slot in
     let new = lazy_slots directories bytes' roles sound' slot in
     let is = ap (λ h. set.contains h slot) same in
-    grind (arith, same_truth)
+    grind (arith)
 
 -- where no more slots name frame 0, a page that isn't lazy stays so
 pub real_kept : (directories : List (Option ℕ)) (bytes bytes' : List ℕ) (roles roles' : List Role) → IsSound directories bytes roles → IsSound directories bytes' roles'

@@ -1,6 +1,5 @@
 -- Tables and pages as an image names them, where directories and tables agree with the roles.
-use Rattle.address_space.proofs.Prelude
-use Prelude.{◌≡◌, ℕ, ◌+◌, ◌*◌, ◌<◌, ◌≤◌, Bool, true, false, cond, List, [], ◌∷◌, length, drop, refl, ap, sym, ◌∙◌, subst, arith, inl, inr, Option, Some, None, length-drop, ◌⊎◌, ◌↔◌, ◌&&◌, slice_get, slice_index, nat_lt, nat_le, IsTrue, if◌then◌else◌, option_and_then, option_map, list_any, cases_lt, nat_tests, slice_get_within, slot_number, index_number, frame_number, is_present, is_lazy, IsKernelTableWord, NamesPage, same, same_or_not, same_itself, contains-insert, frame_bytes, word_at, word_in, Role, Directory, Table, PageEntry, Frames, dir_word, entry_from, is_lazy_entry, Slot, slot_order, user_slots, Entries, names, group_of, spaces_of, holders_of, Image, word_of, is_user_slot, named_by, table_at, is_lazy_at, page_word, page_frame, SlotStands, image_from, IsOneGroup, present_word, own_frame, Directories, directory_of, table_in, entry_in, entries_in, Tables, eqb-true, eq-eqb}
+use Rattle.address_space.proofs.Prelude.{◌≡◌, ℕ, ◌+◌, ◌*◌, ◌<◌, ◌≤◌, true, false, cond, List, [], ◌∷◌, length, drop, refl, ap, sym, ◌∙◌, subst, arith, inl, inr, Option, Some, None, length-drop, ◌⊎◌, ◌↔◌, ◌&&◌, slice_get, slice_index, nat_lt, nat_le, IsTrue, if◌then◌else◌, option_and_then, option_map, list_any, cases_lt, nat_tests, slice_get_within, slot_number, index_number, frame_number, is_present, is_lazy, IsKernelTableWord, NamesPage, same, same_or_not, same_itself, contains-insert, frame_bytes, word_at, word_in, Role, Directory, Table, Frames, dir_word, entry_from, is_lazy_entry, Slot, slot_order, user_slots, Entries, names, group_of, spaces_of, holders_of, Image, word_of, is_user_slot, named_by, table_at, is_lazy_at, page_word, page_frame, SlotStands, image_from, IsOneGroup, present_word, own_frame, Directories, directory_of, table_in, entry_in, entries_in, Tables, eqb-true, eq-eqb}
 use Rattle.address_space.proofs.entries.UserSlots.{in_user_slots}
 use Rattle.address_space.proofs.entries.EntrySteps.{get-entries_in, entry_by_table}
 use Rattle.address_space.proofs.entries.Refinement.{get-spaces_of, contains-holders_of, group-real}
@@ -27,9 +26,6 @@ not_user_slot s h = grind (arith, cases_lt, user_slot_is)
 present_names : (word : ℕ) → is_present word ≡ true → IsKernelTableWord word → NamesPage word
 present_names word present h = grind arith
 
-taken : (b p : Bool) (w word : ℕ) → (if b && p then Some w else None) ≡ Some word → (w ≡ word) × (p ≡ true)
-taken b p w word h = grind arith
-
 -- a word's frame, where it has one of its own
 pub owned : (word f : ℕ) → own_frame 2 word ≡ Some f → (is_lazy word ≡ false) × (frame_number word ≡ f)
 owned word f h = grind arith
@@ -40,9 +36,6 @@ own_is word real = ap (λ b. if b then None else Some (frame_number word)) real
 -- an entry names a frame other than frame 0 where its word does
 named : (f : ℕ) (x : Option ℕ) → 1 ≤ f → ((word : ℕ) → x ≡ Some word → NamesPage word) → IsTrue (names f (option_map entry_from x)) ↔ (option_and_then (own_frame 2) x ≡ Some f)
 named f x up kernel = grind (arith, eq-eqb, owned, eqb-true, own_is)
-
-user_word_of : (b : Bool) (word t : ℕ) → (if b && is_present word then Some (frame_number word) else None) ≡ Some t → b ≡ true
-user_word_of b word t h = grind arith
 
 -- the tables that an image names, where no directory has a word outside the user range
 pub same_table_by : (directories : List (Option ℕ)) (bytes : List ℕ) (roles : List Role)
@@ -85,37 +78,26 @@ module _ (directories : List (Option ℕ)) (bytes : List ℕ) (roles : List Role
     where
       by_table : (d t : ℕ) → D slot.pid ≡ Some d → named_by (slot_number slot.page) (word_of image d (slot_number slot.page)) ≡ Some t → list_any (same slot_order slot) user_slots ≡ true
       by_table d t live is =
-          let user : is_user_slot (slot_number slot.page) ≡ true = user_word_of (is_user_slot (slot_number slot.page)) (word_of image d (slot_number slot.page)) t is in
-          let range = user_range (slot_number slot.page) user in
+          let range = user_range (slot_number slot.page) ((grind arith)) in
           in_user_slots slot.pid slot.page (live_small directories slot.pid d pids live) (omega (arith, range.0, range.1)) (omega (arith, range.0, range.1))
         where
           user_range : (s : ℕ) → is_user_slot s ≡ true → (256 ≤ s) × (s < 960)
           user_range s u = grind (arith, cases_lt)
 
-      by_named : (d : ℕ) → D slot.pid ≡ Some d → (x : Option ℕ) → named_by (slot_number slot.page) (word_of image d (slot_number slot.page)) ≡ x
-          → option_and_then (λ t. present_word image t (word_of image t (index_number slot.page))) x ≡ Some word → list_any (same slot_order slot) user_slots ≡ true
-      by_named d live x is k = grind (arith, by_table)
-
       by_directory : (x : Option ℕ) → D slot.pid ≡ x
           → option_and_then (λ t. present_word image t (word_of image t (index_number slot.page))) (option_and_then (λ d. named_by (slot_number slot.page) (word_of image d (slot_number slot.page))) x) ≡ Some word → list_any (same slot_order slot) user_slots ≡ true
       by_directory None is k = cc
-      by_directory (Some d) is k = by_named d is (named_by (slot_number slot.page) (word_of image d (slot_number slot.page))) refl k
+      by_directory (Some d) is k = grind (arith, by_table)
 
   pub read_entry : (slot : Slot) → map.get E slot ≡ option_map entry_from (page_word image slot)
-  read_entry slot = get-entries_in D m slot ∙ ap (λ x. cond (list_any (same slot_order slot) user_slots) x None) (same_entry slot) ∙ by (page_word image slot) refl
-    where
-      either : (b : Bool) → ◌≡◌ {A = Option PageEntry} (cond b None None) None
-      either b = grind arith
-
-      by : (x : Option ℕ) → page_word image slot ≡ x → cond (list_any (same slot_order slot) user_slots) (option_map entry_from x) None ≡ option_map entry_from x
-      by x is = grind (arith, either, user_page)
+  read_entry slot = get-entries_in D m slot ∙ ap (λ x. cond (list_any (same slot_order slot) user_slots) x None) (same_entry slot) ∙ (grind (arith, user_page))
 
   -- a slot's present word is one that the kernel writes
   pub word_names : (slot : Slot) (word : ℕ) → page_word image slot ≡ Some word → NamesPage word
   word_names slot word h = by (table_at image slot.pid (slot_number slot.page)) refl h
     where
       by : (x : Option ℕ) → table_at image slot.pid (slot_number slot.page) ≡ x → option_and_then (λ t. present_word image t (word_of image t (index_number slot.page))) x ≡ Some word → NamesPage word
-      by x is k = grind (arith, taken, present_names, same_table)
+      by x is k = grind (arith, present_names, same_table)
 
   -- whether a slot's page is lazy, by its word and by its entry
   pub same_lazy : (slot : Slot) → is_lazy_at image slot ≡ is_lazy_entry (entry_in D m slot)
@@ -128,12 +110,9 @@ module _ (directories : List (Option ℕ)) (bytes : List ℕ) (roles : List Role
   pub lazy_slots : (slot : Slot) → IsTrue (set.contains (holders_of E 0) slot) ↔ IsTrue (is_lazy_at image slot)
   lazy_slots slot = grind (arith, contains-holders_of, read_entry, word_names, eqb-true, eq-eqb)
 
-  -- a slot alone
-  alone : (slot other : Slot) → IsTrue (set.contains {o = slot_order} (set.insert set.empty slot) other) ↔ (other ≡ slot)
-  alone slot other = grind (arith, same_or_not, contains-insert, same_itself)
-
   whole_group : (slot : Slot) (word : ℕ) → NamesPage word → (other : Slot) → IsTrue (set.contains (group_of E slot (frame_number word)) other) ↔ IsOneGroup image slot word other
-  whole_group slot word kernel other = grind (arith, alone, group-real, nat_tests, group_is)
+  whole_group slot word kernel other =
+      grind (arith, same_or_not, contains-insert, same_itself, group-real, nat_tests, group_is)
 
   pub cell_stands : (slot : Slot) → SlotStands image slot (page_word image slot) (map.get (spaces_of E m) slot)
   cell_stands slot = grind (arith, get-spaces_of, read_entry, word_names, whole_group)

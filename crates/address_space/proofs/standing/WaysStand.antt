@@ -1,6 +1,5 @@
 -- Each walk that finds a frame goes the way of its slot.
-use Rattle.address_space.proofs.Prelude
-use Prelude.{◌≡◌, ◌≤◌, ◌==◌, ℕ, Bool, true, false, List, refl, ap, sym, ◌∙◌, arith, Option, Some, None, not, subst, Ok, Result, ◌&&◌, if◌then◌else◌, MatchBool, Err, option_map, option_and_then, is_ok, ne_eqb, frame_number, is_lazy, page_number, frame_bytes, Role, PageEntry, WalkEnd, Slot, slot_at, page_word, is_lazy_at, image_from, directory_of, entries_in, spaces_in, IsSound, IsSpaces, WaysAgree, eq-eqb, nat_tests, Access, Outside, walk_of, is_write, is_outside, not_allowed, entry_at, lets_writes, is_lazy_entry, end_at_entry, walks_read_entries, cell_of, FindsBytes, WalkEndsBy, WalksAgree}
+use Rattle.address_space.proofs.Prelude.{◌≡◌, ℕ, false, List, refl, ap, sym, ◌∙◌, arith, Option, Some, None, subst, option_map, option_and_then, is_ok, ne_eqb, page_number, frame_bytes, Role, PageEntry, slot_at, image_from, directory_of, entries_in, spaces_in, IsSound, IsSpaces, WaysAgree, eq-eqb, nat_tests, Access, walk_of, is_outside, entry_at, is_lazy_entry, end_at_entry, walks_read_entries, cell_of, WalkEndsBy, WalksAgree}
 use Rattle.address_space.proofs.standing.Standing.{word_names, same_entry, read_entry, same_lazy}
 use Rattle.address_space.proofs.standing.FramesStand.{frame_read, way_parts, way_whole}
 use Rattle.address_space.proofs.steps.Steps.{live_small, page_map_of, holds_inside}
@@ -33,16 +32,12 @@ module _ (directories : List (Option ℕ)) (bytes : List ℕ) (roles : List Role
       → walk_of bytes d address access ≡ end_at_entry bytes address access x
       → WalkEndsBy bytes d address access (is_lazy_entry x) (option_map (cell_of (entries_in (directory_of directories) (frame_bytes bytes)) (frame_bytes bytes) (slot_at p address)) x)
   ends_by p d address access live None at walk = walk
-  ends_by p d address access live (Some e) at walk = by (is_write access && not (lets_writes e)) walk
+  ends_by p d address access live (Some e) at walk = grind (arith, within)
     where
       within : is_outside bytes e.frame ≡ false
       within =
           let i = (holds_inside directories bytes roles e.frame sound (sound.pages.pages (slot_at p address) e (entry_found p d address e live at))).fits in
           grind (arith, nat_tests)
-
-      by : (b : Bool) → walk_of bytes d address access ≡ (if b then not_allowed address access else if is_outside bytes e.frame then Err Outside else Ok e.frame)
-          → MatchBool b (walk_of bytes d address access ≡ not_allowed address access) (FindsBytes bytes d address access (cell_of (entries_in (directory_of directories) (frame_bytes bytes)) (frame_bytes bytes) (slot_at p address) e))
-      by b h = grind (arith, within)
 
 pub walks_agree : (directories : List (Option ℕ)) (bytes : List ℕ) (roles : List Role) → IsSpaces directories bytes roles → WalksAgree (image_from directories bytes roles) (spaces_in directories bytes)
 walks_agree directories bytes roles s p d address access live small =
@@ -51,9 +46,6 @@ walks_agree directories bytes roles s p d address access live small =
     (subst (WalkEndsBy bytes d address access (is_lazy_entry (entry_at (frame_bytes bytes) d (page_number address)))) (sym (cell_of_entry directories bytes roles s.sound p d address live))
     (ends_by directories bytes roles s.sound p d address access live (entry_at (frame_bytes bytes) d (page_number address)) refl
     (walks_read_entries bytes d address access (page_map_of directories bytes roles p d s.sound live) small)))
-
-one_frame : (a b : ℕ) → ◌≡◌ {A = Result ℕ WalkEnd} (Ok a) (Ok b) → a ≡ b
-one_frame a b h = cc
 
 pub ways_agree : (directories : List (Option ℕ)) (bytes : List ℕ) (roles : List Role) → IsSound directories bytes roles
     → WaysAgree (image_from directories bytes roles)
@@ -67,17 +59,8 @@ ways_agree directories bytes roles sound = record {
         live = live;
         names = sym (frame_read directories bytes roles sound (slot_at p a))
             ∙ ap (option_map (λ (x : PageEntry). x.frame)) there
-            ∙ ap Some (one_frame e.entry.frame f (sym e.walk ∙ walk));
+            ∙ ap Some (cc);
       });
-  lazy = grind (arith, by, way_parts);
+  lazy = grind (arith, word_names, eq-eqb, ne_eqb, way_parts);
   clean = λ slot word is. (word_names directories bytes roles sound slot word is).clean;
 }
-  where
-    at_zero : (word f : ℕ) (b : Bool) → is_lazy word ≡ b → frame_number word ≡ f
-        → (is_lazy word ≡ false → 1 ≤ frame_number word) → (is_lazy word ≡ true → frame_number word ≡ 0)
-        → is_lazy word ≡ (f == 0)
-    at_zero word f b is same up h = grind (arith, eq-eqb, ne_eqb)
-
-    by : (slot : Slot) (f : ℕ) (x : Option ℕ) → page_word (image_from directories bytes roles) slot ≡ x
-        → option_map frame_number x ≡ Some f → is_lazy_at (image_from directories bytes roles) slot ≡ (f == 0)
-    by slot f x is names = grind (arith, word_names, at_zero)

@@ -1,6 +1,5 @@
 -- Accesses byte by byte, and as one where their bytes lie in one page.
-use Rattle.address_space.proofs.Prelude
-use Prelude.{◌≡◌, ℕ, zero, suc, ◌+◌, ◌*◌, ◌/◌, ◌<◌, ◌≤◌, Bool, true, false, cond, List, [], ◌∷◌, ◌++◌, length, take, drop, refl, ap, sym, ◌∙◌, arith, inl, inr, Option, Some, None, length-drop, ◌-◌, drop-drop, unwrap_or, option_map, slice_index, if◌then◌else◌, ◌⊎◌, range_with_len, slice_range, page_number, offset_number, byte_count, covered, second_page, EachTouched, Size, same, cases_lt, same_or_not, same_itself, same_map, get-insert, get-map_values, Slot, slot_order, at_page, slot_at, Cell, Spaces, fresh, cell_or_fresh, set_bytes, with_bytes, stored, store_in, write_at, bytes_at, bytes_of, value_of, byte_at, number_of, all_stored, get_or-drop, append-nil, drop-take, length-take-le, take-append-drop, stays, crosses, some_bytes, page_stays, page_next, ◌^◌, mul_assoc, mul_comm, pow-zero, map-append, range_split, map as each}
+use Rattle.address_space.proofs.Prelude.{◌≡◌, ℕ, zero, suc, ◌+◌, ◌*◌, ◌/◌, ◌<◌, ◌≤◌, true, false, cond, List, [], ◌∷◌, ◌++◌, length, take, drop, refl, ap, sym, ◌∙◌, arith, inl, inr, Option, Some, None, length-drop, ◌-◌, drop-drop, unwrap_or, option_map, slice_index, if◌then◌else◌, ◌⊎◌, range_with_len, slice_range, page_number, offset_number, byte_count, covered, second_page, EachTouched, Size, same, cases_lt, same_or_not, same_itself, same_map, get-insert, get-map_values, Slot, slot_order, at_page, slot_at, Cell, Spaces, fresh, cell_or_fresh, set_bytes, with_bytes, stored, store_in, write_at, bytes_at, bytes_of, value_of, byte_at, number_of, all_stored, get_or-drop, append-nil, drop-take, length-take-le, take-append-drop, stays, crosses, some_bytes, page_stays, page_next, ◌^◌, mul_assoc, mul_comm, pow-zero, map-append, range_split, map as each}
 use Rattle.std.proofs.lemmas.Grind.{pow_more}
 use Rattle.page_words.specs.FiniteMap as map
 use Rattle.page_words.specs.FiniteSet as set
@@ -18,19 +17,15 @@ pub value_by_places : (xs : List ℕ) (at n : ℕ) → value_of (each (slice_ind
 value_by_places xs at zero = refl
 value_by_places xs at (suc n) =
     ap (λ v. slice_index xs at + 256 * v) (value_by_places xs (at + 1) n)
-    ∙ by (drop at xs) refl (first ∙ sym (get_or-drop at xs 0 0))
+    ∙ by (drop at xs) refl ((let e : at ≡ at + 0 = omega arith in ap (slice_index xs) e) ∙ sym (get_or-drop at xs 0 0))
   where
-    first : slice_index xs at ≡ slice_index xs (at + 0)
-    first = let e : at ≡ at + 0 = omega arith in ap (slice_index xs) e
-
     rest : drop (at + 1) xs ≡ drop 1 (drop at xs)
     rest = sym (drop-drop 1 at xs)
 
     by : (ys : List ℕ) → drop at xs ≡ ys → slice_index xs at ≡ slice_index (drop at xs) 0 → slice_index xs at + 256 * value_of (take n (drop (at + 1) xs)) ≡ value_of (take (suc n) ys)
     by [] is e =
-        let z : slice_index xs at ≡ 0 = e ∙ ap (λ ys. slice_index ys 0) is in
         let v : value_of (take n (drop (at + 1) xs)) ≡ 0 = ap (λ ys. value_of (take n ys)) (rest ∙ ap (drop 1) is) ∙ none n in
-        omega (arith, z, v)
+        omega (arith, e ∙ ap (λ ys. slice_index ys 0) is, v)
       where
         none : (n : ℕ) → value_of (take n []) ≡ 0
         none n = grind arith
@@ -39,17 +34,11 @@ value_by_places xs at (suc n) =
 -- the bytes at some places in a row are those of a part
 pub bytes_by_places : (xs : List ℕ) (at n : ℕ) → at + n ≤ length xs → each (slice_index xs) (range_with_len at n) ≡ take n (drop at xs)
 bytes_by_places xs at zero fits = refl
-bytes_by_places xs at (suc n) fits = by (drop at xs) refl (length-drop at xs) (first ∙ sym (get_or-drop at xs 0 0)) (bytes_by_places xs (at + 1) n (omega (arith, fits)))
+bytes_by_places xs at (suc n) fits = by (drop at xs) refl (length-drop at xs) ((let e : at ≡ at + 0 = omega arith in ap (slice_index xs) e) ∙ sym (get_or-drop at xs 0 0)) (bytes_by_places xs (at + 1) n (omega (arith, fits)))
   where
-    first : slice_index xs at ≡ slice_index xs (at + 0)
-    first = let e : at ≡ at + 0 = omega arith in ap (slice_index xs) e
-
-    rest : drop (at + 1) xs ≡ drop 1 (drop at xs)
-    rest = sym (drop-drop 1 at xs)
-
     by : (ys : List ℕ) → drop at xs ≡ ys → length (drop at xs) ≡ length xs - at → slice_index xs at ≡ slice_index (drop at xs) 0
         → each (slice_index xs) (range_with_len (at + 1) n) ≡ take n (drop (at + 1) xs) → slice_index xs at ∷ each (slice_index xs) (range_with_len (at + 1) n) ≡ take (suc n) ys
-    by ys is long e others = grind (arith, rest)
+    by ys is long e others = grind (arith, (sym (drop-drop 1 at xs)))
 
 -- the number of two lists of bytes
 pub value-append : (xs ys : List ℕ) → value_of (xs ++ ys) ≡ value_of xs + 256 ^ length xs * value_of ys
@@ -66,9 +55,8 @@ bytes_in : (S : Spaces) (p page a o n : ℕ) → ((i : ℕ) → i < n → page_n
 bytes_in S p page a o zero pages places = refl
 bytes_in S p page a o (suc n) pages places =
     let z : a ≡ a + 0 = omega arith in
-    let first : page_number a ≡ page = ap page_number z ∙ pages 0 (omega arith) in
     let place : offset_number a ≡ o = let e = ap offset_number z ∙ places 0 (omega arith) in omega (arith, e) in
-    (λ i. slice_index (cell_or_fresh S (at_page p (first i))).bytes (place i)
+    (λ i. slice_index (cell_or_fresh S (at_page p ((ap page_number z ∙ pages 0 (omega arith)) i))).bytes (place i)
     ∷ bytes_in S p page (a + 1) (o + 1) n
     (λ i l. let e : a + 1 + i ≡ a + suc i = omega arith in ap page_number e ∙ pages (suc i) (omega (arith, l)))
     (λ i l. let e : a + 1 + i ≡ a + suc i = omega arith in let f : o + suc i ≡ o + 1 + i = omega arith in ap offset_number e ∙ places (suc i) (omega (arith, l)) ∙ f) i)
@@ -95,21 +83,19 @@ pub number_in_two : (S : Spaces) (p address behind : ℕ) (size : Size) → seco
     ≡ value_of (bytes_at (cell_or_fresh S (slot_at p address)).bytes (offset_number address) (4096 - offset_number address)
     ++ bytes_at (cell_or_fresh S (at_page p behind)).bytes 0 (offset_number address + byte_count size - 4096))
 number_in_two S p address behind size over long long' =
-    let next = (crosses address size behind over).next in
-    let past = (crosses address size behind over).past in
     let few = (some_bytes size).2 in
     let count = (some_bytes size).1 in
     let o : ℕ = offset_number address in
     let cut : ℕ = 4096 - o in
     let rest : ℕ = o + byte_count size - 4096 in
     let here : o < 4096 = omega arith in
-    let all : byte_count size ≡ cut + rest = omega (arith, past, here) in
+    let all : byte_count size ≡ cut + rest = omega (arith, (crosses address size behind over).past, here) in
     let first = bytes_in S p (page_number address) address o cut
     (λ i l. page_stays address i (omega (arith, l, here)))
     (λ i l. omega (arith, l, here))
     ∙ bytes_by_places (cell_or_fresh S (slot_at p address)).bytes o cut (omega (arith, long, here)) in
     let second = bytes_in S p behind (address + cut) 0 rest
-    (λ i l. omega (arith, next, l, few, count))
+    (λ i l. omega (arith, (crosses address size behind over).next, l, few, count))
     (λ i l. omega (arith, l, few, count))
     ∙ bytes_by_places (cell_or_fresh S (at_page p behind)).bytes 0 rest (omega (arith, long', few, count)) in
     ap (λ n. value_of (each (byte_at S p) (range_with_len address n))) all
@@ -169,9 +155,6 @@ module _ (S : Spaces) (slot : Slot) where
       f : List ℕ → Slot → Cell → Cell
       f bytes s c = if set.contains cell.holders s then with_bytes c bytes else c
 
-      over : (b : Bool) (x : Option Cell) → option_map (λ c. if b then with_bytes c v else c) (option_map (λ c. if b then with_bytes c w else c) x) ≡ option_map (λ c. if b then with_bytes c v else c) x
-      over b x = grind arith
-
       by : (q : Slot) → ((q ≡ slot) × (same slot_order q slot ≡ true)) ⊎ (same slot_order q slot ≡ false)
           → cond (same slot_order q slot) (Some last) (map.get (set_bytes (first w) cell.holders v) q) ≡ cond (same slot_order q slot) (Some last) (map.get (set_bytes S cell.holders v) q)
       by q (inl h) = ap (λ b. cond b (Some last) (map.get (set_bytes (first w) cell.holders v) q)) h.1 ∙ sym (ap (λ b. cond b (Some last) (map.get (set_bytes S cell.holders v) q)) h.1)
@@ -181,7 +164,7 @@ module _ (S : Spaces) (slot : Slot) where
           ∙ ap (option_map (f v q)) (get-insert (set_bytes S cell.holders w) slot (record cell { bytes = w; accessed = true; dirty = true }) q
           ∙ ap (λ b. cond b (Some (record cell { bytes = w; accessed = true; dirty = true })) (map.get (set_bytes S cell.holders w) q)) h
           ∙ get-map_values slot_order (f w) S q)
-          ∙ over (set.contains cell.holders q) (map.get S q)
+          ∙ (grind arith)
           ∙ sym (get-map_values slot_order (f v) S q))
 
   -- bytes stored behind one are stored with it

@@ -1,6 +1,5 @@
 -- What a copy of a page leaves, and then a copy of all pages of a process.
-use Rattle.address_space.proofs.Prelude
-use Prelude.{names, Entries, group_of, spaces_of, ◌≡◌, ◌≢◌, ℕ, ◌+◌, ◌<◌, ◌≤◌, true, false, cond, List, length, refl, ap, sym, ◌∙◌, subst, arith, inl, inr, Option, Some, None, length-set, ◌==◌, unwrap_or, option_and_then, option_map, ◌⊎◌, is_some, slice_get, if◌then◌else◌, slot_number, IsUserPage, frame_number, Map, get-insert, same_itself, same_map, same_apart, some_value, frame_bytes, with_frame, with_frame_bytes, with_frame-same, with_frame-other, length-frame, frames-with_frame_bytes, Role, Free, Page, IsTaken, weight-taken, PageEntry, Frames, dir_word, table_of, entry_at, with_entry, is_lazy_entry, Slot, slot_order, Cell, Spaces, cell_or_fresh, copy_of, copied, copied_at, cost, cost_of, fresh, pages_of, regions_of, at_page, Directories, Roles, directory_of, table_in, entries_in, spaces_in, live_cost, total_cost, Tables, IsSound, IsSpaces, InUseAt, TableGiven, IsEmptySpace, SlotCopied, PageCopied, CopiedBelow, PagesCopied, cases_eq, cases_lt, ne_eqb, eq-eqb, nat_eq_equiv, none_goes}
+use Rattle.address_space.proofs.Prelude.{names, Entries, group_of, spaces_of, ◌≡◌, ◌≢◌, ℕ, ◌+◌, ◌<◌, ◌≤◌, true, false, cond, List, length, refl, ap, sym, ◌∙◌, subst, arith, inl, inr, Option, Some, None, length-set, ◌==◌, unwrap_or, option_and_then, option_map, is_some, slice_get, if◌then◌else◌, slot_number, IsUserPage, frame_number, Map, get-insert, same_itself, same_map, same_apart, some_value, frame_bytes, with_frame, with_frame_bytes, with_frame-same, with_frame-other, length-frame, frames-with_frame_bytes, Role, Free, Page, IsTaken, weight-taken, PageEntry, Frames, dir_word, table_of, entry_at, with_entry, is_lazy_entry, Slot, slot_order, Cell, Spaces, cell_or_fresh, copy_of, copied, cost, cost_of, fresh, pages_of, regions_of, at_page, Directories, Roles, directory_of, table_in, entries_in, spaces_in, live_cost, total_cost, Tables, IsSound, IsSpaces, InUseAt, TableGiven, IsEmptySpace, SlotCopied, PageCopied, CopiedBelow, PagesCopied, cases_eq, cases_lt, ne_eqb, eq-eqb, nat_eq_equiv, none_goes}
 use Rattle.address_space.proofs.costs.Copied.{get-copied}
 use Rattle.address_space.proofs.costs.Costed.{Room, mapped}
 use Rattle.address_space.proofs.costs.Costs.{same_pages}
@@ -72,13 +71,11 @@ pub lazy_copied : (directories : List (Option ℕ)) (bytes two : List ℕ) (role
     → SlotCopied directories from p page bytes roles two roles
 unfolding spaces_in
 lazy_copied directories bytes two roles from source p d page t e sound home live low high unmapped there here lazy is_two long_two =
-    let D : Directories = directory_of directories in
     let m : Frames = frame_bytes bytes in
-    let E : Entries = entries_in D m in
+    let E : Entries = entries_in (directory_of directories) m in
     let slot : Slot = at_page p page in
     let none : map.get E slot ≡ None = none_before E m slot (map.get E slot) (sym (get-spaces_of E m slot) ∙ unmapped) in
-    let rules = entry_rules directories bytes roles from source page e sound home here in
-    let zero : e.frame ≡ 0 = rules.zero lazy in
+    let zero : e.frame ≡ 0 = (entry_rules directories bytes roles from source page e sound home here).zero lazy in
     let more = lazy-more E slot (copied_entry e e.frame) none zero in
     entry_copied directories bytes bytes two roles roles from source p d page t e.frame e sound home live low high unmapped there here
     (record {
@@ -117,16 +114,14 @@ real_copied directories bytes one two roles roles' from source p d page t f e so
     let loose : Loose R f = free_loose R f free in
     let Ta : Tables D m1 R = tables-loose D m R T f new loose whole in
     let Tb : Tables D m1 R' = tables-role D m1 R R' f Free Ta free loose (page_loose R' f 1 own) others in
-    let same_length : length roles' ≡ length roles = ap length taken.now ∙ length-set roles f (Page 1) in
     let apart : (q : Slot) (x : PageEntry) → map.get E q ≡ Some x → x.frame ≢ f = λ q x found. no_free R x.frame f (sound.pages.pages q x found) free in
-    let heavier = weight-taken roles roles' f (Page 1) taken in
     let as_many = lazy-real E slot e' none (λ z. omega (arith, z, up)) in
     let table : table_in D m1 p (slot_number page) ≡ table_in D m p (slot_number page) = loose-tables D m R T f new loose p (slot_number page) in
     entry_copied directories bytes one two roles roles' from source p d page t f e sound home live low high unmapped there here
     (record {
       ready = record {
         size = long_one;
-        length = same_length;
+        length = (ap length taken.now ∙ length-set roles f (Page 1));
         small = (inside directories bytes roles f Free sound free).small;
         tables = subst (λ x. Tables D x R') (sym is_one) Tb;
         pages = pages-fresh E R R' slot e' sound.pages none free own others;
@@ -134,7 +129,7 @@ real_copied directories bytes one two roles roles' from source p d page t f e so
         table = ap (λ x. table_of x d (slot_number page)) is_one ∙ sym (ap (option_and_then (λ x. table_of m1 x (slot_number page))) live) ∙ table ∙ ap (option_and_then (λ x. table_of m x (slot_number page))) live;
         rules = record { frame = λ _. up; zero = λ h. cc; clean = λ h. refl; right = rules.right; touched = λ h. cc };
         kept = λ q x found. (λ i. is_one i x.frame) ∙ with_frame-other m f x.frame new (apart q x found);
-        weight = omega (arith, heavier, as_many);
+        weight = omega (arith, weight-taken roles roles' f (Page 1) taken, as_many);
         used = λ q r u. subst (λ x. InUseAt D x q r) (sym is_one) (use_loose D m R T f new loose q r u);
         linked = λ q r. ap (λ x. table_in D x q r) is_one ∙ loose-tables D m R T f new loose q r;
       };
@@ -226,7 +221,6 @@ pub copied_over : (directories : List (Option ℕ)) (bytes one : List ℕ) (role
     → next ≤ beyond → beyond ≤ 0xf0000 → ((page : ℕ) → next ≤ page → page < beyond → map.get (spaces_in directories bytes) (at_page from page) ≡ None)
     → CopiedBelow directories from to beyond bytes roles one roles1
 copied_over directories bytes one roles roles1 from to next beyond so_far up high unmapped =
-    let low = so_far.low in
     record {
       after = so_far.after;
       others = so_far.others;
@@ -236,7 +230,7 @@ copied_over directories bytes one roles roles1 from to next beyond so_far up hig
       stay = so_far.stay;
       lazy = grind (arith, cases_lt, no_entry, unmapped);
       length = so_far.length;
-      low = omega (arith, low, up);
+      low = omega (arith, so_far.low, up);
       high = high;
     }
 
@@ -290,19 +284,15 @@ module _ (directories : List (Option ℕ)) (bytes one : List ℕ) (roles roles1 
   copied_from : (c : Cell) (other : ℕ) → map.contains_key (more c) (at_page to other) ≡ true → map.contains_key S (at_page from other) ≡ true
   copied_from c other h = elim (cases_eq other page) [
     | inl same ↦ ap (λ n. map.contains_key S (at_page from n)) same ∙ ap is_some was
-    | inr differ ↦ grind (arith, put_other, other_page, cases_lt, both)
+    | inr differ ↦ grind (arith, put_other, other_page, cases_lt)
   ]
-    where
-      both : (x : Option Cell) → is_some (option_map (copy_of (at_page to other)) x) ≡ true → is_some x ≡ true
-      both x h = grind arith
 
   -- what all processes cost with one page more of that one
   total_grown : IsEmptySpace S to → to < 64 → (c : Cell) → total_cost directories (more c) + 1 ≡ total_cost directories S + cost (more c) to
   unfolding total_cost
   total_grown empty few c =
-      let one_more = empty_cost S to empty in
       let pages : ℕ = set.len (regions_of (pages_of (more c) to)) + set.len (pages_of (more c) to) in
-      let own : cost (more c) to ≡ cost S to + pages = omega (arith, one_more) in
+      let own : cost (more c) to ≡ cost S to + pages = omega (arith, empty_cost S to empty) in
       let e = sum_one (live_cost (directory_of directories) (more c)) (live_cost (directory_of directories) S) to pages 0 64 (omega arith) (omega (arith, few))
       (ap (λ x. if is_some x then cost (more c) to else 0) live ∙ own ∙ sym (ap (λ x. (if is_some x then cost S to else 0) + pages) live))
       (λ q n. ap (λ k. if is_some (directory_of directories q) then k else 0) (ap cost_of (same_pages (more c) S q q (λ other. ap is_some (put_other S1 slot c (at_page q other) (other_process (at_page q other) n) ∙ so_far.others (at_page q other) n))))) in
@@ -313,21 +303,18 @@ module _ (directories : List (Option ℕ)) (bytes one : List ℕ) (roles roles1 
   room_for_copy s empty room =
       let c : Cell = cell.0 in
       let few : to < 64 = live_small directories to target s.sound.pids live in
-      let a = total-insert directories S1 slot c target few live (so_far.rest page (omega arith)) in
       let b = total_grown empty few c in
       let d = cost-within S (more c) from to (copied_from c) in
       let n = so_far.length in
-      omega (arith, a, b, d, n, room)
+      omega (arith, total-insert directories S1 slot c target few live (so_far.rest page (omega arith)), b, d, n, room)
 
   pub copied_next : (two : List ℕ) (roles2 : List Role) → PageCopied directories from to page one roles1 two roles2 → CopiedBelow directories from to (page + 1) bytes roles two roles2
   copied_next two roles2 made =
-      let low = so_far.low in
-      let high = user.1 in
       record {
         after = made.after;
         others = λ q n. ap (λ x. map.get x q) made.spaces ∙ put_other S1 slot copy q (other_process q n) ∙ so_far.others q n;
         below = λ other l. ap (λ x. map.get x (at_page to other)) made.spaces ∙ elim (cases_eq other page) [
-          | inl same ↦ ap (λ n. map.get (more copy) (at_page to n)) same ∙ put_here S1 slot copy ∙ sym (ap (λ n. option_map (copy_of (at_page to n)) (map.get S (at_page from n))) same ∙ ap (option_map (copy_of slot)) was ∙ ap (λ x. Some (copy_of slot x)) (sym there))
+          | inl same ↦ ap (λ n. map.get (more copy) (at_page to n)) same ∙ put_here S1 slot copy ∙ sym (ap (λ n. option_map (copy_of (at_page to n)) (map.get S (at_page from n))) same ∙ ap (option_map (copy_of slot)) was ∙ ap (λ x. Some (copy_of slot x)) (sym (ap (λ x. unwrap_or x (fresh (at_page from page) true)) cell.1)))
           | inr differ ↦ put_other S1 slot copy (at_page to other) (other_page other differ) ∙ so_far.below other (omega (arith, l, differ))
         ];
         rest = λ other l. ap (λ x. map.get x (at_page to other)) made.spaces ∙ put_other S1 slot copy (at_page to other) (other_page other (λ same. omega (arith, l, same))) ∙ so_far.rest other (omega (arith, l));
@@ -339,8 +326,8 @@ module _ (directories : List (Option ℕ)) (bytes one : List ℕ) (roles roles1 
           | inr differ ↦ ap is_lazy_entry (put_other E1 slot made.entries.0 (at_page to other) (other_page other differ)) ∙ so_far.lazy other (omega (arith, l, differ))
         ];
         length = made.length ∙ so_far.length;
-        low = omega (arith, low);
-        high = omega (arith, high);
+        low = omega (arith, so_far.low);
+        high = omega (arith, user.1);
       }
     where
       E : Entries
@@ -352,17 +339,15 @@ module _ (directories : List (Option ℕ)) (bytes one : List ℕ) (roles roles1 
       copy : Cell
       copy = copy_of slot (cell_or_fresh S1 (at_page from page))
 
-      there : cell_or_fresh S1 (at_page from page) ≡ cell.0
-      there = ap (λ x. unwrap_or x (fresh (at_page from page) true)) cell.1
-
 pub copied_at_last : (directories : List (Option ℕ)) (bytes one : List ℕ) (roles roles1 : List Role) (from to : ℕ) → IsSpaces directories bytes roles
     → CopiedBelow directories from to 0xf0000 bytes roles one roles1 → PagesCopied directories from to bytes roles one roles1
 copied_at_last directories bytes one roles roles1 from to s so_far = record {
   after = so_far.after;
-  spaces = same_map S1 (copied S from to) (λ q. at q (cases_eq q.pid to) ∙ sym (get-copied S from to q));
+  spaces = same_map S1 (copied S from to) (λ q. (grind (arith, S1, cases_lt, unmapped, S, eq-eqb, ne_eqb))
+      ∙ sym (get-copied S from to q));
   lazy = λ page.
       ap is_lazy_entry (same_entry directories one roles1 so_far.after.sound (at_page to page) ∙ sym (read_entry directories one roles1 so_far.after.sound (at_page to page)))
-      ∙ lazy_at page
+      ∙ (grind (arith, cases_lt, no_entry, unmapped))
       ∙ ap is_lazy_entry (read_entry directories bytes roles s.sound (at_page from page) ∙ sym (same_entry directories bytes roles s.sound (at_page from page)));
   stay = so_far.stay;
   length = so_far.length;
@@ -383,12 +368,3 @@ copied_at_last directories bytes one roles roles1 from to s so_far = record {
     -- no page behind the user range is there to be copied
     unmapped : (page : ℕ) → 0xf0000 ≤ page → map.get S (at_page from page) ≡ None
     unmapped page past = no_cell_outside directories bytes roles from page s.sound (inr past)
-
-    own : (page : ℕ) → map.get S1 (at_page to page) ≡ option_map (copy_of (at_page to page)) (map.get S (at_page from page))
-    own page = grind (arith, cases_lt, unmapped)
-
-    lazy_at : (page : ℕ) → is_lazy_entry (map.get E1 (at_page to page)) ≡ is_lazy_entry (map.get E (at_page from page))
-    lazy_at page = grind (arith, cases_lt, no_entry, unmapped)
-
-    at : (q : Slot) → (q.pid ≡ to) ⊎ (q.pid ≢ to) → map.get S1 q ≡ copied_at S from to q
-    at q h = grind (arith, S1, own, S, eq-eqb, ne_eqb)

@@ -1,6 +1,5 @@
 -- How the counts of the tables' pages change.
-use Rattle.address_space.proofs.Prelude
-use Prelude.{◌≡◌, ◌≢◌, ℕ, zero, suc, ◌+◌, ◌-◌, ◌*◌, ◌<◌, ◌≤◌, Bool, true, false, List, length, replicate, refl, ap, sym, ◌∙◌, subst, arith, inl, inr, Option, Some, None, is_some, slice_get, slice_set, option_map, option_and_then, cases_eq, slice_get_within, slot_number, IsUserPage, is_some-map, frame_bytes, Role, Free, Table, Page, get-set_same, get-set_other, table_of, entry_at, IsCleared, counted, count_range, PageEntry, same, same_or_not, same_itself, Slot, Cell, Spaces, without, is_slot, at_page, TableFreed, EntryLeft, cell_of, directory_of, table_in, entries_in, spaces_in, IsSound, region_pages, pages_by, pages_under, IsCounted, AlwaysMapsAlike, KeepsCounts, MapsOneMore, MapsAlike, IsTaken, IsHeld, IsReleased, released, opening_roles, count_range-same, count_range-le, count-no_table, count_some, table_mapped}
+use Rattle.address_space.proofs.Prelude.{◌≡◌, ◌≢◌, ℕ, zero, suc, ◌+◌, ◌-◌, ◌*◌, ◌<◌, ◌≤◌, Bool, true, false, List, length, replicate, refl, ap, sym, ◌∙◌, subst, arith, inl, inr, Option, Some, None, is_some, slice_get, slice_set, option_map, option_and_then, cases_eq, slice_get_within, slot_number, IsUserPage, is_some-map, frame_bytes, Role, Free, Table, Page, get-set_same, get-set_other, table_of, entry_at, IsCleared, counted, count_range, PageEntry, same, same_or_not, same_itself, Slot, Cell, Spaces, without, is_slot, at_page, TableFreed, EntryLeft, cell_of, directory_of, table_in, entries_in, spaces_in, IsSound, region_pages, pages_by, pages_under, IsCounted, AlwaysMapsAlike, KeepsCounts, MapsOneMore, MapsAlike, IsTaken, IsHeld, IsReleased, released, opening_roles, count_range-same, count_range-le, count-no_table, count_some, table_mapped}
 use Rattle.page_map.proofs.MapChanges.{table_there}
 use Rattle.address_space.proofs.costs.AccessCosts.{key-insert}
 use Rattle.address_space.proofs.costs.Relief.{is_gone}
@@ -12,15 +11,12 @@ use Rattle.page_words.specs.FiniteMap as map
 
 -- ---- What is mapped stays, or the roles do
 
-same_pages_by : (S T : Spaces) → ((q : Slot) → map.contains_key T q ≡ map.contains_key S q) → (r : Role) → pages_by T r ≡ pages_by S r
-same_pages_by S T is r = grind arith
-
 map_alike : (S T : Spaces) (x : Option Role) → ((r : Role) → x ≡ Some r → pages_by T r ≡ pages_by S r) → option_map (pages_by T) x ≡ option_map (pages_by S) x
 map_alike S T x is = grind arith
 
 -- the same slots are mapped
 pub counted_keys : (S T : Spaces) (roles : List Role) (counts : List ℕ) → ((q : Slot) → map.contains_key T q ≡ map.contains_key S q) → IsCounted S roles counts → IsCounted T roles counts
-counted_keys S T roles counts is C f = C f ∙ sym (map_alike S T (slice_get roles f) (λ r _. same_pages_by S T is r))
+counted_keys S T roles counts is C f = C f ∙ sym (map_alike S T (slice_get roles f) (λ r _. (grind arith)))
 
 pub counted_same : (S T : Spaces) (roles : List Role) (counts : List ℕ) → T ≡ S → IsCounted S roles counts → IsCounted T roles counts
 counted_same S T roles counts is C f = C f ∙ ap (λ x. pages_under x roles f) (sym is)
@@ -41,14 +37,11 @@ alike_taken S roles roles' f role taken none = alike_set S roles roles' f Free r
 pub alike_held : (roles roles' : List Role) (f : ℕ) → IsHeld roles f roles' → AlwaysMapsAlike roles roles'
 alike_held roles roles' f held S = alike_set S roles roles' f (Page held.count) (Page (held.count + 1)) held.page held.now refl
 
-released_none : (S : Spaces) (r : Role) → pages_by S (released r) ≡ 0
-released_none S r = grind arith
-
 pub alike_released : (S : Spaces) (roles roles' : List Role) (f : ℕ) (role : Role) → IsReleased roles f roles' → slice_get roles f ≡ Some role → pages_by S role ≡ 0 → MapsAlike S roles roles'
 alike_released S roles roles' f role rel is none =
     let e : Some rel.role ≡ Some role = sym rel.was ∙ is in
     let same : rel.role ≡ role = cc in
-    alike_set S roles roles' f rel.role (released rel.role) rel.was rel.now (released_none S rel.role ∙ sym (ap (pages_by S) same ∙ none))
+    alike_set S roles roles' f rel.role (released rel.role) rel.was rel.now ((grind arith) ∙ sym (ap (pages_by S) same ∙ none))
 
 -- ---- One page more
 
@@ -59,9 +52,8 @@ one_more P Q first zero k low high passes fails others = absurd (omega arith)
 one_more P Q first (suc count) k low high passes fails others = elim (cases_eq k first) [
   | inl here ↦ grind (arith, count_range-same)
   | inr differ ↦
-      let a : counted (Q first) ≡ counted (P first) = ap counted (others first (λ e. differ (sym e))) in
       let rest = one_more P Q (first + 1) count k (omega arith) (omega arith) passes fails others in
-      omega (arith, a, rest)
+      omega (arith, ap counted (others first (λ e. differ (sym e))), rest)
 ]
 
 apart_page : (p page i : ℕ) → i ≢ page → at_page p i ≢ at_page p page
@@ -99,10 +91,6 @@ region_entries directories bytes p d s few live low high =
     ap is_some (get-spaces_in directories bytes p page few (omega arith) (omega arith) ∙ ap (λ x. option_map cell (option_and_then (λ d. entry_at (frame_bytes bytes) d page) x)) live)
     ∙ is_some-map cell (entry_at (frame_bytes bytes) d page))
 
--- a slot without a table has no pages
-pub region_none : (directories : List (Option ℕ)) (bytes : List ℕ) (p d s : ℕ) → p < 64 → directory_of directories p ≡ Some d → 256 ≤ s → s < 960 → table_of (frame_bytes bytes) d s ≡ None → region_pages (spaces_in directories bytes) p s ≡ 0
-region_none directories bytes p d s few live low high none = region_entries directories bytes p d s few live low high ∙ count-no_table (frame_bytes bytes) d s none
-
 -- a region has no more than 1,024
 pub region_most : (S : Spaces) (p s : ℕ) → region_pages S p s ≤ 1024
 region_most S p s = count_range-le (λ page. map.contains_key S (at_page p page)) (1024 * s) 1024
@@ -118,7 +106,7 @@ pub table_counted : (directories : List (Option ℕ)) (bytes bytes' : List ℕ) 
 table_counted directories bytes bytes' roles roles' p d s t sound live low high none taken same =
     let S : Spaces = spaces_in directories bytes in
     counts_kept S (spaces_in directories bytes') roles roles' same
-    (alike_taken S roles roles' t (Table p s) taken (region_none directories bytes p d s (live_small directories p d sound.pids live) live low high none))
+    (alike_taken S roles roles' t (Table p s) taken (region_entries directories bytes p d s (live_small directories p d sound.pids live) live low high ∙ count-no_table (frame_bytes bytes) d s none))
 
 -- ---- A page is counted, or no more
 
@@ -149,9 +137,8 @@ module _ (directories : List (Option ℕ)) (bytes : List ℕ) (roles : List Role
   -- a mapped page is one of those that are counted
   pub count_positive : slice_get counts t ≡ Some n → is_some (entry_at (frame_bytes bytes) d page) ≡ true → 1 ≤ n
   count_positive is here =
-      let e = count_by_entries is in
       let some = count_some (λ other. is_some (entry_at (frame_bytes bytes) d other)) (1024 * slot_number page) 1024 page (omega arith) (omega arith) here in
-      omega (arith, e, some)
+      omega (arith, count_by_entries is, some)
 
   pub page_counted : slice_get counts t ≡ Some n → (more : Spaces) → MapsOneMore mapped (at_page p page) more → IsCounted more roles (slice_set counts t (n + 1))
   page_counted is more one =
@@ -172,11 +159,8 @@ pub one_less : (S T : Spaces) (p page : ℕ) → is_some (map.get S (at_page p p
 one_less S T p page there same = subst (λ X. MapsOneMore X (at_page p page) S) (sym same) (record {
   absent = ap is_some (is_gone S p page);
   present = there;
-  others = λ q n. sym (key-without S (is_slot p page) q (another q n));
+  others = λ q n. sym (key-without S (is_slot p page) q (grind (arith, same_or_not)));
 })
-  where
-    another : (q : Slot) → q ≢ at_page p page → is_slot p page q ≡ false
-    another q n = grind (arith, same_or_not)
 
 -- a slot more
 pub one_inserted : (S T : Spaces) (slot : Slot) (c : Cell) → map.get S slot ≡ None → ((q : Slot) → map.contains_key T q ≡ map.contains_key (map.insert S slot c) q) → MapsOneMore S slot T

@@ -1,10 +1,8 @@
 -- A process whose pages leave their groups, and whose directory then goes.
-use Rattle.address_space.proofs.Prelude
-use Prelude.{◌≡◌, ◌≢◌, ℕ, ◌+◌, ◌*◌, ◌<◌, ◌≤◌, Bool, true, false, cond, not, List, length, refl, ap, sym, ◌∙◌, subst, arith, inl, inr, Option, Some, None, length-set, ◌&&◌, ◌⊎◌, is_some, slice_get, slice_set, if◌then◌else◌, option_and_then, option_map, unwrap_or, list_any, cases_eq, cases_lt, slot_number, index_number, same, Set, same_or_not, same_itself, same_map, same_set, get-map_values, get-retain_keys, contains-retain, get-collect, frame_bytes, word_in, Role, Free, Directory, frames_weight, weight, IsReleased, released, weight-set, get-set_same, get-set_other, Frames, word_entry, table_of, entry_at, Slot, slot_order, Cell, Spaces, cost, need, pages_of, regions_of, without, with_holders, is_slot, at_page, is_of, user_slots, Entries, lazy_count, spaces_of, View, Directories, Roles, directory_of, table_in, entry_in, entries_in, spaces_in, live_cost, total_cost, Tables, Pages, IsSound, IsSpaces, IsEmptySpace, DroppedBelow, DirectoryDropped, eqb-true, eq-eqb, FramesStay, of_page, LooseStay, image_of}
+use Rattle.address_space.proofs.Prelude.{◌≡◌, ◌≢◌, ℕ, ◌+◌, ◌*◌, ◌<◌, ◌≤◌, Bool, true, false, cond, not, List, length, refl, ap, sym, ◌∙◌, subst, arith, inl, inr, Option, Some, None, length-set, ◌&&◌, ◌⊎◌, is_some, slice_get, slice_set, if◌then◌else◌, option_and_then, option_map, list_any, cases_eq, cases_lt, slot_number, index_number, same, Set, same_or_not, same_itself, same_map, same_set, get-map_values, get-retain_keys, contains-retain, get-collect, frame_bytes, word_in, Role, Free, Directory, frames_weight, weight, IsReleased, released, weight-set, Frames, word_entry, entry_at, Slot, slot_order, Cell, Spaces, need, pages_of, regions_of, without, with_holders, is_slot, at_page, is_of, user_slots, Entries, lazy_count, spaces_of, View, Directories, Roles, directory_of, table_in, entry_in, entries_in, spaces_in, total_cost, Tables, Pages, IsSound, IsSpaces, IsEmptySpace, DroppedBelow, DirectoryDropped, eqb-true, eq-eqb, FramesStay, of_page, LooseStay, image_of}
 use Rattle.address_space.proofs.costs.Costs.{contains-pages_of}
-use Rattle.address_space.proofs.costs.CostSteps.{sum_one}
 use Rattle.address_space.proofs.entries.EntrySteps.{get-entries_in, entry_by_table}
-use Rattle.address_space.proofs.steps.Openings.{empty_cost}
+use Rattle.address_space.proofs.steps.Openings.{directory_set, directory_kept, total-directory}
 use Rattle.address_space.proofs.frames.PageSteps.{pages-role}
 use Rattle.address_space.proofs.entries.Readings.{need_read}
 use Rattle.address_space.proofs.entries.Refinement.{get-spaces_of, leave_refines}
@@ -27,30 +25,18 @@ left gone cell = with_holders cell (set.retain cell.holders (λ s. not (gone s))
 pub get-without : (S : Spaces) (gone : Slot → Bool) (q : Slot) → map.get (without S gone) q ≡ cond (not (gone q)) (option_map (left gone) (map.get S q)) None
 get-without S gone q =
     get-map_values slot_order (λ slot cell. left gone cell) (map.retain_keys S (λ s. not (gone s))) q
-    ∙ ap (option_map (left gone)) (get-retain_keys S (λ s. not (gone s)) q) ∙ by (not (gone q)) (map.get S q)
-  where
-    by : (b : Bool) (x : Option Cell) → option_map (left gone) (cond b x None) ≡ cond b (option_map (left gone) x) None
-    by b x = grind arith
-
-both : (all first there : Bool) → (all ≡ false → first ≡ false) → ((there && not first) && not all) ≡ (there && not all)
-both all first there h = grind arith
+    ∙ ap (option_map (left gone)) (get-retain_keys S (λ s. not (gone s)) q) ∙ (grind arith)
 
 -- slots that leave before others that they are among
 pub without-without : (S : Spaces) (first all : Slot → Bool) → ((q : Slot) → all q ≡ false → first q ≡ false) → without (without S first) all ≡ without S all
-without-without S first all among = same_map _ _ (λ q. get-without (without S first) all q ∙ at q (all q) refl ∙ sym (get-without S all q))
+without-without S first all among = same_map _ _ (λ q. get-without (without S first) all q ∙ (grind (arith, get-without, fewer)) ∙ sym (get-without S all q))
   where
     fewer : (group : Set slot_order) → set.retain (set.retain group (λ s. not (first s))) (λ s. not (all s)) ≡ set.retain group (λ s. not (all s))
     fewer group = same_set _ _ (λ s.
         contains-retain (set.retain group (λ s. not (first s))) (λ s. not (all s)) s
         ∙ ap (λ b. b && not (all s)) (contains-retain group (λ s. not (first s)) s)
-        ∙ both (all s) (first s) (set.contains group s) (among s)
+        ∙ (grind arith)
         ∙ sym (contains-retain group (λ s. not (all s)) s))
-
-    twice : (x : Option Cell) → option_map (left all) (option_map (left first) x) ≡ option_map (left all) x
-    twice x = grind (arith, fewer)
-
-    at : (q : Slot) (b : Bool) → all q ≡ b → cond (not (all q)) (option_map (left all) (map.get (without S first) q)) None ≡ cond (not (all q)) (option_map (left all) (map.get S q)) None
-    at q b is = grind (arith, get-without, twice)
 
 -- a slot is of its own process
 pub slot_of_process : (p page : ℕ) (q : Slot) → is_of p q ≡ false → is_slot p page q ≡ false
@@ -60,7 +46,7 @@ slot_of_process p page q other = grind (arith, same_or_not, eq-eqb)
 pub nothing_leaves : (directories : List (Option ℕ)) (bytes : List ℕ) (p : ℕ) → IsEmptySpace (spaces_in directories bytes) p → without (spaces_in directories bytes) (is_of p) ≡ spaces_in directories bytes
 unfolding spaces_in
 nothing_leaves directories bytes p empty =
-    sym (leave_refines E m (is_of p)) ∙ ap (λ x. spaces_of x m) (same_map (map.retain_keys E (λ s. not (is_of p s))) E (λ q. get-retain_keys E (λ s. not (is_of p s)) q ∙ by q (is_of p q) refl))
+    sym (leave_refines E m (is_of p)) ∙ ap (λ x. spaces_of x m) (same_map (map.retain_keys E (λ s. not (is_of p s))) E (λ q. get-retain_keys E (λ s. not (is_of p s)) q ∙ (grind (arith, E, none))))
   where
     m : Frames
     m = frame_bytes bytes
@@ -74,9 +60,6 @@ nothing_leaves directories bytes p empty =
         let here : q ≡ record { pid = p; page = q.page } = (λ i. record { pid = own i; page = q.page }) in
         none_before E m q (map.get E q) (sym (get-spaces_of E m q) ∙ ap (map.get (spaces_of E m)) here ∙ empty q.page)
 
-    by : (q : Slot) (b : Bool) → is_of p q ≡ b → cond (not (is_of p q)) (map.get E q) None ≡ map.get E q
-    by q b is = grind (arith, E, none)
-
 -- ---- Slots without an entry
 
 no_cell_by : (D : Directories) (m : Frames) (q : Slot) → entry_in D m q ≡ None → map.get (spaces_of (entries_in D m) m) q ≡ None
@@ -84,16 +67,13 @@ no_cell_by D m q none = grind (arith, get-spaces_of, get-entries_in)
 
 -- no table lies outside the user range
 pub no_table_outside : (directories : List (Option ℕ)) (bytes : List ℕ) (roles : List Role) (p s : ℕ) → IsSound directories bytes roles → (s < 256) ⊎ (960 ≤ s) → table_in (directory_of directories) (frame_bytes bytes) p s ≡ None
-no_table_outside directories bytes roles p s sound out = by (directory_of directories p) refl
+no_table_outside directories bytes roles p s sound out = grind (arith, word)
   where
     word : (d : ℕ) → directory_of directories p ≡ Some d → word_in (frame_bytes bytes d) s ≡ 0
     word d live = elim (cases_lt s 1024) [
       | inl inside ↦ sound.tables.outside p d s live inside out
       | inr past ↦ past_end (frame_bytes bytes d) s (sound.tables.long d (Directory p) (sound.tables.directory p d live)) past
     ]
-
-    by : (x : Option ℕ) → directory_of directories p ≡ x → option_and_then (λ d. table_of (frame_bytes bytes) d s) x ≡ None
-    by x is = grind (arith, word)
 
 -- and no page
 pub no_cell_outside : (directories : List (Option ℕ)) (bytes : List ℕ) (roles : List Role) (p page : ℕ) → IsSound directories bytes roles → (page < 0x40000) ⊎ (0xf0000 ≤ page) → map.get (spaces_in directories bytes) (at_page p page) ≡ None
@@ -175,12 +155,6 @@ dropped_at_last v inner p before so_far =
 
 -- ---- A directory goes
 
-forgotten : (directories : List (Option ℕ)) (p : ℕ) → p < length directories → directory_of (slice_set directories p None) p ≡ None
-forgotten directories p l = ap (λ x. unwrap_or x None) (get-set_same directories p None l)
-
-remembered : (directories : List (Option ℕ)) (p q : ℕ) → q ≢ p → directory_of (slice_set directories p None) q ≡ directory_of directories q
-remembered directories p q n = ap (λ x. unwrap_or x None) (get-set_other directories p q None n)
-
 -- without a page there is no table
 no_table_left : (directories : List (Option ℕ)) (bytes : List ℕ) (roles : List Role) (p s : ℕ) → IsSpaces directories bytes roles → p < 64 → IsEmptySpace (spaces_in directories bytes) p → table_in (directory_of directories) (frame_bytes bytes) p s ≡ None
 no_table_left directories bytes roles p s spaces few empty = elim (cases_lt s 256) [
@@ -233,14 +207,6 @@ same_spaces : (directories directories' : List (Option ℕ)) (bytes : List ℕ) 
 unfolding spaces_in
 same_spaces directories directories' bytes E = ap (λ x. spaces_of x (frame_bytes bytes)) E
 
-total-without : (directories : List (Option ℕ)) (S : Spaces) (p d : ℕ) → p < 64 → p < length directories → directory_of directories p ≡ Some d → IsEmptySpace S p
-    → total_cost directories S ≡ total_cost (slice_set directories p None) S + 1
-unfolding total_cost
-total-without directories S p d few l live empty =
-    sum_one (live_cost (directory_of directories) S) (live_cost (directory_of (slice_set directories p None)) S) p 1 0 64 (omega arith) (omega arith)
-    (ap (λ x. if is_some x then cost S p else 0) live ∙ empty_cost S p empty ∙ sym (ap (λ x. (if is_some x then cost S p else 0) + 1) (forgotten directories p l)))
-    (λ q n. sym (ap (λ x. if is_some x then cost S q else 0) (remembered directories p q n)))
-
 pub directory_removed : (directories : List (Option ℕ)) (bytes : List ℕ) (roles roles' : List Role) (p d : ℕ) → IsSpaces directories bytes roles → directory_of directories p ≡ Some d
     → IsEmptySpace (spaces_in directories bytes) p → IsReleased roles d roles' → DirectoryDropped directories p bytes roles (slice_set directories p None) roles'
 directory_removed directories bytes roles roles' p d s live empty rel =
@@ -253,27 +219,24 @@ directory_removed directories bytes roles roles' p d s live empty rel =
     let sound = s.sound in
     let few : p < 64 = live_small directories p d sound.pids live in
     let l : p < length directories = (let n = sound.pids in omega arith) in
-    let none : D' p ≡ None = forgotten directories p l in
-    let others : (q : ℕ) → q ≢ p → D' q ≡ D q = remembered directories p in
+    let none : D' p ≡ None = directory_set directories p None l in
+    let others : (q : ℕ) → q ≢ p → D' q ≡ D q = directory_kept directories p None in
     let bare : (t : ℕ) → table_in D m p t ≡ None = λ t. no_table_left directories bytes roles p t s few empty in
-    let was : R d ≡ Some (Directory p) = sound.tables.directory p d live in
-    let same_role : Some rel.role ≡ Some (Directory p) = sym rel.was ∙ was in
+    let same_role : Some rel.role ≡ Some (Directory p) = sym rel.was ∙ (sound.tables.directory p d live) in
     let role_is : rel.role ≡ Directory p = cc in
     let role : R' d ≡ Some Free = role_own roles roles' d rel.role (released rel.role) rel.was rel.now ∙ ap (λ r. Some (released r)) role_is in
     let kept : (g : ℕ) → g ≢ d → R' g ≡ R g = role_other roles roles' d (released rel.role) rel.now in
     let E : entries_in D' m ≡ entries_in D m = kept_entries D D' m R R' sound.tables p d live bare none others role kept in
     let spaces : spaces_in directories' bytes ≡ spaces_in directories bytes = same_spaces directories directories' bytes E in
     let same_length : length roles' ≡ length roles = ap length rel.now ∙ length-set roles d (released rel.role) in
-    let total : total_cost directories (spaces_in directories bytes) ≡ total_cost directories' (spaces_in directories bytes) + 1 = total-without directories (spaces_in directories bytes) p d few l live empty in
+    let total : total_cost directories (spaces_in directories bytes) ≡ total_cost directories' (spaces_in directories bytes) + 1 = total-directory directories directories' (spaces_in directories bytes) p d few live none others empty in
     let total' : total_cost directories' (spaces_in directories' bytes) ≡ total_cost directories' (spaces_in directories bytes) = ap (total_cost directories') spaces in
     let lighter : frames_weight roles' + 1 ≡ frames_weight roles =
     (let a = weight-set roles d rel.role (released rel.role) rel.was in
     let n : frames_weight roles' ≡ frames_weight (slice_set roles d (released rel.role)) = ap frames_weight rel.now in
     let x : weight rel.role ≡ 1 = ap weight role_is in
-    let y : weight (released rel.role) ≡ 0 = ap (λ r. weight (released r)) role_is in
-    omega (arith, a, n, x, y)) in
+    omega (arith, a, n, x, ap (λ r. weight (released r)) role_is)) in
     let weighs = s.weighs in
-    let within = s.within in
     record {
       after = record {
         sound = record {
@@ -285,7 +248,7 @@ directory_removed directories bytes roles roles' p d s live empty rel =
         };
         in_use = λ q r t found. s.in_use q r t (sym (kept_tables D D' m R R' sound.tables p d live bare none others role kept q r) ∙ found);
         weighs = let z : lazy_count (entries_in D' m) ≡ lazy_count (entries_in D m) = ap lazy_count E in omega (arith, weighs, lighter, total, total', z);
-        within = omega (arith, within, same_length, total, total');
+        within = omega (arith, s.within, same_length, total, total');
       };
       spaces = spaces;
       none = none;

@@ -1,6 +1,5 @@
 -- Accessed of a directory word says nothing of the spaces.
-use Rattle.address_space.proofs.Prelude
-use Prelude.{◌≡◌, ◌≢◌, ℕ, ◌^◌, ◌<◌, Bool, true, false, List, length, refl, ap, sym, ◌∙◌, subst, arith, inl, inr, Option, Some, None, slice_get, if◌then◌else◌, option_and_then, cases_eq, cases_lt, slot_number, frame_bytes, word_at, word_place, with_word, word_in, with_word_in, with_frame, with_frame-same, with_frame-other, word_in_same, word_in_other, length-with_word_in, frames-with_word, word_in-frame, Role, Reserved, Directory, Table, PageEntry, Frames, word_table, table_of, with_flag_lt, walked_word, with_walked, Slot, holders_of, spaces_of, Directories, Roles, directory_of, table_in, entry_in, entries_in, spaces_in, total_cost, Tables, Pages, IsSound, InUse, Touched, none_goes, frame_number, is_present, IsKernelDirWord, IsKernelTableWord, flag-with_flag_other, frame-with_flag, with_flag, NamesTable}
+use Rattle.address_space.proofs.Prelude.{◌≡◌, ◌≢◌, ℕ, ◌^◌, ◌<◌, Bool, true, false, List, length, refl, ap, sym, ◌∙◌, subst, arith, inl, inr, Option, Some, None, slice_get, if◌then◌else◌, option_and_then, cases_eq, cases_lt, slot_number, frame_bytes, word_at, word_place, with_word, word_in, with_word_in, with_frame, with_frame-same, with_frame-other, word_in_same, word_in_other, length-with_word_in, frames-with_word, word_in-frame, Role, Reserved, Directory, Table, PageEntry, Frames, word_table, table_of, with_flag_lt, walked_word, with_walked, Slot, holders_of, spaces_of, Directories, Roles, directory_of, table_in, entry_in, entries_in, spaces_in, total_cost, Tables, Pages, IsSound, InUse, Touched, none_goes, frame_number, is_present, IsKernelDirWord, IsKernelTableWord, flag-with_flag_other, frame-with_flag, with_flag, NamesTable}
 use Rattle.address_space.proofs.entries.EntrySteps.{same_entries, entry_kept}
 use Rattle.address_space.proofs.frames.PageSteps.{same_bytes, no_directory}
 use Rattle.address_space.proofs.standing.TablesStand.{past_end}
@@ -52,9 +51,6 @@ walked_alike w b lt = by (is_present w) refl
     by true is = flagged_alike w b lt is
     by false is = same_word w
 
-walked_lt : (b : Bool) (w : ℕ) → w < 2 ^ 32 → walked_word b w < 2 ^ 32
-walked_lt b w lt = grind (arith, with_flag_lt)
-
 -- a kernel's word is 0, or its table lies in memory
 kernel_lt : (w : ℕ) → IsKernelDirWord w → (is_present w ≡ true → frame_number w < 2 ^ 20) → w < 2 ^ 32
 kernel_lt w h fits = grind arith
@@ -77,16 +73,13 @@ module _ (D : Directories) (m m' : Frames) (R : Roles) (T : Tables D m R) (A : D
   role_kept f r is n = A.others f (λ p live. n p (let k = T.directory p f live in cc))
 
   pub dirs-tables : (q s : ℕ) → table_in D m' q s ≡ table_in D m q s
-  dirs-tables q s = by (D q) refl
+  dirs-tables q s = grind (arith, at)
     where
       at : (d : ℕ) → D q ≡ Some d → word_table (word_in (m' d) s) ≡ word_table (word_in (m d) s)
       at d live = elim (cases_lt s 1024) [
         | inl inside ↦ (A.words q d s live inside).table
         | inr past ↦ ap word_table (past_end (m' d) s (A.long q d live) past ∙ sym (past_end (m d) s (T.long d (Directory q) (T.directory q d live)) past))
       ]
-
-      by : (x : Option ℕ) → D q ≡ x → option_and_then (λ d. table_of m' d s) x ≡ option_and_then (λ d. table_of m d s) x
-      by x is = grind (arith, at)
 
   pub dirs-table : (q s t : ℕ) → table_in D m q s ≡ Some t → m' t ≡ m t
   dirs-table q s t is = role_kept t (Table q s) (T.table q s t is) (λ p. λ e. cc)
@@ -109,11 +102,8 @@ module _ (D : Directories) (m m' : Frames) (R : Roles) (T : Tables D m R) (A : D
     dir_words = λ q d s is h. (A.words q d s is h).kernel (T.dir_words q d s is h);
     outside = λ q d s is h o. (A.words q d s is h).zero (T.outside q d s is h o);
     table_words = λ q s g i is h. let old = sym (dirs-tables q s) ∙ is in subst (λ w. IsKernelTableWord (word_in w i)) (sym (dirs-table q s g old)) (T.table_words q s g i old h);
-    long = λ g r is. long_kept g r is;
+    long = λ g r is. (grind (arith, role_kept));
   }
-    where
-      long_kept : (g : ℕ) (r : Role) → R g ≡ Some r → length (m' g) ≡ 4096
-      long_kept g r is = grind (arith, role_kept)
 
   pub use_dirs : InUse D m → InUse D m'
   use_dirs before q r g found =
@@ -191,4 +181,4 @@ dir_word_walked directories bytes bytes' roles p d page walked sound live high i
     let frames : frame_bytes bytes' ≡ with_frame m d (with_word_in (m d) s (walked_word walked w)) =
     ap frame_bytes (is ∙ ap (λ x. with_word bytes (word_place d s) (walked_word walked x)) word_is) ∙ frames-with_word bytes d s (walked_word walked w) small in_d.fits in
     dirs_touched directories bytes bytes' roles sound
-    (one_dir_word directories bytes bytes' roles p d s (walked_word walked w) sound live small (walked_lt walked w lt) (walked_alike w walked lt) frames) long
+    (one_dir_word directories bytes bytes' roles p d s (walked_word walked w) sound live small (grind (arith, with_flag_lt)) (walked_alike w walked lt) frames) long

@@ -1,18 +1,13 @@
 -- What walks that find a frame for each page of an access find at each of its bytes.
-use Rattle.address_space.proofs.Prelude
-use Prelude.{◌≡◌, ℕ, zero, suc, ◌+◌, ◌^◌, ◌<◌, true, List, ◌∷◌, refl, ap, sym, ◌∙◌, subst, arith, Option, Some, is_some, IfSome, IsOk, option_map, unwrap_or, range_with_len, and_parts, IsUserPage, page_number, start_number, byte_count, second_page, Size, some_bytes, Role, Access, walk_of, Image, directory_at, image_from, directory_of, IsSound, finds_at, finds, map as each}
+use Rattle.address_space.proofs.Prelude.{◌≡◌, ℕ, zero, suc, ◌+◌, ◌^◌, ◌<◌, true, List, ◌∷◌, refl, ap, sym, ◌∙◌, subst, arith, Option, Some, is_some, IfSome, IsOk, option_map, unwrap_or, range_with_len, and_parts, IsUserPage, page_number, start_number, byte_count, second_page, Size, some_bytes, Role, Access, walk_of, Image, directory_at, image_from, directory_of, IsSound, finds_at, finds, map as each}
 use Rattle.address_space.proofs.steps.Bytes.{each_byte}
 use Rattle.address_space.proofs.steps.WalkSteps.{found_entry, page_found}
 
 -- ---- By the test
 
--- a walk that finds a frame is that of a live process
-pub finds_live_at : (image : Image) (p address : ℕ) (access : Access) → finds_at image p access address ≡ true → is_some (directory_at image p) ≡ true
-finds_live_at image p address access h = grind (arith, and_parts)
-
 -- so are those of an access
 pub finds_live : (image : Image) (p address : ℕ) (size : Size) (access : Access) → finds image p address size access ≡ true → is_some (directory_at image p) ≡ true
-finds_live image p address size access h = finds_live_at image p address access (and_parts (finds_at image p access address) _ h).0
+finds_live image p address size access h = grind (arith, and_parts)
 
 pub found_at : (image : Image) (p d address : ℕ) (access : Access) → directory_at image p ≡ Some d → finds_at image p access address ≡ true → (address < 2 ^ 32) × IsOk (walk_of image.bytes d address access)
 found_at image p d address access live h = grind (arith, and_parts)
@@ -56,9 +51,6 @@ found_each directories bytes roles p d address size access sound live h =
         by : (x : Option ℕ) → unwrap_or (option_map (λ page. finds_at image p access (start_number page)) x) true ≡ true → IfSome x (λ page. IsUserPage page × Q page)
         by x is = grind (arith, start)
 
-    both : (i : ℕ) → i < byte_count size → IsUserPage (page_number (address + i)) × Q (page_number (address + i))
-    both = each_byte address size (λ page. IsUserPage page × Q page) (one address parts.0, second)
-
     all : Q (page_number address) × IfSome (second_page address size) Q
     all = ((one address parts.0).1, by (second_page address size) second)
       where
@@ -66,7 +58,7 @@ found_each directories bytes roles p d address size access sound live h =
         by x is = grind arith
 
     user_at : (i : ℕ) → i < byte_count size → IsUserPage (page_number (address + i))
-    user_at i l = (both i l).0
+    user_at i l = ((each_byte address size (λ page. IsUserPage page × Q page) (one address parts.0, second)) i l).0
 
 -- and its addresses have 32 bits
 pub found_fits : (bytes : List ℕ) (d address : ℕ) (size : Size) (access : Access) → FoundEach bytes d address size access → address + byte_count size < 2 ^ 32

@@ -1,6 +1,5 @@
 -- A page that was found: what is known of it, and what an access through it leaves.
-use Rattle.address_space.proofs.Prelude
-use Prelude.{◌≡◌, ℕ, ◌+◌, ◌^◌, ◌<◌, ◌≤◌, Bool, true, false, List, length, refl, ap, sym, ◌∙◌, subst, arith, inl, inr, Option, Some, None, replicate, is_some, slice_get, option_and_then, option_map, slot_number, index_number, byte_count, IsUserPage, Size, frame_bytes, word_in, with_word_in, with_frame-same, word_in_same, length-frame, PageEntry, Frames, dir_word, table_of, word_entry, entry_at, with_entry, entry_word, is_lazy_entry, IsKernelEntry, entry_word-lt, word_entry-entry_word, Found, need, Slot, Spaces, Cell, cell_or_fresh, bytes_of, stored, accessed, protected, at_page, FramesStay, none_goes, of_lazy, cell_of, Directories, directory_of, entry_in, entries_in, spaces_in, PageFilled, EntryPut, Touched, takes_stores_through, is_lazy_at, takes_stores, image_from, AreCountedSpaces, IsSound, Names, IsPageBelow, free_frames, Free, Page, Table, shown, Role, length-replicate, lazy_found, found_by, found_in, LiesIn, EntryIs, BytesStored, FrameGiven}
+use Rattle.address_space.proofs.Prelude.{◌≡◌, ℕ, ◌+◌, ◌^◌, ◌<◌, ◌≤◌, Bool, true, false, List, length, refl, ap, sym, ◌∙◌, subst, arith, inl, inr, Option, Some, None, replicate, is_some, slice_get, option_and_then, option_map, slot_number, index_number, byte_count, IsUserPage, Size, frame_bytes, word_in, with_word_in, with_frame-same, word_in_same, length-frame, PageEntry, Frames, dir_word, table_of, word_entry, entry_at, with_entry, entry_word, is_lazy_entry, IsKernelEntry, entry_word-lt, word_entry-entry_word, Found, need, Slot, Spaces, Cell, cell_or_fresh, bytes_of, stored, accessed, protected, at_page, FramesStay, none_goes, of_lazy, cell_of, Directories, directory_of, entry_in, entries_in, spaces_in, PageFilled, EntryPut, Touched, takes_stores_through, is_lazy_at, takes_stores, image_from, AreCountedSpaces, IsSound, Names, IsPageBelow, free_frames, Free, Page, Table, shown, Role, length-replicate, lazy_found, found_by, found_in, LiesIn, EntryIs, BytesStored, FrameGiven}
 use Rattle.address_space.proofs.entries.EntrySteps.{tables_kept}
 use Rattle.address_space.specs.declared.Spaces.TheInside.{Inside as Inner}
 use Rattle.address_space.proofs.standing.FramesStand.{frames_stay}
@@ -16,7 +15,7 @@ use Rattle.address_space.proofs.steps.Openings.{no_cell}
 use Rattle.address_space.proofs.steps.Steps.{page_map_of, live_small, table_by_word, map_kept, zeroed, inside, free_loose}
 use Rattle.address_space.proofs.steps.LazyFilling.{page_filled, room_to_fill}
 use Rattle.address_space.proofs.steps.CountSteps.{counts_kept, alike_taken}
-use Rattle.address_space.proofs.steps.Stores.{frame_written, length-write_at, named_entry, page_of_name, named_inside, entry_rules, cell_read, flags_set, marks_cleared, flagged_load, flagged_right, stored_place, page_stored, written_long}
+use Rattle.address_space.proofs.steps.Stores.{frame_written, length-write_at, named_entry, page_of_name, named_inside, entry_rules, cell_read, flags_set, stored_place, page_stored, length-bytes_of}
 use Rattle.page_words.specs.FiniteMap as map
 
 -- what was found is the entry of the page's slot
@@ -32,32 +31,13 @@ pub record Known (directories : List (Option ℕ)) (bytes : List ℕ) (p page : 
   pub here : entry_at (frame_bytes bytes) directory page ≡ Some f.entry
 
 pub known : (directories : List (Option ℕ)) (bytes : List ℕ) (p page : ℕ) (f : Found) → found_in (directory_of directories) (frame_bytes bytes) p page ≡ Some f → Known directories bytes p page f
-known directories bytes p page f is = by_directory (directory_of directories p) refl is
-  where
-    m : Frames
-    m = frame_bytes bytes
-
-    by_entry : (d t : ℕ) → directory_of directories p ≡ Some d → table_of m d (slot_number page) ≡ Some t → (x : Option PageEntry) → word_entry (word_in (m t) (index_number page)) ≡ x
-        → option_map (λ e. record { page = page; table = t; entry = e }) x ≡ Some f → Known directories bytes p page f
-    by_entry d t live there x word h = grind (arith, m)
-
-    by_table : (d : ℕ) → directory_of directories p ≡ Some d → (x : Option ℕ) → table_of m d (slot_number page) ≡ x → option_and_then (found_by m page) x ≡ Some f → Known directories bytes p page f
-    by_table d live x there h = grind (arith, by_entry, m)
-
-    by_directory : (x : Option ℕ) → directory_of directories p ≡ x → option_and_then (found_by m page) (option_and_then (λ d. table_of m d (slot_number page)) x) ≡ Some f → Known directories bytes p page f
-    by_directory x live h = grind (arith, by_table, m)
-
-is_some-option_map : (x : Option Found) → is_some (option_map (λ (f : Found). f.entry) x) ≡ is_some x
-is_some-option_map x = grind arith
+known directories bytes p page f is = grind (arith, (frame_bytes bytes))
 
 -- a page is found just where it is mapped
 pub found_mapped : (inner : Inner) (p page : ℕ) → AreCountedInside inner → IsUserPage page
     → is_some (found_at inner p page) ≡ is_some (map.get (spaces_at inner) (at_page p page))
 found_mapped inner p page before user =
-    sym (is_some-option_map (found_at inner p page)) ∙ ap is_some (found_entry (directory_of inner.directories) (frame_bytes inner.memory) p page) ∙ by (directory_of inner.directories p) refl
-  where
-    by : (x : Option ℕ) → directory_of inner.directories p ≡ x → is_some (entry_in (directory_of inner.directories) (frame_bytes inner.memory) (at_page p page)) ≡ is_some (map.get (spaces_at inner) (at_page p page))
-    by x is = grind (arith, no_cell, mapped_read, live_small)
+    sym (grind arith) ∙ ap is_some (found_entry (directory_of inner.directories) (frame_bytes inner.memory) p page) ∙ (grind (arith, no_cell, mapped_read, live_small))
 
 -- whether what was found takes stores
 pub found_takes : (inner : Inner) (p page : ℕ) → AreCountedInside inner → IsUserPage page
@@ -75,10 +55,6 @@ pub record Left (inner : Inner) (S : Spaces) (bytes' : List ℕ) : Type 0 where
       (image_from inner.directories bytes' inner.frames)
 
 -- ---- What stands at a page
-
--- nothing is lazy where nothing is found
-pub absent_lazy : (inner : Inner) (p page : ℕ) → AreCountedInside inner → found_at inner p page ≡ None → is_lazy_at (image_at inner) (at_page p page) ≡ false
-absent_lazy inner p page before is = grind (arith, same_lazy, found_entry)
 
 -- its cell
 pub found_cells : (inner : Inner) (p page : ℕ) → p < 64 → IsUserPage page
@@ -99,10 +75,7 @@ need_without inner p page is = need-two (directory_of inner.directories) (frame_
 
 pub need_with : (inner : Inner) (p page t : ℕ) → AreCountedInside inner → IsUserPage page → table_at inner p page ≡ Some t → need (spaces_at inner) p page ≡ 1
 unfolding spaces_in
-need_with inner p page t before user is = need-one (directory_of inner.directories) (frame_bytes inner.memory) p page t (by (directory_of inner.directories p) refl is) user.0 user.1 is (before.spaces.in_use p (slot_number page))
-  where
-    by : (x : Option ℕ) → directory_of inner.directories p ≡ x → option_and_then (λ d. table_of (frame_bytes inner.memory) d (slot_number page)) x ≡ Some t → p < 64
-    by x live h = grind (arith, live_small)
+need_with inner p page t before user is = need-one (directory_of inner.directories) (frame_bytes inner.memory) p page t (grind (arith, live_small)) user.0 user.1 is (before.spaces.in_use p (slot_number page))
 
 -- a page is found at the entry that was written for it
 pub found_written : (directories : List (Option ℕ)) (bytes two : List ℕ) (roles : List Role) (p d page t : ℕ) (e : PageEntry) → IsSound directories bytes roles → directory_of directories p ≡ Some d
@@ -195,46 +168,38 @@ module _ (inner : Inner) (p page : ℕ) (f : Found) (before : AreCountedInside i
     stay = grind (arith, frames_stay);
   }
 
+  -- flags that are written, which its cell gets
+  flags_left : (two : List ℕ) (write accessed dirty : Bool) (c : Cell)
+      → IsKernelEntry (record f.entry { write = write; accessed = accessed; dirty = dirty })
+      → EntryIs inner.memory f (record f.entry { write = write; accessed = accessed; dirty = dirty }) two
+      → length two ≡ length inner.memory
+      → c ≡ record (cell_or_fresh (spaces_at inner) (at_page p page)) { write = write; accessed = accessed; dirty = dirty }
+      → Left inner (map.insert (spaces_at inner) (at_page p page) c) two
+  flags_left two write accessed dirty c rules' put long is_c =
+      let e' : PageEntry = record f.entry { write = write; accessed = accessed; dirty = dirty } in
+      left two (map.insert (spaces_at inner) (at_page p page) c)
+      (flags_set inner.directories inner.memory two inner.frames p there.directory page f.entry write accessed dirty c
+      before.spaces.sound there.live user.0 user.1 there.here rules' (entry_put_at inner.memory two e' there.table put) long
+      (is_c ∙ ap (λ (x : Cell). record x { write = write; accessed = accessed; dirty = dirty }) found_cell))
+      (kept (spaces_at inner) (at_page p page) c found_there)
+
   -- a load
   pub found_loaded : (two : List ℕ) → EntryIs inner.memory f (record f.entry { accessed = true }) two → length two ≡ length inner.memory → Left inner (accessed (spaces_at inner) (at_page p page)) two
   found_loaded two put long =
-      left two (accessed (spaces_at inner) (at_page p page))
-      (subst (λ (s : Spaces). Touched inner.directories s inner.memory inner.frames two) (flagged_load inner.directories inner.memory p there.directory page f.entry there.live few user.0 user.1 there.here)
-      (flags_set inner.directories inner.memory two inner.frames p there.directory page f.entry f.entry.write true before.spaces.sound there.live user.0 user.1 there.here
-      (entry_rules inner.directories inner.memory inner.frames p there.directory page f.entry before.spaces.sound there.live there.here).right (λ _. refl) (entry_put_at inner.memory two (record f.entry { accessed = true }) there.table put) long))
-      (kept (spaces_at inner) (at_page p page) _ found_there)
+      flags_left two f.entry.write true f.entry.dirty _ (grind (arith, rules)) put long (grind (arith, found_cell))
 
   -- a change of the right
   pub found_protected : (two : List ℕ) (write : Bool) → (write ≡ true → (cell_or_fresh (spaces_at inner) (at_page p page)).may ≡ true) → EntryIs inner.memory f (record f.entry { write = write }) two → length two ≡ length inner.memory
       → Left inner (protected (spaces_at inner) (at_page p page) write) two
   found_protected two write may put long =
-      left two (protected (spaces_at inner) (at_page p page) write)
-      (subst (λ (s : Spaces). Touched inner.directories s inner.memory inner.frames two) (flagged_right inner.directories inner.memory p there.directory page f.entry write there.live few user.0 user.1 there.here)
-      (flags_set inner.directories inner.memory two inner.frames p there.directory page f.entry write f.entry.accessed before.spaces.sound there.live user.0 user.1 there.here
-      (λ w. sym (ap (λ (c : Cell). c.may) found_cell) ∙ may w) (entry_rules inner.directories inner.memory inner.frames p there.directory page f.entry before.spaces.sound there.live there.here).touched (entry_put_at inner.memory two (record f.entry { write = write }) there.table put) long))
-      (kept (spaces_at inner) (at_page p page) _ found_there)
+      flags_left two write f.entry.accessed f.entry.dirty _ (grind (arith, rules, found_cell)) put long
+      (grind (arith, found_cell))
 
   -- marks that are cleared
   pub found_cleaned : (two : List ℕ) → EntryIs inner.memory f (record f.entry { accessed = false; dirty = false }) two → length two ≡ length inner.memory
       → Left inner (map.insert (spaces_at inner) (at_page p page) (record (cell_or_fresh (spaces_at inner) (at_page p page)) { accessed = false; dirty = false })) two
   found_cleaned two put long =
-      left two (map.insert (spaces_at inner) (at_page p page) (record (cell_or_fresh (spaces_at inner) (at_page p page)) { accessed = false; dirty = false }))
-      (marks_cleared inner.directories inner.memory two inner.frames p there.directory page f.entry before.spaces.sound there.live user.0 user.1 there.here
-      (entry_put_at inner.memory two (record f.entry { accessed = false; dirty = false }) there.table put) long)
-      (kept (spaces_at inner) (at_page p page) _ found_there)
-
-  -- a store
-  pub found_stored : (two : List ℕ) (at : ℕ) (size : Size) (value : ℕ) → f.entry.lazy ≡ false → at + byte_count size ≤ 4096 → BytesStored inner.memory f at (bytes_of (byte_count size) value) two
-      → Left inner (stored (spaces_at inner) (at_page p page) at (bytes_of (byte_count size) value)) two
-  found_stored two at size value real inside s =
-      left two (stored (spaces_at inner) (at_page p page) at (bytes_of (byte_count size) value))
-      (let d = there.directory in
-      let place = stored_place inner.directories inner.memory inner.frames p d page f.entry before.spaces.sound there.live user.0 user.1 there.here real in
-      let long = written_long (frame_bytes inner.memory f.entry.frame) at size value place.long inside in
-      let kept = map_kept inner.directories inner.memory s.between inner.frames p d f.entry.frame _ before.spaces.sound there.live place.loose long s.written s.between_long in
-      page_stored inner.directories inner.memory s.between two inner.frames p d page at (bytes_of (byte_count size) value) f.entry before.spaces.sound there.live user.0 user.1 there.here real long s.written s.between_long
-      (entry_put_at s.between two (record f.entry { accessed = true; dirty = true }) (kept.tables (slot_number page) ∙ there.table) s.entry) s.long)
-      (λ q. key-stored (spaces_at inner) (at_page p page) at (bytes_of (byte_count size) value) (cell_or_fresh (spaces_at inner) (at_page p page)) q ∙ kept (spaces_at inner) (at_page p page) (cell_or_fresh (spaces_at inner) (at_page p page)) found_there q)
+      flags_left two f.entry.write false false _ (grind (arith, rules)) put long (grind (arith, found_cell))
 
   -- bytes written as one
   pub found_part : (two : List ℕ) (at : ℕ) (new : List ℕ) → f.entry.lazy ≡ false → at + length new ≤ 4096 → BytesStored inner.memory f at new two
@@ -249,6 +214,13 @@ module _ (inner : Inner) (p page : ℕ) (f : Found) (before : AreCountedInside i
       page_stored inner.directories inner.memory s.between two inner.frames p d page at new f.entry before.spaces.sound there.live user.0 user.1 there.here real long s.written s.between_long
       (entry_put_at s.between two (record f.entry { accessed = true; dirty = true }) (kept.tables (slot_number page) ∙ there.table) s.entry) s.long)
       (λ q. key-stored (spaces_at inner) (at_page p page) at new (cell_or_fresh (spaces_at inner) (at_page p page)) q ∙ kept (spaces_at inner) (at_page p page) (cell_or_fresh (spaces_at inner) (at_page p page)) found_there q)
+
+  -- a store
+  pub found_stored : (two : List ℕ) (at : ℕ) (size : Size) (value : ℕ) → f.entry.lazy ≡ false → at + byte_count size ≤ 4096 → BytesStored inner.memory f at (bytes_of (byte_count size) value) two
+      → Left inner (stored (spaces_at inner) (at_page p page) at (bytes_of (byte_count size) value)) two
+  found_stored two at size value real inside s =
+      let n = length-bytes_of (byte_count size) value in
+      found_part two at (bytes_of (byte_count size) value) real (omega (arith, n, inside)) s
 
   -- the bytes of its cell
   pub found_bytes : (cell_or_fresh (spaces_at inner) (at_page p page)).bytes ≡ frame_bytes inner.memory f.entry.frame
@@ -302,7 +274,7 @@ module _ (inner : Inner) (p page : ℕ) (f : Found) (before : AreCountedInside i
 
 -- whether what was found is lazy
 pub found_lazy : (inner : Inner) (p page : ℕ) → AreCountedInside inner → IsUserPage page → (x : Option Found) → x ≡ found_at inner p page → lazy_found x ≡ is_lazy_at (image_at inner) (at_page p page)
-found_lazy inner p page before user None is = sym (absent_lazy inner p page before (sym is))
+found_lazy inner p page before user None is = sym (grind (arith, same_lazy, found_entry))
 found_lazy inner p page before user (Some f) is = sym (found_real inner p page f before user (sym is))
 
 -- a page that was filled isn't lazy

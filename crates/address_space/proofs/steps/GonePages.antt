@@ -1,6 +1,5 @@
 -- A page whose entry goes: its frame, the count of its table, and the table, which goes with its last page.
-use Rattle.address_space.proofs.Prelude
-use Prelude.{◌≡◌, ℕ, ◌-◌, ◌*◌, ◌<◌, ◌≤◌, true, false, List, length, refl, ap, sym, ◌∙◌, subst, Option, Some, is_some, slice_get, slice_set, slot_number, IsUserPage, frame_bytes, Role, Page, IsInUse, get-set_same, table_of, entry_at, IsCleared, count_range, Found, directory_of, spaces_in, IsCounted, AreCountedSpaces, EntryLeft, TableFreed, SlotRemoved, arith, ◌≢◌, ◌+◌, ◌==◌, Bool, inl, inr, if◌then◌else◌, some_value, no_value, Spaces, cost, need, without, is_slot, at_page, IsAlone, IsShared, eq-eqb, ne_eqb, one_alone, another_one, same_cases, nat_order}
+use Rattle.address_space.proofs.Prelude.{◌≡◌, ℕ, ◌-◌, ◌*◌, ◌<◌, ◌≤◌, true, false, List, length, refl, ap, sym, ◌∙◌, subst, Option, Some, is_some, slice_get, slice_set, slot_number, IsUserPage, frame_bytes, Role, Page, IsInUse, get-set_same, table_of, entry_at, IsCleared, count_range, Found, directory_of, spaces_in, IsCounted, AreCountedSpaces, EntryLeft, TableFreed, SlotRemoved, arith, ◌≢◌, ◌+◌, ◌==◌, Bool, inl, inr, if◌then◌else◌, some_value, no_value, Spaces, cost, need, without, is_slot, at_page, IsAlone, IsShared, eq-eqb, ne_eqb, one_alone, another_one, same_cases, nat_order}
 use Rattle.address_space.specs.declared.Spaces.TheInside.{Inside as Inner}
 use Rattle.address_space.proofs.Insides.{AreCountedInside, found_at, spaces_at}
 use Rattle.address_space.proofs.costs.Relief.{cost_left, relief_alone, relief_shared}

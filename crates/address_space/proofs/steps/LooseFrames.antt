@@ -1,18 +1,13 @@
 -- Frames of pages and free ones, where a page leaves or a frame is released.
-use Rattle.address_space.proofs.Prelude
-use Prelude.{◌≡◌, ◌≢◌, ℕ, Bool, List, refl, ap, sym, ◌∙◌, subst, inl, inr, Option, Some, None, arith, ◌⊎◌, slice_get, option_and_then, cases_eq, slice_get_within, slot_number, frame_number, frame_bytes, with_frame-other, Role, Free, Directory, Table, Page, IsReleased, released, get-set_same, get-set_other, PageEntry, Frames, IsCleared, dir_word, table_of, image_from, LooseStay, IsSound, directory_of, EntryLeft, TableFreed}
+use Rattle.address_space.proofs.Prelude.{◌≡◌, ◌≢◌, ℕ, List, refl, ap, sym, ◌∙◌, subst, inl, inr, Option, Some, None, arith, ◌⊎◌, slice_get, option_and_then, cases_eq, slice_get_within, slot_number, frame_number, frame_bytes, with_frame-other, Role, Free, Directory, Table, Page, IsReleased, released, get-set_same, get-set_other, PageEntry, Frames, IsCleared, dir_word, table_of, image_from, LooseStay, IsSound, directory_of, EntryLeft, TableFreed}
 
 -- by its role
 abbrev Loose : Option Role → Type 0
 Loose role = (role ≡ Some Free) ⊎ ((c : ℕ) × (role ≡ Some (Page c)))
 
--- a page with one holder less is a page or free
-loose_role : (r : Role) → Loose (Some r) → Loose (Some (released r))
-loose_role r h = grind arith
-
 -- one frame is released
 release : (roles new : List Role) (g f : ℕ) → IsReleased roles g new → Loose (slice_get roles f) → Loose (slice_get new f)
-release roles new g f r loose = grind (arith, cases_eq, slice_get_within, get-set_same, loose_role, get-set_other)
+release roles new g f r loose = grind (arith, cases_eq, slice_get_within, get-set_same, get-set_other)
 
 pub loose_released : (directories later : List (Option ℕ)) (bytes : List ℕ) (roles new : List Role) (g : ℕ) → IsReleased roles g new
     → LooseStay (image_from directories bytes roles) (image_from later bytes new)
@@ -37,12 +32,9 @@ module _ (directories : List (Option ℕ)) (bytes two : List ℕ) (roles one las
   roles_stay : (f : ℕ) → Loose (slice_get roles f) → Loose (slice_get last f)
   roles_stay f loose = by freed refl
     where
-      first : (b : Bool) → e.lazy ≡ b → Loose (slice_get one f)
-      first b is = grind (arith, release)
-
       by : (x : Option ℕ) → freed ≡ x → Loose (slice_get last f)
-      by None is = subst (λ l. Loose (slice_get l f)) (sym (table_freed.kept is)) (first e.lazy refl)
-      by (Some t) is = release one last t f (table_freed.released t is) (first e.lazy refl)
+      by None is = subst (λ l. Loose (slice_get l f)) (sym (table_freed.kept is)) (grind (arith, release))
+      by (Some t) is = release one last t f (table_freed.released t is) (grind (arith, release))
 
   apart_by : (f g : ℕ) (r : Role) → slice_get roles g ≡ Some r → (Loose (Some r) → ⊥) → Loose (slice_get roles f) → f ≢ g
   apart_by f g r is not loose same = not (subst Loose (ap (slice_get roles) same ∙ is) loose)

@@ -1,6 +1,5 @@
 -- A page that gets an entry: its table, which may be linked for it, the count of the table, and the entry.
-use Rattle.address_space.proofs.Prelude
-use Prelude.{◌≡◌, ℕ, ◌+◌, ◌*◌, ◌^◌, ◌<◌, ◌≤◌, Bool, false, List, length, refl, ap, sym, ◌∙◌, subst, arith, inl, inr, Option, Some, None, ◌≢◌, true, length-set, is_some, slice_get, slice_set, option_and_then, slot_number, IsUserPage, frame_number, frame_bytes, Role, Page, free_frames, IsPageBelow, frames_weight, PageEntry, Frames, dir_word, table_of, entry_at, with_entry, Slot, at_page, fresh, cell_or_fresh, copy_of, joined, directory_of, table_in, entries_in, spaces_in, Roles, IsSound, IsSpaces, Names, Inside, Tables, IsCounted, AreCountedSpaces, KeepsCounts, AlwaysMapsAlike, MapsOneMore, region_pages, pages_under, TableGiven, SlotAdded, PageAdded, SlotJoined, SlotCopied, PageCopied, weight-set, Entries, spaces_of, some_value, ne_eqb, TableGot, TableReady, TakesPage, CountedUp, EntryCopied}
+use Rattle.address_space.proofs.Prelude.{◌≡◌, ℕ, ◌+◌, ◌*◌, ◌^◌, ◌<◌, ◌≤◌, Bool, false, List, length, refl, ap, sym, ◌∙◌, subst, arith, inl, inr, Option, Some, None, ◌≢◌, true, length-set, is_some, slice_get, slice_set, option_and_then, slot_number, IsUserPage, frame_number, frame_bytes, Role, Page, free_frames, IsPageBelow, frames_weight, PageEntry, Frames, dir_word, table_of, entry_at, with_entry, Slot, at_page, fresh, cell_or_fresh, copy_of, joined, directory_of, table_in, entries_in, spaces_in, Roles, IsSound, IsSpaces, Names, Inside, Tables, IsCounted, AreCountedSpaces, KeepsCounts, AlwaysMapsAlike, MapsOneMore, region_pages, pages_under, TableGiven, SlotAdded, PageAdded, SlotJoined, SlotCopied, PageCopied, weight-set, Entries, spaces_of, some_value, ne_eqb, TableGot, TableReady, TakesPage, CountedUp, EntryCopied}
 use Rattle.address_space.proofs.costs.Costed.{Room, room_for_page, mapped}
 use Rattle.address_space.proofs.steps.CountSteps.{counted_roles, table_counted, table_count, count_there, count_fits, page_counted, region_more, one_inserted, alike_taken}
 use Rattle.address_space.proofs.steps.Steps.{page_map_of, inside, table_by_word, table_given, table_given_there, lazy_entry, page_added, page_loose, none_before, role_own, role_other, entry_added}
@@ -31,15 +30,12 @@ slot_joined directories bytes two roles roles' giver giver_page p d page f c rig
     let own : R' f ≡ Some (Page (c + 1)) = role_own roles roles' f (Page c) (Page (c + 1)) role now in
     let others : (g : ℕ) → g ≢ f → R' g ≡ slice_get roles g = role_other roles roles' f (Page (c + 1)) now in
     let none : map.get E slot ≡ None = none_before E m slot (map.get E slot) (sym (get-spaces_of E m slot) ∙ unmapped) in
-    let same_length : length roles' ≡ length roles = ap length now ∙ length-set roles f (Page (c + 1)) in
     let named : e ≡ record e { frame = given.0.frame } = (λ i. record e { frame = sym given.2 i }) in
     let up : 1 ≤ f = above sound.tables in
-    let heavier = weight-set roles f (Page c) (Page (c + 1)) role in
-    let weighs : frames_weight roles' ≡ frames_weight (slice_set roles f (Page (c + 1))) = ap frames_weight now in
     let as_many = lazy-real E slot e none (λ z. omega (arith, z, up)) in
     let added = entry_added directories bytes bytes two roles roles' p d page at.0 e sound live low high none at.1 (record {
       size = refl;
-      length = same_length;
+      length = (ap length now ∙ length-set roles f (Page (c + 1)));
       small = (inside directories bytes roles f (Page c) sound role).small;
       tables = tables-role (directory_of directories) m (slice_get roles) R' f (Page c) sound.tables role (page_loose (slice_get roles) f c role) (page_loose R' f (c + 1) own) others;
       pages = pages-join E (slice_get roles) R' slot e c sound.pages none role own others;
@@ -47,7 +43,7 @@ slot_joined directories bytes two roles roles' giver giver_page p d page f c rig
       table = refl;
       rules = record { frame = λ _. up; zero = λ h. cc; clean = λ h. cc; right = λ h. h; touched = λ h. h };
       kept = λ q x found. refl;
-      weight = omega (arith, heavier, weighs, as_many);
+      weight = omega (arith, weight-set roles f (Page c) (Page (c + 1)) role, ap frames_weight now, as_many);
       used = λ q r u. u;
       linked = λ q r. refl;
     }) is_two long_two in
@@ -154,12 +150,8 @@ module _ (directories : List (Option ℕ)) (bytes : List ℕ) (roles : List Role
         let slot = at_page p page in
         one_inserted S (spaces_in directories two) slot (cell_or_fresh S slot) (ready_unmapped none) (λ q. ap (λ x. map.contains_key x q) joined.spaces ∙ key-joined S (at_page giver giver_page) slot right (cell_or_fresh S slot) q)
 
-    -- the copy of another process's page
-    pub ready_long : length one ≡ length bytes
-    ready_long = grind arith
-
     pub ready_lies : (f : ℕ) → Inside bytes f → Inside one f
-    ready_lies f lies = record { fits = subst (λ n. 4096 * f + 4096 ≤ n) (sym ready_long) lies.fits; small = lies.small }
+    ready_lies f lies = record { fits = subst (λ n. 4096 * f + 4096 ≤ n) (sym (grind arith)) lies.fits; small = lies.small }
 
     pub ready_free : Room directories (spaces_in directories bytes) roles p page → 0 < free_frames roles1
     ready_free room = room_for_page directories bytes one roles roles1 p page before room ready_given

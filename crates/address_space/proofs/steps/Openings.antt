@@ -1,6 +1,5 @@
 -- A machine without any space, and a process that gets an empty one.
-use Rattle.address_space.proofs.Prelude
-use Prelude.{◌≡◌, ◌≢◌, ℕ, zero, suc, ◌+◌, ◌*◌, ◌<◌, ◌≤◌, true, cond, List, length, replicate, refl, ap, sym, ◌∙◌, subst, arith, inl, inr, Option, Some, None, length-set, get_or, ◌⊎◌, is_some, slice_get, slice_set, if◌then◌else◌, sum_by, option_and_then, option_map, unwrap_or, list_any, range_with_len, cases_eq, length-replicate, get_or-drop, sum_by-cons, slice_get_within, is_present, same, slot_number, index_number, same_map, same_set, get-collect, frame_bytes, blank_bytes, word_at, word_in, with_frame, Role, Reserved, Free, Directory, Table, Page, frames_weight, weight, IsTaken, opening_roles, free_frames, weight-taken, get-set_same, get-set_other, PageEntry, Frames, dir_word, word_table, word_entry, table_of, Slot, slot_order, Spaces, cost, cost_of, pages_of, at_page, user_slots, Entries, lazy_count, spaces_of, cell_of, Directories, Roles, directory_of, table_in, entry_in, entries_in, spaces_in, live_cost, total_cost, Tables, Pages, IsSpaces, SpaceAdded, with_frame-same, with_frame-other, frame-blank}
+use Rattle.address_space.proofs.Prelude.{◌≡◌, ◌≢◌, ℕ, zero, suc, ◌+◌, ◌*◌, ◌<◌, ◌≤◌, true, cond, List, length, replicate, refl, ap, sym, ◌∙◌, subst, arith, inl, inr, Option, Some, None, length-set, get_or, ◌⊎◌, is_some, slice_get, slice_set, if◌then◌else◌, sum_by, option_and_then, option_map, unwrap_or, list_any, range_with_len, cases_eq, length-replicate, get_or-drop, sum_by-cons, slice_get_within, is_present, same, slot_number, index_number, same_map, same_set, get-collect, frame_bytes, blank_bytes, word_at, word_in, with_frame, Role, Reserved, Free, Directory, Table, Page, frames_weight, weight, IsTaken, opening_roles, free_frames, weight-taken, get-set_same, get-set_other, PageEntry, Frames, dir_word, word_table, word_entry, table_of, Slot, slot_order, Spaces, cost, cost_of, pages_of, at_page, user_slots, Entries, lazy_count, spaces_of, cell_of, Directories, Roles, directory_of, table_in, entry_in, entries_in, spaces_in, live_cost, total_cost, Tables, Pages, IsSpaces, SpaceAdded, with_frame-same, with_frame-other, frame-blank}
 use Rattle.address_space.proofs.costs.Costs.{contains-pages_of}
 use Rattle.address_space.proofs.costs.CostSteps.{sum_one}
 use Rattle.address_space.proofs.costs.Costed.{free_where_light}
@@ -23,22 +22,21 @@ zero_word : (n i : ℕ) → word_in (replicate n 0) i ≡ 0
 unfolding word_at
 zero_word n i = grind (arith, get_or-drop, zero_byte)
 
--- a frame of zeros holds no table
-zeros_name_nothing : (m : Frames) (d s : ℕ) → m d ≡ replicate 4096 0 → table_of m d s ≡ None
-zeros_name_nothing m d s is = ap word_table (ap (λ l. word_in l s) is ∙ zero_word 4096 s)
+pub directory_set : (directories : List (Option ℕ)) (p : ℕ) (x : Option ℕ) → p < length directories
+    → directory_of (slice_set directories p x) p ≡ x
+directory_set directories p x l = ap (λ y. unwrap_or y None) (get-set_same directories p x l)
 
-directory_set : (directories : List (Option ℕ)) (p f : ℕ) → p < length directories → directory_of (slice_set directories p (Some f)) p ≡ Some f
-directory_set directories p f l = ap (λ x. unwrap_or x None) (get-set_same directories p (Some f) l)
-
-directory_kept : (directories : List (Option ℕ)) (p f q : ℕ) → q ≢ p → directory_of (slice_set directories p (Some f)) q ≡ directory_of directories q
-directory_kept directories p f q n = ap (λ x. unwrap_or x None) (get-set_other directories p q (Some f) n)
+pub directory_kept : (directories : List (Option ℕ)) (p : ℕ) (x : Option ℕ) (q : ℕ) → q ≢ p
+    → directory_of (slice_set directories p x) q ≡ directory_of directories q
+directory_kept directories p x q n = ap (λ y. unwrap_or y None) (get-set_other directories p q x n)
 
 -- ---- A blank directory
 
 module _ (D D' : Directories) (m : Frames) (R R' : Roles) (T : Tables D m R) (p f : ℕ) (none : D p ≡ None) (free : R f ≡ Some Free) (blank : m f ≡ replicate 4096 0)
     (own : D' p ≡ Some f) (others : (q : ℕ) → q ≢ p → D' q ≡ D q) (role : R' f ≡ Some (Directory p)) (roles : (g : ℕ) → g ≢ f → R' g ≡ R g) where
   no_table_own : (s : ℕ) → table_in D' m p s ≡ None
-  no_table_own s = ap (option_and_then (λ d. table_of m d s)) own ∙ zeros_name_nothing m f s blank
+  no_table_own s =
+      ap (option_and_then (λ d. table_of m d s)) own ∙ (ap word_table (ap (λ l. word_in l s) blank ∙ zero_word 4096 s))
 
   same_tables : (q s : ℕ) → table_in D' m q s ≡ table_in D m q s
   same_tables q s = grind (arith, cases_eq, no_table_own)
@@ -76,13 +74,17 @@ no_pages D m p page none = grind (arith, get-entries_in)
 pub empty_cost : (S : Spaces) (p : ℕ) → ((page : ℕ) → map.get S (at_page p page) ≡ None) → cost S p ≡ 1
 empty_cost S p none = ap cost_of (same_set (pages_of S p) set.empty (λ page. contains-pages_of S p page ∙ ap is_some (none page)))
 
-total-directory : (directories : List (Option ℕ)) (S : Spaces) (p f : ℕ) → p < 64 → p < length directories → directory_of directories p ≡ None → ((page : ℕ) → map.get S (at_page p page) ≡ None)
-    → total_cost (slice_set directories p (Some f)) S ≡ total_cost directories S + 1
+-- the costs with a process that has no page, and those of all others
+pub total-directory : (directories without : List (Option ℕ)) (S : Spaces) (p d : ℕ) → p < 64
+    → directory_of directories p ≡ Some d → directory_of without p ≡ None
+    → ((q : ℕ) → q ≢ p → directory_of without q ≡ directory_of directories q) → ((page : ℕ) → map.get S (at_page p page) ≡ None)
+    → total_cost directories S ≡ total_cost without S + 1
 unfolding total_cost
-total-directory directories S p f few l none pages =
-    sum_one (live_cost (directory_of (slice_set directories p (Some f))) S) (live_cost (directory_of directories) S) p 1 0 64 (omega arith) (omega arith)
-    (ap (λ x. if is_some x then cost S p else 0) (directory_set directories p f l) ∙ empty_cost S p pages ∙ sym (ap (λ x. (if is_some x then cost S p else 0) + 1) none))
-    (λ q n. ap (λ x. if is_some x then cost S q else 0) (directory_kept directories p f q n))
+total-directory directories without S p d few live none others pages =
+    sum_one (live_cost (directory_of directories) S) (live_cost (directory_of without) S) p 1 0 64 (omega arith) (omega arith)
+    (ap (λ x. if is_some x then cost S p else 0) live ∙ empty_cost S p pages
+    ∙ sym (ap (λ x. (if is_some x then cost S p else 0) + 1) none))
+    (λ q n. sym (ap (λ x. if is_some x then cost S q else 0) (others q n)))
 
 pub space_added : (directories : List (Option ℕ)) (bytes one : List ℕ) (roles roles' : List Role) (p f : ℕ) → IsSpaces directories bytes roles → p < 64 → directory_of directories p ≡ None
     → 2 + total_cost directories (spaces_in directories bytes) ≤ length roles → IsTaken roles f (Directory p) roles' → frame_bytes one ≡ with_frame (frame_bytes bytes) f (replicate 4096 0) → length one ≡ length bytes
@@ -103,8 +105,8 @@ space_added directories bytes one roles roles' p f s few none room taken is long
     let Ta : Tables D m1 R = tables-loose D m R T f (replicate 4096 0) loose (length-replicate {A = ℕ} 4096 0) in
     let blank : m1 f ≡ replicate 4096 0 = with_frame-same m f (replicate 4096 0) in
     let l : p < length directories = let n = sound.pids in omega arith in
-    let own : D' p ≡ Some f = directory_set directories p f l in
-    let others : (q : ℕ) → q ≢ p → D' q ≡ D q = λ q n. directory_kept directories p f q n in
+    let own : D' p ≡ Some f = directory_set directories p (Some f) l in
+    let others : (q : ℕ) → q ≢ p → D' q ≡ D q = λ q n. directory_kept directories p (Some f) q n in
     let role : R' f ≡ Some (Directory p) = role_own roles roles' f Free (Directory p) free taken.now in
     let kept : (g : ℕ) → g ≢ f → R' g ≡ R g = role_other roles roles' f (Directory p) taken.now in
     let E : Entries = entries_in D m in
@@ -116,7 +118,7 @@ space_added directories bytes one roles roles' p f s few none room taken is long
     let same_length : length roles' ≡ length roles = ap length taken.now ∙ length-set roles f (Directory p) in
     let weight : frames_weight roles' ≡ frames_weight roles + 1 = weight-taken roles roles' f (Directory p) taken in
     let pages : (page : ℕ) → map.get (spaces_of E m) (at_page p page) ≡ None = λ page. get-spaces_of E m (at_page p page) ∙ ap (option_map (cell_of E m (at_page p page))) (no_pages D m p page none) in
-    let total : total_cost directories' (spaces_of (entries_in D' (frame_bytes one)) (frame_bytes one)) ≡ total_cost directories (spaces_of E m) + 1 = ap (total_cost directories') spaces ∙ total-directory directories (spaces_of E m) p f few l none pages in
+    let total : total_cost directories' (spaces_of (entries_in D' (frame_bytes one)) (frame_bytes one)) ≡ total_cost directories (spaces_of E m) + 1 = ap (total_cost directories') spaces ∙ total-directory directories' directories (spaces_of E m) p f few own none (λ q n. sym (others q n)) pages in
     let w = s.weighs in
     record {
       after = record {
@@ -210,11 +212,9 @@ opening_is_sound n low high =
     let R : Roles = slice_get (opening_roles n) in
     let long = opening_length n in
     let weight : frames_weight (opening_roles n) ≡ 1 = opening_weight n (omega arith) in
-    let total = opening_cost (spaces_in (replicate 64 None) (blank_bytes n)) in
-    let size = blank_length n in
     record {
       sound = record {
-        size = size ∙ ap (λ k. 4096 * k) (sym long);
+        size = (blank_length n) ∙ ap (λ k. 4096 * k) (sym long);
         few = subst (λ k. k ≤ 1048576) (sym long) high;
         pids = refl;
         tables = record {
@@ -237,7 +237,7 @@ opening_is_sound n low high =
       };
       in_use = λ p s t found. let a : table_in D m p s ≡ None = ap (option_and_then (λ d. table_of m d s)) (no_directory 64 p) in absurd (let b : Some t ≡ None = sym found ∙ a in cc);
       weighs = let z : lazy_count (entries_in D m) ≡ 0 = ap lazy_count (opening_entries m) in omega (arith, weight, z);
-      within = omega (arith, total, long, low);
+      within = omega (arith, opening_cost (spaces_in (replicate 64 None) (blank_bytes n)), long, low);
     }
 
 -- a process without a directory has nothing mapped
@@ -249,24 +249,16 @@ no_cell directories bytes p page none = grind (arith, get-spaces_of, no_pages)
 pub cost_within : (directories : List (Option ℕ)) (S : Spaces) (p : ℕ) → length directories ≡ 64 → is_some (directory_of directories p) ≡ true → cost S p ≤ total_cost directories S
 unfolding total_cost
 cost_within directories S p long live =
-    let few : p < 64 = by (directory_of directories p) refl live in
-    ap_le (ap (λ b. if b then cost S p else 0) live) (among p 0 64 (omega arith) (omega arith))
+    let few : p < 64 = (grind (arith, live_small)) in
+    (omega (arith, (ap (λ b. if b then cost S p else 0) live), (among p 0 64 (omega arith) (omega arith))))
   where
-    by : (x : Option ℕ) → directory_of directories p ≡ x → is_some x ≡ true → p < 64
-    by x is h = grind (arith, live_small)
-
-    ap_le : {n : ℕ} → live_cost (directory_of directories) S p ≡ cost S p → live_cost (directory_of directories) S p ≤ n → cost S p ≤ n
-    ap_le e l = omega (arith, e, l)
-
     among : (p a n : ℕ) → a ≤ p → p < a + n → live_cost (directory_of directories) S p ≤ sum_by (live_cost (directory_of directories) S) (range_with_len a n)
     among p a zero low high = absurd (omega arith)
     among p a (suc n) low high = elim (cases_eq p a) [
       | inl same ↦
           let s = sum_by-cons (live_cost (directory_of directories) S) a (range_with_len (a + 1) n) in
-          let e : live_cost (directory_of directories) S p ≡ live_cost (directory_of directories) S a = ap (live_cost (directory_of directories) S) same in
-          omega (arith, s, e)
+          omega (arith, s, ap (live_cost (directory_of directories) S) same)
       | inr differ ↦
-          let s = sum_by-cons (live_cost (directory_of directories) S) a (range_with_len (a + 1) n) in
           let r = among p (a + 1) n (omega arith) (omega arith) in
-          omega (arith, s, r)
+          omega (arith, sum_by-cons (live_cost (directory_of directories) S) a (range_with_len (a + 1) n), r)
     ]

@@ -1,6 +1,5 @@
 -- A copy of a process's pages goes from region to region, and through each by its table.
-use Rattle.address_space.proofs.Prelude
-use Prelude.{◌≡◌, ℕ, suc, ◌+◌, ◌-◌, ◌*◌, ◌<◌, ◌≤◌, Bool, true, false, List, length, refl, ap, sym, ◌∙◌, subst, arith, Option, Some, None, is_some, slice_get, slice_set, IfSome, if◌then◌else◌, option_and_then, slot_number, index_number, IsUserPage, is_present, frame_bytes, word_in, Role, PageEntry, Frames, table_of, entry_at, entry_from, entry_word, word_entry, counted, count_range, count_range-none, count_range-same, Slot, cost, at_page, cell_or_fresh, copy_of, directory_of, spaces_in, table_in, total_cost, IsSound, IsSpaces, IsCounted, IsEmptySpace, PageCopied, CopiedBelow, CopyIn, PagesCopied, words_left, ◌⊎◌, inl, inr, cases_lt, Cell, Spaces, Set, nat_order, option_map, cost_of, need, pages_of, regions_of, without, is_slot, region_pages, length-set, slice_get_within, Inside, TakesPage, set-set, count_range-add, count-table, mapped_in_table, count_none}
+use Rattle.address_space.proofs.Prelude.{◌≡◌, ℕ, suc, ◌+◌, ◌-◌, ◌*◌, ◌<◌, ◌≤◌, Bool, true, false, List, length, refl, ap, sym, ◌∙◌, subst, arith, Option, Some, None, is_some, slice_get, slice_set, IfSome, if◌then◌else◌, option_and_then, slot_number, index_number, IsUserPage, is_present, frame_bytes, word_in, Role, PageEntry, Frames, table_of, entry_at, entry_from, entry_word, word_entry, counted, count_range, count_range-none, count_range-same, Slot, cost, at_page, cell_or_fresh, copy_of, directory_of, spaces_in, table_in, total_cost, IsSound, IsSpaces, IsCounted, IsEmptySpace, PageCopied, CopiedBelow, CopyIn, PagesCopied, words_left, ◌⊎◌, inl, inr, cases_lt, Cell, Spaces, Set, nat_order, option_map, cost_of, need, pages_of, regions_of, without, is_slot, region_pages, length-set, slice_get_within, Inside, TakesPage, set-set, count_range-add, count-table, mapped_in_table, count_none}
 use Rattle.page_map.specs.declared.regions.Listed.{Listed}
 use Rattle.address_space.proofs.costs.Costed.{Room}
 use Rattle.address_space.proofs.costs.Costs.{contains-pages_of, cost-insert}
@@ -24,9 +23,6 @@ word_absent w h = ap (λ b. if b then Some (entry_from w) else None) h
 word_present : (w : ℕ) (e : PageEntry) → word_entry w ≡ Some e → is_present w ≡ true
 word_present w e h = grind (arith, word_absent)
 
-no_word : (w : ℕ) → word_entry w ≡ None → is_present w ≡ false
-no_word w h = grind arith
-
 -- where none is left, no word has an entry
 pub none_left : (bytes : List ℕ) (table index : ℕ) → words_left bytes table index ≡ 0 → (i : ℕ) → index ≤ i → i < 1024 → word_entry (word_in (frame_bytes bytes table) i) ≡ None
 none_left bytes table index none i low high =
@@ -37,7 +33,7 @@ pub none_listed : {bytes memory : List ℕ} (table index : ℕ) → memory ≡ b
 none_listed {bytes} {memory} table index same none =
     sym (ap (λ b. words_left b table index) same)
     ∙ count_range-none (λ i. is_present (word_in (frame_bytes memory table) i)) index (1024 - index)
-    (λ i l. no_word (word_in (frame_bytes memory table) (index + i)) (none (index + i) (omega arith) (omega (arith, l))))
+    (λ i l. (grind arith))
 
 -- behind the first word with an entry one less is left
 pub one_left : (bytes : List ℕ) (table index found : ℕ) (e : PageEntry) → index ≤ found → found < 1024 → ((i : ℕ) → index ≤ i → i < found → word_entry (word_in (frame_bytes bytes table) i) ≡ None)
@@ -46,13 +42,12 @@ unfolding count_range
 one_left bytes table index found e up inside least is =
     let long : 1024 - index ≡ (found - index) + (1024 - found) = omega (arith, up, inside) in
     let parts : count_range P index (1024 - index) ≡ count_range P index (found - index) + count_range P (index + (found - index)) (1024 - found) = ap (count_range P index) long ∙ count_range-add P index (found - index) (1024 - found) in
-    let none : count_range P index (found - index) ≡ 0 = count_range-none P index (found - index) (λ i l. no_word (word_in (frame_bytes bytes table) (index + i)) (least (index + i) (omega arith) (omega (arith, l)))) in
     let here : index + (found - index) ≡ found = omega (arith, up) in
     let moved : count_range P (index + (found - index)) (1024 - found) ≡ count_range P found (1024 - found) = ap (λ k. count_range P k (1024 - found)) here in
     let some : 1024 - found ≡ suc (1024 - (found + 1)) = omega (arith, inside) in
     let rest : count_range P found (1024 - found) ≡ counted (P found) + count_range P (found + 1) (1024 - (found + 1)) = ap (count_range P found) some in
     let one : counted (P found) ≡ 1 = ap counted (word_present (word_in (frame_bytes bytes table) found) e is) in
-    omega (arith, parts, none, moved, rest, one)
+    omega (arith, parts, count_range-none P index (found - index) (λ i l. (grind arith)), moved, rest, one)
   where
     P : ℕ → Bool
     P i = is_present (word_in (frame_bytes bytes table) i)
@@ -84,19 +79,16 @@ present_mapped directories memory from source slot table index long home inside 
     ∙ sym (mapped_in_table (frame_bytes memory) source slot table (1024 * slot + index) s there)
     ∙ sym (mapped_read directories memory from source (1024 * slot + index) home (live_small directories from source long home) (omega (arith, low)) (omega (arith, high, inside)))
 
-first_slot : (slot : ℕ) → slot_number (1024 * slot) ≡ slot
-first_slot slot = omega arith
-
 -- the count of a region's table is how many words are present in it
 module _ {directories : List (Option ℕ)} {bytes : List ℕ} {roles : List Role} {d slot table : ℕ} (counts : List ℕ) (p : ℕ) (sound : IsSound directories bytes roles) (live : directory_of directories p ≡ Some d) (low : 256 ≤ slot) (high : slot < 960)
     (there : table_of (frame_bytes bytes) d slot ≡ Some table) (C : IsCounted (spaces_in directories bytes) roles counts) where
   pub region_there : table < length counts
-  region_there = count_there directories bytes roles counts p d (1024 * slot) table 0 sound live (omega (arith, low), omega (arith, high)) (ap (table_of (frame_bytes bytes) d) (first_slot slot) ∙ there) C
+  region_there = count_there directories bytes roles counts p d (1024 * slot) table 0 sound live (omega (arith, low), omega (arith, high)) (ap (table_of (frame_bytes bytes) d) (omega arith) ∙ there) C
 
   pub region_words : (n : ℕ) → slice_get counts table ≡ Some n → n ≡ words_left bytes table 0
   region_words n is =
-      count_by_entries directories bytes roles counts p d (1024 * slot) table n sound live (omega (arith, low), omega (arith, high)) (ap (table_of (frame_bytes bytes) d) (first_slot slot) ∙ there) C is
-      ∙ ap (λ s. count_range (λ other. is_some (entry_at (frame_bytes bytes) d other)) (1024 * s) 1024) (first_slot slot)
+      count_by_entries directories bytes roles counts p d (1024 * slot) table n sound live (omega (arith, low), omega (arith, high)) (ap (table_of (frame_bytes bytes) d) (omega arith) ∙ there) C is
+      ∙ ap (λ s. count_range (λ other. is_some (entry_at (frame_bytes bytes) d other)) (1024 * s) 1024) (omega arith)
       ∙ sym (count-table (frame_bytes bytes) d slot table there)
 
 -- the counts once a table, where one is given, counts so many
@@ -153,8 +145,7 @@ module _ {directories : List (Option ℕ)} {bytes one : List ℕ} {roles roles1 
   made_inside counts t k copy there right =
       let S = spaces_in directories one in
       let is = table_count S S directories one roles1 (slice_set counts t k) to slot t k copy.so_far.after.sound (sym there) right in
-      let within = slice_get_within (slice_set counts t k) t (region_pages S to slot) is in
-      omega (arith, within, length-set counts t k)
+      omega (arith, slice_get_within (slice_set counts t k) t (region_pages S to slot) is, length-set counts t k)
 
   -- whose table lies in memory
   pub copy_inside : {index : ℕ} {memory : List ℕ} → CopyIn directories from source to slot table index bytes roles one roles1 → memory ≡ one → slot < 960 → 4096 * table + 4096 ≤ length memory
@@ -291,11 +282,10 @@ regions_copied {directories} {bytes} {one} {roles} {roles1} {from} {source} {to}
 -- fewer pages cost no more
 cost_subset : (few many : Set nat_order) → ((q : ℕ) → set.contains few q ≡ true → set.contains many q ≡ true) → cost_of few ≤ cost_of many
 cost_subset few many within =
-    let pages = len-subset few many within in
     let regions = len-subset (regions_of few) (regions_of many) (λ r there.
     let m = region_member few r there in
     subst (λ n. set.contains (regions_of many) n ≡ true) m.1 (region_kept many m.0 (within m.0 m.2))) in
-    omega (arith, pages, regions)
+    omega (arith, len-subset few many within, regions)
 
 copied_there : (slot : Slot) (x : Option Cell) → is_some x ≡ is_some (option_map (copy_of slot) x)
 copied_there slot None = refl
@@ -340,7 +330,6 @@ pub all_copied : {directories : List (Option ℕ)} {bytes one : List ℕ} {roles
     → (left ≡ 0) ⊎ ((s : ℕ) → first ≤ s → s < 960 → table_of (frame_bytes one) source s ≡ None) → PagesCopied directories from to bytes roles one roles1
 all_copied first home before empty so_far used made rest (inr none) = regions_copied first home before empty so_far none
 all_copied {directories} {bytes} {one} {roles} {roles1} {from} {source} {to} first home before empty so_far used made rest (inl full) =
-    let high = so_far.high in
     copied_at_last directories bytes one roles roles1 from to before
-    (copied_over directories bytes one roles roles1 from to (1024 * first) 0xf0000 so_far high (omega arith)
+    (copied_over directories bytes one roles roles1 from to (1024 * first) 0xf0000 so_far so_far.high (omega arith)
     (λ page low past. none_left_over so_far (omega (arith, used, made, rest, full)) page low))

@@ -1,6 +1,5 @@
 -- What each step of the code leaves.
-use Rattle.address_space.proofs.Prelude
-use Prelude.{◌≡◌, ◌≢◌, ℕ, ◌+◌, ◌*◌, ◌^◌, ◌<◌, ◌≤◌, Bool, true, false, List, length, replicate, refl, ap, sym, ◌∙◌, subst, arith, inl, inr, Option, Some, None, length-set, cond, is_some, slice_get, slice_set, option_and_then, option_map, slice_get_within, slot_number, is_present, frame_number, frame_bytes, word_in, with_frame, with_frame_bytes, Role, Reserved, Free, Directory, Table, Page, IsTaken, frames_weight, get-set_same, get-set_other, weight-taken, length-frame, with_frame-other, frames-with_frame_bytes, entry_word-names, entry_word-lt, entry_word-present, word_entry-entry_word, length-replicate, PageEntry, Frames, dir_word, word_table, table_of, with_table, with_entry, entry_word, IsKernelEntry, IsPageMap, Slot, fresh, at_page, slot_order, Entries, lazy_count, cell_of, spaces_of, Directories, Roles, directory_of, table_in, entry_in, entries_in, spaces_in, total_cost, Tables, Pages, HoldsPage, IsSound, InUseAt, Inside, TableGiven, PageAdded, SlotAdded, get-insert, same_itself}
+use Rattle.address_space.proofs.Prelude.{◌≡◌, ◌≢◌, ℕ, ◌+◌, ◌*◌, ◌^◌, ◌<◌, ◌≤◌, Bool, true, false, List, length, replicate, refl, ap, sym, ◌∙◌, subst, arith, inl, inr, Option, Some, None, length-set, cond, is_some, slice_get, slice_set, option_and_then, option_map, slice_get_within, slot_number, is_present, frame_number, frame_bytes, word_in, with_frame, with_frame_bytes, Role, Reserved, Free, Directory, Table, Page, IsTaken, frames_weight, get-set_same, get-set_other, weight-taken, length-frame, with_frame-other, frames-with_frame_bytes, entry_word-names, entry_word-lt, entry_word-present, word_entry-entry_word, length-replicate, PageEntry, Frames, dir_word, word_table, table_of, with_table, with_entry, entry_word, IsKernelEntry, IsPageMap, Slot, fresh, at_page, slot_order, Entries, lazy_count, cell_of, spaces_of, Directories, Roles, directory_of, table_in, entry_in, entries_in, spaces_in, total_cost, Tables, Pages, HoldsPage, IsSound, InUseAt, Inside, TableGiven, PageAdded, SlotAdded, get-insert, same_itself}
 use Rattle.address_space.proofs.entries.Refinement.{lazy_refines, get-spaces_of}
 use Rattle.address_space.proofs.costs.CostSteps.{total-entry}
 use Rattle.address_space.proofs.entries.EntrySteps.{Loose, entries-insert, entry_own, tables-entry, tables_kept, use_own, use_kept}
@@ -119,9 +118,6 @@ holds_inside directories bytes roles f sound (inr h) = inside directories bytes 
 abbrev pub lazy_entry : Bool → PageEntry
 lazy_entry write = record { frame = 0; write = write; may = true; accessed = false; dirty = false; lazy = true }
 
-pub lazy_rules : (write : Bool) → IsKernelEntry (lazy_entry write)
-lazy_rules write = record { frame = λ h. cc; zero = λ h. refl; clean = λ h. refl; right = λ h. refl; touched = λ h. cc }
-
 -- memory and roles that are ready for a new entry at a slot that has none
 pub record IsReady (directories : List (Option ℕ)) (bytes : List ℕ) (roles : List Role) (d page : ℕ) (slot : Slot) (e : PageEntry) (one : List ℕ) (roles' : List Role) : Type 0 where
   pub size : length one ≡ length bytes
@@ -203,7 +199,6 @@ page_added directories bytes two roles p d page t write sound live low high unma
     let e : PageEntry = lazy_entry write in
     let slot : Slot = at_page p page in
     let none : map.get E slot ≡ None = none_before E m slot (map.get E slot) (sym (get-spaces_of E m slot) ∙ unmapped) in
-    let more = lazy-more E slot e none refl in
     let zero_role = sound.tables.zero_role in
     let added = entry_added directories bytes bytes two roles roles p d page t e sound live low high none there (record {
       size = refl;
@@ -213,9 +208,9 @@ page_added directories bytes two roles p d page t write sound live low high unma
       pages = pages-lazy E (slice_get roles) slot e sound.pages none refl zero_role;
       entries = refl;
       table = refl;
-      rules = lazy_rules write;
+      rules = record { frame = λ h. cc; zero = λ h. refl; clean = λ h. refl; right = λ h. refl; touched = λ h. cc };
       kept = λ q x found. refl;
-      weight = omega (arith, more);
+      weight = omega (arith, lazy-more E slot e none refl);
       used = λ q r u. u;
       linked = λ q r. refl;
     }) is_two long_two in

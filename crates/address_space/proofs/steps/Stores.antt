@@ -1,8 +1,8 @@
 -- The effect of a store, a load and a change of the right through a mapped slot.
-use Rattle.address_space.proofs.Prelude
-use Prelude.{◌≡◌, ℕ, suc, ◌+◌, ◌*◌, ◌/◌, ◌%◌, ◌^◌, ◌<◌, ◌≤◌, Bool, true, false, List, ◌++◌, length, take, drop, refl, ap, sym, ◌∙◌, subst, arith, inl, inr, Option, Some, length-append, length-drop, zero, append_assoc, is_some, slice_get, slice_set, splice, option_and_then, slot_number, index_number, byte_count, Size, frame_number, IsKernelTableWord, frame_bytes, word_in, with_word, with_frame, Role, Table, Page, PageEntry, Frames, dir_word, table_of, word_entry, entry_at, with_entry, entry_word, IsKernelEntry, entry_word-names, entry_word-lt, entry_word-present, word_entry-entry_word, same, Slot, Spaces, Cell, cell_or_fresh, write_at, bytes_of, stored, protected, at_page, Entries, holders_of, cell_of, spaces_of, Directories, Roles, directory_of, table_in, entries_in, spaces_in, total_cost, Tables, Pages, HoldsPage, IsSound, InUseAt, Names, Inside, InUse, ne_eqb, with_frame-other, frames-with_word_at, frames-with_byte, set_split, length-take-le, EntryPut, Touched, flagged, accessed as accessed_in}
+use Rattle.address_space.proofs.Prelude.{◌≡◌, ℕ, ◌+◌, ◌*◌, ◌%◌, ◌^◌, ◌<◌, ◌≤◌, Bool, true, false, List, ◌++◌, length, take, drop, refl, ap, sym, ◌∙◌, subst, arith, inl, inr, Option, Some, length-append, length-drop, zero, append_assoc, is_some, slice_get, slice_set, splice, option_and_then, slot_number, index_number, byte_count, Size, frame_number, IsKernelTableWord, frame_bytes, word_in, with_word, with_frame, Role, Table, Page, PageEntry, Frames, dir_word, table_of, word_entry, entry_at, with_entry, entry_word, IsKernelEntry, entry_word-names, entry_word-lt, entry_word-present, word_entry-entry_word, Slot, Cell, cell_or_fresh, write_at, bytes_of, stored, at_page, Entries, holders_of, cell_of, spaces_of, Directories, Roles, directory_of, table_in, entries_in, spaces_in, total_cost, Tables, Pages, HoldsPage, IsSound, InUseAt, Names, Inside, InUse, ne_eqb, with_frame-other, frames-with_word_at, frames-with_byte, set_split, length-take-le, EntryPut, Touched}
 use Rattle.byteorder.specs.Endian.{little_bytes}
 use Rattle.address_space.proofs.entries.UserSlots.{in_user_slots}
+pub use Rattle.address_space.proofs.steps.Bytes.{length-bytes as length-bytes_of}
 use Rattle.address_space.proofs.costs.CostSteps.{total-kept}
 use Rattle.address_space.proofs.entries.EntrySteps.{Loose, get-entries_in, entries-insert, tables-entry, tables_kept, use_kept}
 use Rattle.address_space.proofs.frames.FrameSteps.{loose-entry, loose-entries, loose-tables, tables-loose, use_loose}
@@ -184,67 +184,37 @@ page_stored directories bytes one two roles p d page at written e sound live low
       stay = places_put D m D (frame_bytes two) slot e e' there refl E2 (λ q r t found. h.tables q r ∙ w.tables q r ∙ found);
     }
 
--- flags of a slot's own cell set as in its entry
-flagged_cell : (spaces : Spaces) (slot : Slot) (cell : Cell) (write accessed : Bool) → cell_or_fresh spaces slot ≡ cell
-    → (c : Cell) → c ≡ record cell { write = write; accessed = accessed } → map.insert spaces slot c ≡ map.insert spaces slot (record (cell_or_fresh spaces slot) { write = write; accessed = accessed })
-flagged_cell spaces slot cell write accessed is c same = ap (map.insert spaces slot) (same ∙ ap (λ (x : Cell). record x { write = write; accessed = accessed }) (sym is))
-
--- an entry's flags alone were written
-pub flags_set : (directories : List (Option ℕ)) (bytes two : List ℕ) (roles : List Role) (p d page : ℕ) (e : PageEntry) (write accessed : Bool) → IsSound directories bytes roles → directory_of directories p ≡ Some d
+-- an entry's flags alone were written, and its slot's cell has the same
+pub flags_set : (directories : List (Option ℕ)) (bytes two : List ℕ) (roles : List Role) (p d page : ℕ) (e : PageEntry)
+    (write accessed dirty : Bool) (c : Cell) → IsSound directories bytes roles → directory_of directories p ≡ Some d
     → 0x40000 ≤ page → page < 0xf0000 → entry_at (frame_bytes bytes) d page ≡ Some e
-    → (write ≡ true → e.may ≡ true) → (e.dirty ≡ true → accessed ≡ true)
-    → EntryPut bytes d page e (record e { write = write; accessed = accessed }) two → length two ≡ length bytes
-    → Touched directories (flagged (spaces_in directories bytes) (at_page p page) write accessed) bytes roles two
+    → IsKernelEntry (record e { write = write; accessed = accessed; dirty = dirty })
+    → EntryPut bytes d page e (record e { write = write; accessed = accessed; dirty = dirty }) two
+    → length two ≡ length bytes
+    → c ≡ record (cell_of (entries_in (directory_of directories) (frame_bytes bytes)) (frame_bytes bytes) (at_page p page)
+    e) { write = write; accessed = accessed; dirty = dirty }
+    → Touched directories (map.insert (spaces_in directories bytes) (at_page p page) c) bytes roles two
 unfolding spaces_in
-flags_set directories bytes two roles p d page e write accessed sound live low high is_entry right touched is_two long_two =
+flags_set directories bytes two roles p d page e write accessed dirty c sound live low high here rules put long cell =
     let m : Frames = frame_bytes bytes in
     let E : Entries = entries_in (directory_of directories) m in
     let slot : Slot = at_page p page in
-    let e' : PageEntry = record e { write = write; accessed = accessed } in
-    let rules = entry_rules directories bytes roles p d page e sound live is_entry in
-    let rules' : IsKernelEntry e' = record { frame = rules.frame; zero = rules.zero; clean = rules.clean; right = right; touched = touched } in
-    let h = entry_put directories bytes two roles p d page e e' sound live low high is_entry rules' refl is_two long_two in
-    let cell = cell_at E m slot e h.named in
+    let e' : PageEntry = record e { write = write; accessed = accessed; dirty = dirty } in
+    let h = entry_put directories bytes two roles p d page e e' sound live low high here rules refl put long in
     record {
       sound = h.sound;
       spaces = h.spaces ∙ flags_refine E m slot e e' h.named refl
-          ∙ flagged_cell (spaces_of E m) slot (cell_of E m slot e) write accessed cell (record (cell_or_fresh (spaces_of E m) slot) { write = write; may = e.may; accessed = accessed; dirty = e.dirty })
-          (ap (λ (c : Cell). record c { write = write; may = e.may; accessed = accessed; dirty = e.dirty }) cell);
+          ∙ ap (map.insert (spaces_of E m) slot) (ap (λ (x : Cell). record x {
+              write = write;
+              may = e.may;
+              accessed = accessed;
+              dirty = dirty;
+          }) (cell_at E m slot e h.named) ∙ sym cell);
       cost = (λ i. total_cost directories (spaces_of (h.entries i) (frame_bytes two))) ∙ total-kept directories E m (frame_bytes two) slot e e' h.named;
       in_use = h.in_use;
       lazy = ap (λ x. holders_of x 0) h.entries ∙ lazy-same E slot e e' h.named refl;
       stay = places_put (directory_of directories) m (directory_of directories) (frame_bytes two) slot e e' h.named refl h.entries (λ q r t found. h.tables q r ∙ found);
     }
-
--- an entry's marks alone were cleared
-pub marks_cleared : (directories : List (Option ℕ)) (bytes two : List ℕ) (roles : List Role) (p d page : ℕ) (e : PageEntry) → IsSound directories bytes roles → directory_of directories p ≡ Some d
-    → 0x40000 ≤ page → page < 0xf0000 → entry_at (frame_bytes bytes) d page ≡ Some e
-    → EntryPut bytes d page e (record e { accessed = false; dirty = false }) two → length two ≡ length bytes
-    → Touched directories (map.insert (spaces_in directories bytes) (at_page p page) (record (cell_or_fresh (spaces_in directories bytes) (at_page p page)) { accessed = false; dirty = false })) bytes roles two
-unfolding spaces_in
-marks_cleared directories bytes two roles p d page e sound live low high is_entry is_two long_two =
-    let m : Frames = frame_bytes bytes in
-    let E : Entries = entries_in (directory_of directories) m in
-    let slot : Slot = at_page p page in
-    let e' : PageEntry = record e { accessed = false; dirty = false } in
-    let rules = entry_rules directories bytes roles p d page e sound live is_entry in
-    let rules' : IsKernelEntry e' = record { frame = rules.frame; zero = rules.zero; clean = λ _. refl; right = rules.right; touched = λ h. cc } in
-    let h = entry_put directories bytes two roles p d page e e' sound live low high is_entry rules' refl is_two long_two in
-    let cell = cell_at E m slot e h.named in
-    record {
-      sound = h.sound;
-      spaces = h.spaces ∙ flags_refine E m slot e e' h.named refl
-          ∙ ap (map.insert (spaces_of E m) slot)
-          (ap (λ (c : Cell). record c { write = e.write; may = e.may; accessed = false; dirty = false }) cell ∙ sym (ap (λ (c : Cell). record c { accessed = false; dirty = false }) cell));
-      cost = (λ i. total_cost directories (spaces_of (h.entries i) (frame_bytes two))) ∙ total-kept directories E m (frame_bytes two) slot e e' h.named;
-      in_use = h.in_use;
-      lazy = ap (λ x. holders_of x 0) h.entries ∙ lazy-same E slot e e' h.named refl;
-      stay = places_put (directory_of directories) m (directory_of directories) (frame_bytes two) slot e e' h.named refl h.entries (λ q r t found. h.tables q r ∙ found);
-    }
-
-pub length-bytes_of : (k v : ℕ) → length (bytes_of k v) ≡ k
-length-bytes_of zero v = refl
-length-bytes_of (suc k) v = ap suc (length-bytes_of k (v / 256))
 
 pub length-write_at : (frame : List ℕ) (at : ℕ) (new : List ℕ) → at + length new ≤ length frame → length (write_at frame at new) ≡ length frame
 length-write_at frame at new fits = grind (arith, length-append, length-take-le, length-drop)
@@ -309,15 +279,3 @@ pub cell_read : (directories : List (Option ℕ)) (bytes : List ℕ) (p d page :
     → cell_or_fresh (spaces_in directories bytes) (at_page p page) ≡ cell_of (entries_in (directory_of directories) (frame_bytes bytes)) (frame_bytes bytes) (at_page p page) e
 unfolding spaces_in
 cell_read directories bytes p d page e live few low high is = grind (arith, cell_at, get_user)
-
--- where an entry keeps its right, setting accessed is what a load leaves
-pub flagged_load : (directories : List (Option ℕ)) (bytes : List ℕ) (p d page : ℕ) (e : PageEntry) → directory_of directories p ≡ Some d → p < 64 → 0x40000 ≤ page → page < 0xf0000 → entry_at (frame_bytes bytes) d page ≡ Some e
-    → flagged (spaces_in directories bytes) (at_page p page) e.write true ≡ accessed_in (spaces_in directories bytes) (at_page p page)
-flagged_load directories bytes p d page e live few low high is =
-    grind (arith, cell_read directories bytes p d page e live few low high is)
-
--- where an entry keeps its accessed flag, setting the right is what a change of rights leaves
-pub flagged_right : (directories : List (Option ℕ)) (bytes : List ℕ) (p d page : ℕ) (e : PageEntry) (write : Bool) → directory_of directories p ≡ Some d → p < 64 → 0x40000 ≤ page → page < 0xf0000 → entry_at (frame_bytes bytes) d page ≡ Some e
-    → flagged (spaces_in directories bytes) (at_page p page) write e.accessed ≡ protected (spaces_in directories bytes) (at_page p page) write
-flagged_right directories bytes p d page e write live few low high is =
-    grind (arith, cell_read directories bytes p d page e live few low high is)

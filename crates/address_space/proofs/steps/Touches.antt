@@ -1,6 +1,5 @@
 -- The type's invariant after an access, or after a change of rights.
-use Rattle.address_space.proofs.Prelude
-use Prelude.{arith, ◌≡◌, ℕ, List, Option, ap, ◌∙◌, Role, Slot, Spaces, spaces_in, Touched, IsSpaces, AreCountedSpaces}
+use Rattle.address_space.proofs.Prelude.{arith, ◌≡◌, ℕ, List, Option, ap, ◌∙◌, Role, Slot, Spaces, spaces_in, Touched, IsSpaces, AreCountedSpaces}
 use Rattle.address_space.proofs.steps.CountSteps.{counted_keys}
 use Rattle.page_words.specs.FiniteMap as map
 use Rattle.page_words.specs.FiniteSet as set

@@ -1,12 +1,11 @@
 -- What a walk that finds a frame, its mark, and a byte written where it leads come to.
-use Rattle.address_space.proofs.Prelude
-use Prelude.{◌≡◌, ℕ, ◌+◌, ◌*◌, ◌%◌, ◌^◌, ◌<◌, ◌≤◌, Bool, true, false, not, List, [], ◌∷◌, length, refl, ap, sym, ◌∙◌, subst, arith, inl, inr, Option, Some, None, ◌&&◌, is_some, if◌then◌else◌, slice_get, slice_set, IsOk, Result, Ok, Err, nat_le, option_and_then, is_ok, nat_tests, IsUserPage, page_number, offset_number, slot_number, index_number, frame_number, is_present, NamesPage, IsKernelTableWord, frame_bytes, word_at, word_place, with_word, word_in, with_word_in, with_frame, Role, Directory, Table, Access, Read, Write, WalkEnd, Outside, PageEntry, Frames, dir_word, table_of, word_entry, entry_from, entry_at, entry_word, with_entry, lets_writes, IsKernelEntry, walks_read_entries, user_cases, byte_place, is_marked, and_parts, Slot, Spaces, Cell, cell_or_fresh, stored, write_at, at_page, slot_at, Directories, Roles, directory_of, table_in, spaces_in, Tables, IsSound, Inside, Touched, none_goes, table_words_by_fields, by_frame, frames-with_word, frames-with_byte, word_in-frame, walk_of, table_word, is_write, is_outside, not_allowed, end_at_entry, touched_entry, entry_word-names, with_flag_lt, accessed as accessed_in, entry_from-entry_word, marked, accessed_word, touched_word}
+use Rattle.address_space.proofs.Prelude.{◌≡◌, ℕ, ◌+◌, ◌*◌, ◌%◌, ◌^◌, ◌<◌, ◌≤◌, Bool, true, false, not, List, [], ◌∷◌, length, refl, ap, sym, ◌∙◌, subst, arith, inl, inr, Option, Some, None, ◌&&◌, is_some, if◌then◌else◌, slice_get, slice_set, IsOk, Result, Ok, Err, nat_le, option_and_then, is_ok, nat_tests, IsUserPage, page_number, offset_number, slot_number, index_number, frame_number, is_present, NamesPage, IsKernelTableWord, frame_bytes, word_at, word_place, with_word, word_in, with_word_in, with_frame, Role, Directory, Table, Access, Read, Write, WalkEnd, Outside, PageEntry, Frames, dir_word, table_of, word_entry, entry_from, entry_at, entry_word, with_entry, lets_writes, IsKernelEntry, walks_read_entries, user_cases, byte_place, is_marked, and_parts, Slot, Spaces, Cell, cell_or_fresh, stored, write_at, at_page, slot_at, Directories, Roles, directory_of, table_in, spaces_in, Tables, IsSound, Inside, Touched, none_goes, table_words_by_fields, by_frame, frames-with_word, frames-with_byte, word_in-frame, walk_of, table_word, is_write, is_outside, not_allowed, end_at_entry, touched_entry, entry_word-names, with_flag_lt, accessed as accessed_in, entry_from-entry_word, marked, accessed_word, touched_word}
 use Rattle.phys_memory.proofs.Words.{length-with_word}
 use Rattle.table_walk.proofs.Leads.{walks_find_what_leads}
 use Rattle.page_map.proofs.MarkProofs.{touched_names, entry_from-touched}
 use Rattle.address_space.proofs.entries.EntrySteps.{entry_by_table}
 use Rattle.address_space.proofs.steps.Steps.{inside, holds_inside, live_small, page_map_of, present_by_table, table_by_word}
-use Rattle.address_space.proofs.steps.Stores.{found, get_user, entry_rules, page_stored, flags_set, flagged_load, cell_read, frame_written, stored_place, byte_is_write, length-write_at}
+use Rattle.address_space.proofs.steps.Stores.{found, get_user, entry_rules, page_stored, flags_set, cell_read, frame_written, stored_place, byte_is_write, length-write_at}
 use Rattle.address_space.proofs.steps.Bytes.{write_at-nothing, stored-none, stored-flags}
 use Rattle.address_space.proofs.steps.Departures.{no_table_outside}
 use Rattle.address_space.proofs.steps.DirWords.{DirsAlike, flagged_alike, dirs_touched, one_dir_word, dirs-entry, dirs-table, dirs-tables}
@@ -166,15 +165,13 @@ mark_parts directories bytes roles p d address access sound live f =
     let i : ℕ = index_number page in
     let e : PageEntry = f.entry in
     let low = f.low in
-    let high = f.high in
-    let small : s < 1024 = omega (arith, high) in
+    let small : s < 1024 = omega (arith, f.high) in
     let w : ℕ = dir_word m d s in
     let at = found D m p d page e f.here in
     let t : ℕ = at.table in
     let up : table_in D m p s ≡ Some t = ap (option_and_then (λ x. table_of m x s)) live ∙ at.there in
-    let role_t : R t ≡ Some (Table p s) = T.table p s t up in
     let in_d : Inside bytes d = inside directories bytes roles d (Directory p) sound (T.directory p d live) in
-    let in_t : Inside bytes t = inside directories bytes roles t (Table p s) sound role_t in
+    let in_t : Inside bytes t = inside directories bytes roles t (Table p s) sound (T.table p s t up) in
     let names : frame_number w ≡ t = table_by_word w t at.there in
     let present : is_present w ≡ true = present_by_table w (ap is_some at.there) in
     let lt : w < 2 ^ 32 = let h = in_t.small in omega (arith, names, h) in
@@ -183,7 +180,6 @@ mark_parts directories bytes roles p d address access sound live f =
     let long_half : length half ≡ length bytes = length-with_word bytes (word_place d s) (accessed_word w) (let h = in_d.fits in omega (arith, h, small)) in
     let frames_half : frame_bytes half ≡ with_frame m d (with_word_in (m d) s (accessed_word w)) = frames-with_word bytes d s (accessed_word w) small in_d.fits in
     let alike : DirsAlike D m (frame_bytes half) = one_dir_word directories bytes half roles p d s (accessed_word w) sound live small (with_flag_lt w 5 true lt (omega arith)) (flagged_alike w true lt present) frames_half in
-    let first = dirs_touched directories bytes half roles sound alike long_half in
     let v : ℕ = word_in (m t) i in
     let kept : frame_bytes half t ≡ m t = dirs-table D m (frame_bytes half) R T alike p s t up in
     let here : entry_at (frame_bytes half) d page ≡ Some e =
@@ -199,7 +195,7 @@ mark_parts directories bytes roles p d address access sound live f =
     table_by_word (dir_word (frame_bytes half) d s) t (sym (ap (option_and_then (λ x. table_of (frame_bytes half) x s)) live) ∙ dirs-tables D m (frame_bytes half) R T alike p s ∙ up) in
     record {
       half = half;
-      first = first;
+      first = (dirs_touched directories bytes half roles sound alike long_half);
       here = here;
       second = grind (arith, frames-with_word);
       long_half = long_half;
@@ -212,14 +208,14 @@ pub load_marked : (directories : List (Option ℕ)) (bytes : List ℕ) (roles : 
 load_marked directories bytes roles p d address sound live f =
     let k = mark_parts directories bytes roles p d address Read sound live f in
     let page : ℕ = page_number address in
-    let few = live_small directories p d sound.pids live in
     let e : PageEntry = f.entry in
-    let rules = entry_rules directories k.half roles p d page e k.first.sound live k.here in
+    let few = live_small directories p d sound.pids live in
+    let cell = cell_read directories k.half p d page e live few f.low f.high k.here in
+    let rules = touched_rules Read e (entry_rules directories k.half roles p d page e k.first.sound live k.here) f.right in
     subst (λ S. Touched directories (accessed_in S (slot_at p address)) bytes roles (marked bytes d address Read)) k.first.spaces
-    (subst (λ S. Touched directories S bytes roles (marked bytes d address Read))
-    (flagged_load directories k.half p d page e live few f.low f.high k.here)
     (touched_then directories _ _ bytes k.half (marked bytes d address Read) roles k.first
-    (flags_set directories k.half (marked bytes d address Read) roles p d page e e.write true k.first.sound live f.low f.high k.here rules.right (λ _. refl) (inr k.second) k.long)))
+    (flags_set directories k.half (marked bytes d address Read) roles p d page e e.write true e.dirty _ k.first.sound live
+    f.low f.high k.here rules (inr k.second) k.long (ap (λ (c : Cell). record c { accessed = true }) cell)))
 
 -- nothing written is a change of no byte
 nothing_written : (m : Frames) (f at : ℕ) → m ≡ with_frame m f (write_at (m f) at [])

@@ -1,5 +1,4 @@
-use Rattle.fault_handler.proofs.Prelude
-use Prelude.{if◌then◌else◌, no_value, at_page, cost, need, page_is_user, State, ◌≡◌, ◌+◌, refl, not, Some, None, is_ok, new_fits, map_refusal, BadPage, Mapped, Quota, ap}
+use Rattle.fault_handler.proofs.Prelude.{if◌then◌else◌, no_value, at_page, cost, need, page_is_user, State, ◌≡◌, ◌+◌, refl, not, Some, None, is_ok, new_fits, map_refusal, BadPage, Mapped, Quota, ap}
 use Rattle.process_table.proofs.Refusals.{map-charge}
 use Rattle.fault_handler.proofs.Settled.{live_with_room}
 use Rattle.page_words.specs.FiniteMap as map

@@ -1,5 +1,4 @@
-use Rattle.fault_handler.proofs.Prelude
-use Prelude.{arith, ◌≡◌, ◌∙◌, ap, sym, subst, Bool, true, false, Option, Some, IfSome, [], ◌∷◌, unwrap_or, option_map, page_number, EachTouched, crosses, at_page, with_page, cell_or_fresh, is_lazy_at, touched-there, State, is_mapped, overdrawn, memory_of, access_value, after_access, Read, Write, goes_on, step_at, stays_then, stays_most}
+use Rattle.fault_handler.proofs.Prelude.{arith, ◌≡◌, ◌∙◌, ap, sym, subst, Bool, true, false, Option, Some, IfSome, [], ◌∷◌, unwrap_or, option_map, page_number, EachTouched, crosses, at_page, with_page, cell_or_fresh, is_lazy_at, touched-there, State, is_mapped, overdrawn, memory_of, access_value, after_access, Read, Write, goes_on, step_at, stays_then, stays_most}
 use Rattle.fault_handler.proofs.Filled.{fills_two}
 use Rattle.fault_handler.proofs.Settled.{ready, first_room, second_room, first_mapped, second_mapped, mapped_beside, mapped_both, mapped_right, mapped_value, mapped_after}
 use Rattle.fault_handler.proofs.settle_over.Goals as goal

@@ -1,5 +1,4 @@
-use Rattle.address_space.proofs.Prelude
-use Prelude.{◌≡◌, ◌+◌, ap, sym, subst, ◌∙◌, arith, Some, is_some, IfSome, second_page, IsUserPage, crosses, found_of, need_of, page_need, with_page}
+use Rattle.address_space.proofs.Prelude.{◌≡◌, ◌+◌, ap, sym, subst, ◌∙◌, arith, Some, is_some, IfSome, second_page, IsUserPage, crosses, found_of, need_of, page_need, with_page}
 use Rattle.address_space.proofs.costs.AccessNeeds.{need-in_two, page_need_at, second_need_at}
 use Rattle.address_space.proofs.Spaces.access_need.Goals as goal
 

@@ -1,5 +1,4 @@
-use Rattle.address_space.proofs.Prelude
-use Prelude.{◌≡◌, ◌<◌, ◌≤◌, ◌∙◌, ℕ, List, Option, Some, None, true, is_some, ap, sym, subst, refl, frame_bytes, table_of, is_lazy_entry, IsPageMap, at_page, none_goes, cost, ◌⊎◌, FramesStay, View, directory_of, entry_in, spaces_in, IsSound, image_from, IsCopying, CopyIn}
+use Rattle.address_space.proofs.Prelude.{◌≡◌, ◌<◌, ◌≤◌, ◌∙◌, ℕ, List, Option, Some, None, true, is_some, ap, sym, subst, refl, frame_bytes, table_of, is_lazy_entry, IsPageMap, at_page, none_goes, cost, ◌⊎◌, FramesStay, View, directory_of, entry_in, spaces_in, IsSound, image_from, IsCopying, CopyIn}
 use Rattle.address_space.proofs.standing.FramesStand.{frames_stay}
 use Rattle.address_space.proofs.standing.Standing.{same_lazy}
 use Rattle.address_space.proofs.steps.Steps.{page_map_of}

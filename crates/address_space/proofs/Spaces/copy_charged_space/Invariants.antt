@@ -1,5 +1,4 @@
-use Rattle.address_space.proofs.Prelude
-use Prelude.{◌≡◌, ◌*◌, ◌-◌, cost, spaces_in, CopiedBelow}
+use Rattle.address_space.proofs.Prelude.{◌≡◌, ◌*◌, ◌-◌, cost, spaces_in, CopiedBelow}
 use Rattle.address_space.proofs.Spaces.copy_charged_space.Given as goal
 
 abbrev pub invariant-loop-region : goal.invariant-loop-region

@@ -1,5 +1,4 @@
-use Rattle.address_space.proofs.Prelude
-use Prelude.{◌≡◌, ◌+◌, ◌*◌, ◌≤◌, ◌∙◌, ℕ, List, Option, Some, ap, sym, subst, refl, arith, is_some, slice_set, slot_number, frame_bytes, Role, some_value, table_in, AreCountedSpaces, IsCounted, TableGot, TakesPage, region_pages, cost, directory_of, spaces_in, CopyIn, counted}
+use Rattle.address_space.proofs.Prelude.{◌≡◌, ◌+◌, ◌*◌, ◌≤◌, ◌∙◌, ℕ, List, Option, Some, ap, sym, subst, refl, arith, is_some, slice_set, slot_number, frame_bytes, Role, some_value, table_in, AreCountedSpaces, IsCounted, TableGot, TakesPage, region_pages, cost, directory_of, spaces_in, CopyIn, counted}
 use Rattle.address_space.proofs.steps.RegionCopies.{none_listed, region_there, region_words, no_table_there, none_mapped, none_made, made_inside, count_made, count_step, copy_takes, copy_lies, copy_inside, copy_passed, copy_entry, copy_word, copy_unmapped, copy_need, copy_cost, copy_mapped, copy_stepped, words_kept}
 use Rattle.address_space.proofs.steps.Copies.{copied_entry}
 use Rattle.address_space.proofs.steps.NewPages.{got_sound, got_inside, got_lies, got_free, CopyMade, copy_made}

@@ -1,5 +1,4 @@
-use Rattle.address_space.proofs.Prelude
-use Prelude.{◌+◌, is_some, counted, ◌≡◌, ◌≤◌, ◌-◌, ℕ, List, frame_bytes, Role, directory_of, table_in, cost, spaces_in, CopyIn, words_left, IsCounted, region_pages}
+use Rattle.address_space.proofs.Prelude.{◌+◌, is_some, counted, ◌≡◌, ◌≤◌, ◌-◌, ℕ, List, frame_bytes, Role, directory_of, table_in, cost, spaces_in, CopyIn, words_left, IsCounted, region_pages}
 use Rattle.address_space.proofs.steps.RegionCopies.{count_made}
 use Rattle.address_space.proofs.Spaces.copy_region.Given as goal
 

@@ -1,5 +1,4 @@
-use Rattle.address_space.proofs.Prelude
-use Prelude.{◌∙◌}
+use Rattle.address_space.proofs.Prelude.{◌∙◌}
 use Rattle.address_space.proofs.steps.Steps.{page_map_of}
 use Rattle.address_space.proofs.costs.ChargeLemmas.{charged, charge_fits}
 use Rattle.address_space.proofs.Spaces.cost.Goals as goal

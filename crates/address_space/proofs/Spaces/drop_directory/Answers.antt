@@ -1,5 +1,4 @@
-use Rattle.address_space.proofs.Prelude
-use Prelude.{arith, sym, subst, refl, None, slice_set, Directory, DirectoryDropped, spaces_in, eq-eqb}
+use Rattle.address_space.proofs.Prelude.{arith, sym, subst, refl, None, slice_set, Directory, DirectoryDropped, spaces_in, eq-eqb}
 use Rattle.address_space.proofs.entries.Staying.{places_more}
 use Rattle.address_space.proofs.standing.FramesStand.{frames_stay_by}
 use Rattle.address_space.proofs.steps.CountSteps.{counts_kept, alike_released}

@@ -1,5 +1,4 @@
-use Rattle.address_space.proofs.Prelude
-use Prelude.{◌≡◌, ◌-◌, ◌*◌, cost, DroppedBelow}
+use Rattle.address_space.proofs.Prelude.{◌≡◌, ◌-◌, ◌*◌, cost, DroppedBelow}
 use Rattle.address_space.proofs.Spaces.drop_pages.Given as goal
 
 abbrev pub invariant-loop-region : goal.invariant-loop-region

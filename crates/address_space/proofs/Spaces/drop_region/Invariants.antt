@@ -1,5 +1,4 @@
-use Rattle.address_space.proofs.Prelude
-use Prelude.{◌≡◌, ◌≤◌, ◌+◌, ◌-◌, ◌*◌, length, View, cost, DroppedBelow}
+use Rattle.address_space.proofs.Prelude.{◌≡◌, ◌≤◌, ◌+◌, ◌-◌, ◌*◌, length, View, cost, DroppedBelow}
 use Rattle.address_space.proofs.steps.RegionDrops.{RegionLeft}
 use Rattle.address_space.proofs.Spaces.drop_region.Given as goal
 

@@ -1,5 +1,4 @@
-use Rattle.address_space.proofs.Prelude
-use Prelude.{ap, sym, ◌∙◌, is_some, found_of, arith}
+use Rattle.address_space.proofs.Prelude.{ap, sym, ◌∙◌, is_some, found_of, arith}
 use Rattle.address_space.proofs.steps.Placing.{place_found, place_mapped}
 use Rattle.address_space.proofs.steps.FoundPages.{found_lies, room_found, found_filled, filled_kept, filled_real, filled_others, filled_stay, filled_found}
 use Rattle.address_space.proofs.steps.Neighbours.{filled_beside}

@@ -1,5 +1,4 @@
-use Rattle.address_space.proofs.Prelude
-use Prelude.{◌≡◌, true, ap, sym, ◌∙◌, Option, Some, None, unwrap_or, Cell, at_page, fresh, found_of, Reserved}
+use Rattle.address_space.proofs.Prelude.{◌≡◌, true, ap, sym, ◌∙◌, Option, Some, None, unwrap_or, Cell, at_page, fresh, found_of, Reserved}
 use Rattle.address_space.proofs.steps.FoundPages.{found_lies, found_bytes, absent_cell}
 use Rattle.address_space.proofs.steps.Placing.{place_found}
 use Rattle.address_space.proofs.steps.Steps.{inside}

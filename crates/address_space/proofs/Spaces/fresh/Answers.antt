@@ -1,5 +1,4 @@
-use Rattle.address_space.proofs.Prelude
-use Prelude.{◌<◌, refl, sym, subst, Some, arith, slice_set, Free, Directory, SpaceAdded, spaces_in}
+use Rattle.address_space.proofs.Prelude.{◌<◌, refl, sym, subst, Some, arith, slice_set, Free, Directory, SpaceAdded, spaces_in}
 use Rattle.address_space.proofs.standing.FramesStand.{frames_stay_by}
 use Rattle.address_space.proofs.standing.Standing.{same_lazy}
 use Rattle.address_space.proofs.steps.CountSteps.{counts_kept, alike_taken}

@@ -1,5 +1,4 @@
-use Rattle.address_space.proofs.Prelude
-use Prelude.{arith, ◌<◌, ◌^◌, ap, sym, ◌∙◌, subst, frame_bytes, PageEntry, with_entry, at_page, TableGiven, SlotJoined, slot_number, table_of_place, found_of, none_goes, directory_of}
+use Rattle.address_space.proofs.Prelude.{arith, ◌<◌, ◌^◌, ap, sym, ◌∙◌, subst, frame_bytes, PageEntry, with_entry, at_page, TableGiven, SlotJoined, slot_number, table_of_place, found_of, none_goes, directory_of}
 use Rattle.address_space.proofs.steps.CountSteps.{alike_held}
 use Rattle.address_space.proofs.steps.FoundPages.{found_real, found_named, found_least, found_mapped}
 use Rattle.address_space.proofs.steps.NewPages.{ready_given, ready_inside, ready_count, ready_fits, ready_below, ready_small, holder_added, holder_more, added_kept}

@@ -1,5 +1,4 @@
-use Rattle.address_space.proofs.Prelude
-use Prelude.{ap, sym, ◌∙◌, is_some, page_number, offset_number, byte_count, Cell, value_of, bytes_at, found_of}
+use Rattle.address_space.proofs.Prelude.{ap, sym, ◌∙◌, is_some, page_number, offset_number, byte_count, Cell, value_of, bytes_at, found_of}
 use Rattle.address_space.proofs.Insides.{spaces_at}
 use Rattle.address_space.proofs.steps.Bytes.{number_in_page}
 use Rattle.address_space.proofs.steps.FoundPages.{found_mapped, found_lies, found_cell, found_loaded}

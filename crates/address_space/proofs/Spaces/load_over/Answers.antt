@@ -1,5 +1,4 @@
-use Rattle.address_space.proofs.Prelude
-use Prelude.{◌≡◌, ap, sym, subst, ◌∙◌, arith, true, is_some, IfSome, page_number, crosses, place_in, Spaces, at_page, slot_at}
+use Rattle.address_space.proofs.Prelude.{◌≡◌, ap, sym, subst, ◌∙◌, arith, true, is_some, IfSome, page_number, crosses, place_in, Spaces, at_page, slot_at}
 use Rattle.address_space.proofs.costs.AccessCosts.{kept}
 use Rattle.page_words.specs.FiniteMap as map
 use Rattle.address_space.proofs.Spaces.load_over.Goals as goal

@@ -1,5 +1,4 @@
-use Rattle.address_space.proofs.Prelude
-use Prelude.{◌^◌, ◌<◌, ap, sym, subst, arith, ◌∙◌, refl, frame_bytes, PageEntry, with_entry, is_lazy_entry, TableGiven, PageAdded, slot_number, at_page, table_of_place, none_goes, directory_of, ◌≡◌, Some, table_of}
+use Rattle.address_space.proofs.Prelude.{◌^◌, ◌<◌, ap, sym, subst, arith, ◌∙◌, refl, frame_bytes, PageEntry, with_entry, is_lazy_entry, TableGiven, PageAdded, slot_number, at_page, table_of_place, none_goes, directory_of, ◌≡◌, Some, table_of}
 use Rattle.address_space.proofs.standing.Standing.{same_lazy}
 use Rattle.address_space.proofs.steps.NewPages.{ready_given, ready_table, ready_inside, ready_count, ready_fits, zero_added, zero_more, added_kept}
 use Rattle.address_space.proofs.steps.FoundPages.{found_written}

@@ -1,5 +1,4 @@
-use Rattle.address_space.proofs.Prelude
-use Prelude.{arith, ◌≡◌, ◌∙◌, ℕ, Bool, sym, Option, Some, List, frame_bytes, at_page, directory_of, spaces_in, Role, user_cases, get-entries_user, get-entries_other, IsSound, is_mapped}
+use Rattle.address_space.proofs.Prelude.{arith, ◌≡◌, ◌∙◌, ℕ, Bool, sym, Option, Some, List, frame_bytes, at_page, directory_of, spaces_in, Role, user_cases, get-entries_user, get-entries_other, IsSound, is_mapped}
 use Rattle.address_space.proofs.steps.Openings.{no_cell}
 use Rattle.address_space.proofs.steps.Steps.{page_map_of, live_small}
 use Rattle.address_space.proofs.entries.Readings.{mapped_read}

@@ -1,5 +1,4 @@
-use Rattle.address_space.proofs.Prelude
-use Prelude.{◌≡◌, ◌+◌, ◌-◌, ◌++◌, ◌∙◌, ℕ, ap, sym, length, byte_count, offset_number, frame_bytes, length-frame, View, Spaces, at_page, slot_at, cell_or_fresh, value_of, bytes_at}
+use Rattle.address_space.proofs.Prelude.{◌≡◌, ◌+◌, ◌-◌, ◌++◌, ◌∙◌, ℕ, ap, sym, length, byte_count, offset_number, frame_bytes, length-frame, View, Spaces, at_page, slot_at, cell_or_fresh, value_of, bytes_at}
 use Rattle.address_space.proofs.steps.Bytes.{number_in_two}
 use Rattle.address_space.proofs.Spaces.number_over.Goals as goal
 

@@ -1,5 +1,4 @@
-use Rattle.address_space.proofs.Prelude
-use Prelude.{◌≡◌, ℕ, length, List, map, sym, ◌∙◌, subst, range_with_len, counted_at, Role, StandsFor, image_from, AreCountedSpaces, spaces_in}
+use Rattle.address_space.proofs.Prelude.{◌≡◌, ℕ, length, List, map, sym, ◌∙◌, subst, range_with_len, counted_at, Role, StandsFor, image_from, AreCountedSpaces, spaces_in}
 use Rattle.address_space.proofs.standing.Restored.{kept, stands, words_counted, some_of}
 use Rattle.address_space.proofs.Spaces.of_image.Goals as goal
 

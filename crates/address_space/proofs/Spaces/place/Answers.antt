@@ -1,5 +1,4 @@
-use Rattle.address_space.proofs.Prelude
-use Prelude.{◌≡◌, ℕ, ◌+◌, ◌*◌, ◌≤◌, ap, sym, ◌∙◌, refl, arith, length, Option, Some, None, IfSome, option_and_then, slot_number, frame_bytes, table_of, place_by}
+use Rattle.address_space.proofs.Prelude.{◌≡◌, ℕ, ◌+◌, ◌*◌, ◌≤◌, ap, sym, ◌∙◌, refl, arith, length, Option, Some, None, IfSome, option_and_then, slot_number, frame_bytes, table_of, place_by}
 use Rattle.address_space.proofs.steps.Steps.{page_map_of}
 use Rattle.address_space.proofs.Spaces.place.Goals as goal
 

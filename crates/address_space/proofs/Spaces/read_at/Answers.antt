@@ -1,5 +1,4 @@
-use Rattle.address_space.proofs.Prelude
-use Prelude.{second_page}
+use Rattle.address_space.proofs.Prelude.{second_page}
 use Rattle.address_space.proofs.steps.Neighbours.{second_none, second_is, second_there}
 use Rattle.address_space.proofs.Spaces.read_at.Goals as goal
 

@@ -1,5 +1,4 @@
-use Rattle.address_space.proofs.Prelude
-use Prelude.{ap, sym, ◌∙◌, is_some, found_of, without, is_slot, cost, ◌+◌, ◌≡◌, Some}
+use Rattle.address_space.proofs.Prelude.{ap, sym, ◌∙◌, is_some, found_of, without, is_slot, cost, ◌+◌, ◌≡◌, Some}
 use Rattle.address_space.proofs.Insides.{found_at, spaces_at}
 use Rattle.address_space.proofs.steps.FoundPages.{found_known, found_mapped}
 use Rattle.address_space.proofs.steps.GonePages.{home_count, home_relief}

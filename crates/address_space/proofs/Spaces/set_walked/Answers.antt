@@ -1,5 +1,4 @@
-use Rattle.address_space.proofs.Prelude
-use Prelude.{arith, refl, Directory, none_goes}
+use Rattle.address_space.proofs.Prelude.{arith, refl, Directory, none_goes}
 use Rattle.address_space.proofs.Insides.{spaces_at}
 use Rattle.address_space.proofs.steps.Steps.{inside}
 use Rattle.address_space.proofs.steps.Touches.{kept_touched}

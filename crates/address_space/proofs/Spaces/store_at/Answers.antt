@@ -1,5 +1,4 @@
-use Rattle.address_space.proofs.Prelude
-use Prelude.{◌+◌, ◌≤◌, ap, sym, subst, ◌∙◌, is_some, page_number, offset_number, byte_count, bytes_of, stays, found_of}
+use Rattle.address_space.proofs.Prelude.{◌+◌, ◌≤◌, ap, sym, subst, ◌∙◌, is_some, page_number, offset_number, byte_count, bytes_of, stays, found_of}
 use Rattle.address_space.proofs.steps.Bytes.{length-bytes}
 use Rattle.address_space.proofs.steps.FoundPages.{found_mapped, found_lies, found_real, found_stored}
 use Rattle.address_space.proofs.steps.Neighbours.{stored_beside, part_long}

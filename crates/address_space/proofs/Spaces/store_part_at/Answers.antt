@@ -1,5 +1,4 @@
-use Rattle.address_space.proofs.Prelude
-use Prelude.{ap, sym, ◌∙◌, is_some, page_number, offset_number, Spaces, slot_at, cell_or_fresh, found_of}
+use Rattle.address_space.proofs.Prelude.{ap, sym, ◌∙◌, is_some, page_number, offset_number, Spaces, slot_at, cell_or_fresh, found_of}
 use Rattle.address_space.proofs.Insides.{spaces_at}
 use Rattle.address_space.proofs.costs.AccessCosts.{kept, key-stored}
 use Rattle.address_space.proofs.steps.FoundPages.{found_mapped, found_lies, found_real, found_part}

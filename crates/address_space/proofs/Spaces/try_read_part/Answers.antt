@@ -1,5 +1,4 @@
-use Rattle.address_space.proofs.Prelude
-use Prelude.{ℕ, List, ap, sym, ◌∙◌, length, take, drop, arith, is_some, page_number, offset_number, cell_or_fresh, slot_at, found_of}
+use Rattle.address_space.proofs.Prelude.{ℕ, List, ap, sym, ◌∙◌, length, take, drop, arith, is_some, page_number, offset_number, cell_or_fresh, slot_at, found_of}
 use Rattle.address_space.proofs.Insides.{spaces_at}
 use Rattle.address_space.proofs.steps.Bytes.{bytes_by_places, part_in_page}
 use Rattle.address_space.proofs.steps.FoundPages.{found_mapped, found_there, found_lies, found_bytes, found_long, found_loaded}

@@ -1,5 +1,4 @@
-use Rattle.address_space.proofs.Prelude
-use Prelude.{not, ap, sym, ◌∙◌, ◌&&◌, page_number, image_of, is_lazy_at, slot_at, cell_or_fresh, and_parts, not-true, takes_place}
+use Rattle.address_space.proofs.Prelude.{not, ap, sym, ◌∙◌, ◌&&◌, page_number, image_of, is_lazy_at, slot_at, cell_or_fresh, and_parts, not-true, takes_place}
 use Rattle.page_words.specs.FiniteMap as map
 use Rattle.address_space.proofs.Spaces.try_write_part.Goals as goal
 

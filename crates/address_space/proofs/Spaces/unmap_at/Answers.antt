@@ -1,5 +1,4 @@
-use Rattle.address_space.proofs.Prelude
-use Prelude.{arith, ap, sym, ◌∙◌, is_some, found_of}
+use Rattle.address_space.proofs.Prelude.{arith, ap, sym, ◌∙◌, is_some, found_of}
 use Rattle.address_space.proofs.steps.FoundPages.{found_known, found_mapped}
 use Rattle.address_space.proofs.steps.Placing.{place_found}
 use Rattle.address_space.proofs.Spaces.unmap_at.Goals as goal

@@ -1,5 +1,4 @@
-use Rattle.address_space.proofs.Prelude
-use Prelude.{arith, frame_bytes, SlotRemoved, ap, ◌∙◌, ◌+◌, cost, without, is_slot}
+use Rattle.address_space.proofs.Prelude.{arith, frame_bytes, SlotRemoved, ap, ◌∙◌, ◌+◌, cost, without, is_slot}
 use Rattle.address_space.proofs.Insides.{spaces_at}
 use Rattle.address_space.proofs.steps.Steps.{page_map_of}
 use Rattle.address_space.proofs.steps.GonePages.{home_table, home_entry, home_count, home_positive, home_counts, home_relief, home_in_use, gone_table, gone_page, gone_kept}

@@ -1,5 +1,4 @@
-use Rattle.address_space.proofs.Prelude
-use Prelude.{◌∙◌, sym, second_page}
+use Rattle.address_space.proofs.Prelude.{◌∙◌, sym, second_page}
 use Rattle.address_space.proofs.steps.Neighbours.{second_none, second_is, second_there}
 use Rattle.address_space.proofs.steps.Bytes.{stored_in_page}
 use Rattle.address_space.proofs.Spaces.write_at.Goals as goal

@@ -1,5 +1,4 @@
-use Rattle.address_space.proofs.Prelude
-use Prelude.{ap, ◌∙◌, slice_index}
+use Rattle.address_space.proofs.Prelude.{ap, ◌∙◌, slice_index}
 use Rattle.address_space.proofs.entries.Readings.{byte_in_frame}
 use Rattle.address_space.proofs.accesses.byte_of.Goals as goal
 

@@ -1,5 +1,4 @@
-use Rattle.address_space.proofs.Prelude
-use Prelude.{◌≡◌, ◌+◌, ◌*◌, ap, ◌∙◌, sym, arith, take, drop, List, ℕ, slice_index, frame_bytes, value_of}
+use Rattle.address_space.proofs.Prelude.{◌≡◌, ◌+◌, ◌*◌, ap, ◌∙◌, sym, arith, take, drop, List, ℕ, slice_index, frame_bytes, value_of}
 use Rattle.address_space.proofs.steps.Bytes.{value_by_places}
 use Rattle.address_space.proofs.accesses.few_at.Goals as goal
 

@@ -1,5 +1,4 @@
-use Rattle.address_space.proofs.Prelude
-use Prelude.{◌≡◌, ◌+◌, ◌-◌, ◌*◌, ◌^◌, ℕ, List, ap, sym, ◌∙◌, arith, length, drop, length-drop, length-take-le, byte_count, frame_bytes, length-frame, value_of, bytes_at}
+use Rattle.address_space.proofs.Prelude.{◌≡◌, ◌+◌, ◌-◌, ◌*◌, ◌^◌, ℕ, List, ap, sym, ◌∙◌, arith, length, drop, length-drop, length-take-le, byte_count, frame_bytes, length-frame, value_of, bytes_at}
 use Rattle.address_space.proofs.steps.Bytes.{value-append}
 use Rattle.address_space.proofs.accesses.number_across.Goals as goal
 

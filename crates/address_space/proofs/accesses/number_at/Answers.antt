@@ -1,5 +1,4 @@
-use Rattle.address_space.proofs.Prelude
-use Prelude.{◌≡◌, ◌+◌, ◌*◌, ◌≤◌, ◌<◌, [], ◌∷◌, ap, ◌∙◌, arith, slice_index, word_at, frame_bytes, some_bytes, value_of}
+use Rattle.address_space.proofs.Prelude.{◌≡◌, ◌+◌, ◌*◌, ◌≤◌, ◌<◌, [], ◌∷◌, ap, ◌∙◌, arith, slice_index, word_at, frame_bytes, some_bytes, value_of}
 use Rattle.address_space.proofs.entries.Readings.{word_read_in, byte_read_in, byte_in_frame}
 use Rattle.address_space.proofs.steps.Bytes.{value_by_places}
 use Rattle.address_space.proofs.accesses.number_at.Goals as goal

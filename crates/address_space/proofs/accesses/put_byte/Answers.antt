@@ -1,5 +1,4 @@
-use Rattle.address_space.proofs.Prelude
-use Prelude.{◌%◌, ap, ◌∙◌, arith, slice_set, with_frame, frame_bytes, length-frame}
+use Rattle.address_space.proofs.Prelude.{◌%◌, ap, ◌∙◌, arith, slice_set, with_frame, frame_bytes, length-frame}
 use Rattle.address_space.proofs.steps.Stores.{byte_placed, byte_is_write}
 use Rattle.address_space.proofs.accesses.put_byte.Goals as goal
 

@@ -1,5 +1,4 @@
-use Rattle.address_space.proofs.Prelude
-use Prelude.{◌≡◌, ap, sym, ◌∙◌, arith, with_word, with_frame, frame_bytes, byte_count, write_at, bytes_of}
+use Rattle.address_space.proofs.Prelude.{◌≡◌, ap, sym, ◌∙◌, arith, with_word, with_frame, frame_bytes, byte_count, write_at, bytes_of}
 use Rattle.address_space.proofs.steps.Stores.{word_placed, word_is_write}
 use Rattle.address_space.proofs.accesses.put_bytes.Goals as goal
 

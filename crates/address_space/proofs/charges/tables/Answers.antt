@@ -1,5 +1,4 @@
-use Rattle.address_space.proofs.Prelude
-use Prelude.{◌≡◌, ap, ◌∙◌, arith, pages_of, regions_of, spaces_in, bool_counted, counted}
+use Rattle.address_space.proofs.Prelude.{◌≡◌, ap, ◌∙◌, arith, pages_of, regions_of, spaces_in, bool_counted, counted}
 use Rattle.address_space.proofs.costs.ChargeLemmas.{regions_below, regions_at_first, regions_next, regions_at_last}
 use Rattle.address_space.proofs.charges.tables.Goals as goal
 

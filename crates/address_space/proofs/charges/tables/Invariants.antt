@@ -1,5 +1,4 @@
-use Rattle.address_space.proofs.Prelude
-use Prelude.{◌≡◌, ◌+◌, ◌≤◌, ℕ, List, Option, Some, Role, pages_of, regions_of, IsSpaces, directory_of, spaces_in}
+use Rattle.address_space.proofs.Prelude.{◌≡◌, ◌+◌, ◌≤◌, ℕ, List, Option, Some, Role, pages_of, regions_of, IsSpaces, directory_of, spaces_in}
 use Rattle.address_space.proofs.costs.ChargeLemmas.{regions_below}
 use Rattle.address_space.proofs.charges.tables.Given as goal
 

@@ -1,5 +1,4 @@
-use Rattle.address_space.proofs.Prelude
-use Prelude.{sym, ◌∙◌}
+use Rattle.address_space.proofs.Prelude.{sym, ◌∙◌}
 use Rattle.address_space.proofs.steps.RegionCopies.{none_left, left_behind}
 use Rattle.address_space.proofs.copies.next_left.Goals as goal
 

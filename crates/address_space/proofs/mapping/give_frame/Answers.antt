@@ -1,5 +1,4 @@
-use Rattle.address_space.proofs.Prelude
-use Prelude.{arith, refl, slice_get_within}
+use Rattle.address_space.proofs.Prelude.{arith, refl, slice_get_within}
 use Rattle.address_space.proofs.mapping.give_frame.Goals as goal
 
 pub put_entry-requires-clause-frame : goal.put_entry-requires-clause-frame

@@ -1,5 +1,4 @@
-use Rattle.address_space.proofs.Prelude
-use Prelude.{◌≡◌, ◌+◌, ◌-◌, ◌∙◌, length, arith, part-frame}
+use Rattle.address_space.proofs.Prelude.{◌≡◌, ◌+◌, ◌-◌, ◌∙◌, length, arith, part-frame}
 use Rattle.address_space.proofs.parts.copy_part.Goals as goal
 
 pub returns : goal.returns

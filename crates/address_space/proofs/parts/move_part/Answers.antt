@@ -1,5 +1,4 @@
-use Rattle.address_space.proofs.Prelude
-use Prelude.{◌+◌, ap, ◌∙◌, length, splice, with_frame, frame_bytes, frames-with_part}
+use Rattle.address_space.proofs.Prelude.{◌+◌, ap, ◌∙◌, length, splice, with_frame, frame_bytes, frames-with_part}
 use Rattle.address_space.proofs.steps.Stores.{part_is_write}
 use Rattle.address_space.proofs.parts.move_part.Goals as goal
 

@@ -1,5 +1,4 @@
-use Rattle.address_space.proofs.Prelude
-use Prelude.{◌≡◌, ◌≢◌, ◌∙◌, ◌+◌, ◌%◌, ℕ, List, [], ◌∷◌, length, slice_index, ap, sym, refl, arith, with_frame, frame_bytes, write_at, by_frame, with_frame-same, with_frame-other}
+use Rattle.address_space.proofs.Prelude.{◌≡◌, ◌≢◌, ◌∙◌, ◌+◌, ◌%◌, ℕ, List, [], ◌∷◌, length, slice_index, ap, sym, refl, arith, with_frame, frame_bytes, write_at, by_frame, with_frame-same, with_frame-other}
 use Rattle.address_space.proofs.steps.Bytes.{write_at-write_at}
 use Rattle.address_space.proofs.parts.put_part.Goals as goal
 

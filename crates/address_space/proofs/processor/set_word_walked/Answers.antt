@@ -1,5 +1,4 @@
-use Rattle.address_space.proofs.Prelude
-use Prelude.{◌≡◌, ap, ◌∙◌, arith, slot_number, word_at, word_place, with_word, walked_word}
+use Rattle.address_space.proofs.Prelude.{◌≡◌, ap, ◌∙◌, arith, slot_number, word_at, word_place, with_word, walked_word}
 use Rattle.address_space.proofs.processor.set_word_walked.Goals as goal
 
 pub returns-clause-bytes : goal.returns-clause-bytes

@@ -1,5 +1,4 @@
-use Rattle.address_space.proofs.Prelude
-use Prelude.{◌++◌, ◌∷◌, [], sym, ap, ◌∙◌, arith, Some, counted_at, words_where, slice_get-get_or}
+use Rattle.address_space.proofs.Prelude.{◌++◌, ◌∷◌, [], sym, ap, ◌∙◌, arith, Some, counted_at, words_where, slice_get-get_or}
 use Rattle.std.proofs.lemmas.List.FromFn.{map-range_with_len_more}
 use Rattle.address_space.proofs.restoring.counts_of.Goals as goal
 

@@ -1,5 +1,4 @@
-use Rattle.address_space.proofs.Prelude
-use Prelude.{◌≡◌, map, range_with_len, counted_at}
+use Rattle.address_space.proofs.Prelude.{◌≡◌, map, range_with_len, counted_at}
 use Rattle.address_space.proofs.restoring.counts_of.Given as goal
 
 abbrev pub invariant-loop-place : goal.invariant-loop-place

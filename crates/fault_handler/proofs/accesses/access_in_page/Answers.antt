@@ -1,5 +1,4 @@
-use Rattle.fault_handler.proofs.Prelude
-use Prelude.{stays_most}
+use Rattle.fault_handler.proofs.Prelude.{stays_most}
 use Rattle.fault_handler.proofs.accesses.access_in_page.Goals as goal
 
 pub returns-then-eq-clause-stay : goal.returns-then-eq-clause-stay

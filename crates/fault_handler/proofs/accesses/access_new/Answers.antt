@@ -1,5 +1,4 @@
-use Rattle.fault_handler.proofs.Prelude
-use Prelude.{Ok, arith, le-ltb, lt-ltb, ◌≡◌, ◌∙◌, ap, sym, subst, Read, Write, State, is_mapped, access_value, after_access, [], ◌∷◌, true, false, overdrawn, at_page, slot_at, cell_or_fresh, need, page_number, touched, stays_then, stays_most, touched-there, Cell, is_live}
+use Rattle.fault_handler.proofs.Prelude.{Ok, arith, le-ltb, lt-ltb, ◌≡◌, ◌∙◌, ap, sym, subst, Read, Write, State, is_mapped, access_value, after_access, [], ◌∷◌, true, false, overdrawn, at_page, slot_at, cell_or_fresh, need, page_number, touched, stays_then, stays_most, touched-there, Cell, is_live}
 use Rattle.fault_handler.proofs.OnePage.{room_by, new_refused, new_done, new_right}
 use Rattle.fault_handler.proofs.Settled.{mapped_alone, mapped_value, mapped_after, same_cells}
 use Rattle.fault_handler.proofs.accesses.access_new.Goals as goal

@@ -1,5 +1,4 @@
-use Rattle.fault_handler.proofs.Prelude
-use Prelude.{◌≡◌, ◌∙◌, ℕ, true, false, IfSome, sym, ap, subst, stays_most, Ok, takes_at}
+use Rattle.fault_handler.proofs.Prelude.{◌≡◌, ◌∙◌, ℕ, true, false, IfSome, sym, ap, subst, stays_most, Ok, takes_at}
 use Rattle.fault_handler.proofs.Settled.{complete_takes}
 use Rattle.fault_handler.proofs.Walked.{taken}
 use Rattle.fault_handler.proofs.accesses.access_over.Goals.{else-takes-via-then-takes+else-takes-2, else-takes-via-else-takes}

@@ -1,5 +1,4 @@
-use Rattle.fault_handler.proofs.Prelude
-use Prelude.{arith}
+use Rattle.fault_handler.proofs.Prelude.{arith}
 use Rattle.fault_handler.proofs.Settled.{ready}
 use Rattle.fault_handler.proofs.accesses.plan_over.Goals as goal
 

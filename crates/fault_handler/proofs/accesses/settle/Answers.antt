@@ -1,5 +1,4 @@
-use Rattle.fault_handler.proofs.Prelude
-use Prelude.{◌≡◌, true, arith, ap, sym, ◌∙◌, goes_on, is_live}
+use Rattle.fault_handler.proofs.Prelude.{◌≡◌, true, arith, ap, sym, ◌∙◌, goes_on, is_live}
 use Rattle.fault_handler.proofs.Settled.{goes_live}
 use Rattle.fault_handler.proofs.accesses.settle.Goals as goal
 

@@ -1,5 +1,4 @@
-use Rattle.fault_handler.proofs.Prelude
-use Prelude.{memory_of, stays_then, stays_most}
+use Rattle.fault_handler.proofs.Prelude.{memory_of, stays_then, stays_most}
 use Rattle.fault_handler.proofs.Filled.{fills_one}
 use Rattle.fault_handler.proofs.accesses.store_filled.Goals as goal
 

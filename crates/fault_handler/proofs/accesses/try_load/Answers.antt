@@ -1,5 +1,4 @@
-use Rattle.fault_handler.proofs.Prelude
-use Prelude.{◌≡◌, ◌∙◌, true, refl, sym, subst, at_page, Read, is_mapped}
+use Rattle.fault_handler.proofs.Prelude.{◌≡◌, ◌∙◌, true, refl, sym, subst, at_page, Read, is_mapped}
 use Rattle.fault_handler.proofs.Walked.{completes_at_once}
 use Rattle.fault_handler.proofs.accesses.try_load.Goals as goal
 

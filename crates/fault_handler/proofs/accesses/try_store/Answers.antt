@@ -1,5 +1,4 @@
-use Rattle.fault_handler.proofs.Prelude
-use Prelude.{◌≡◌, ◌∙◌, true, refl, sym, subst, takes_stores, at_page, Write, memory_of, is_mapped, and_parts}
+use Rattle.fault_handler.proofs.Prelude.{◌≡◌, ◌∙◌, true, refl, sym, subst, takes_stores, at_page, Write, memory_of, is_mapped, and_parts}
 use Rattle.fault_handler.proofs.Walked.{completes_at_once}
 use Rattle.fault_handler.proofs.accesses.try_store.Goals as goal
 

@@ -1,5 +1,4 @@
-use Rattle.fault_handler.proofs.Prelude
-use Prelude.{arith}
+use Rattle.fault_handler.proofs.Prelude.{arith}
 use Rattle.process_table.proofs.StoreCharge.{load_charge, store_charge}
 use Rattle.fault_handler.proofs.Looked.{charge_goes}
 use Rattle.fault_handler.proofs.planning.plan_by.Goals as goal

@@ -1,5 +1,4 @@
-use Rattle.fault_handler.proofs.Prelude
-use Prelude.{◌∙◌, ap, sym, option_map, planned_by_looks, look_of, start_number}
+use Rattle.fault_handler.proofs.Prelude.{◌∙◌, ap, sym, option_map, planned_by_looks, look_of, start_number}
 use Rattle.fault_handler.proofs.Looked.{looked}
 use Rattle.fault_handler.proofs.planning.plan_within.Goals as goal
 

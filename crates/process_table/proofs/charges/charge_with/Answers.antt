@@ -1,5 +1,4 @@
-use Rattle.process_table.proofs.Prelude
-use Prelude.{arith}
+use Rattle.process_table.proofs.Prelude.{arith}
 use Rattle.process_table.proofs.Charged.{used-container}
 use Rattle.process_table.proofs.Overdrawn.{extra_new}
 use Rattle.process_table.proofs.charges.charge_with.Goals as goal

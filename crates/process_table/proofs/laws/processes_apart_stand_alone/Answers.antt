@@ -1,5 +1,4 @@
-use Rattle.process_table.proofs.Prelude
-use Prelude.{arith}
+use Rattle.process_table.proofs.Prelude.{arith}
 use Rattle.process_table.proofs.Apart.{mapped_alike, cost_alike, given_alike, no_room_alike, lacks_room_alike, cell_alike, group_alike, loaded_alike, map_refusal_alike, unmap_refusal_alike, protect_refusal_alike, withdraw_refusal_alike, exit_refusal_alike, map_alike, protect_alike, load_alike, store_alike, unmap_alike, withdraw_alike}
 use Rattle.process_table.proofs.ApartOthers.{load_leaves, store_leaves, map_leaves, unmap_leaves, protect_leaves, offer_leaves, withdraw_leaves, accept_leaves, spawn_leaves, fork_leaves, exit_leaves, spawn_alike, fork_alike}
 use Rattle.process_table.proofs.laws.processes_apart_stand_alone.Goals as goal

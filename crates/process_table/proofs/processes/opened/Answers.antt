@@ -1,5 +1,4 @@
-use Rattle.process_table.proofs.Prelude
-use Prelude.{◌≡◌, ℕ, ◌+◌, ◌-◌, ◌≤◌, ap, sym, ◌∙◌, length, arith, is_some, directory_of, Containers, open_with}
+use Rattle.process_table.proofs.Prelude.{◌≡◌, ℕ, ◌+◌, ◌-◌, ◌≤◌, ap, sym, ◌∙◌, length, arith, is_some, directory_of, Containers, open_with}
 use Rattle.address_space.proofs.steps.Openings.{no_directory}
 use Rattle.process_table.proofs.BookLaws.{well_formed-open}
 use Rattle.process_table.proofs.Keeping.{whole}

@@ -1,5 +1,4 @@
-use Rattle.process_table.proofs.Prelude
-use Prelude.{◌≡◌, ◌≢◌, ℕ, ◌+◌, true, false, [], ◌∷◌, arith, refl, Some, None, rules, sym, ap, subst, ◌∙◌, Ok, Err, is_some, IsOk, if◌then◌else◌, Mapped, Quota, IsUserPage, offer_key, is_live, is_mapped, overdrawn, State, no_value, place_in, Slot, cost, need, joined, at_page, cost-joined, cost-joined_other, used_of, accept_answer, accept_refusal, after_accept, View, IsProcesses, state_of, IsWellFormed, stays_then, stays_most}
+use Rattle.process_table.proofs.Prelude.{◌≡◌, ◌≢◌, ℕ, ◌+◌, true, false, [], ◌∷◌, arith, refl, Some, None, rules, sym, ap, subst, ◌∙◌, Ok, Err, is_some, IsOk, if◌then◌else◌, Mapped, Quota, IsUserPage, offer_key, is_live, is_mapped, overdrawn, State, no_value, place_in, Slot, cost, need, joined, at_page, cost-joined, cost-joined_other, used_of, accept_answer, accept_refusal, after_accept, View, IsProcesses, state_of, IsWellFormed, stays_then, stays_most}
 use Rattle.process_table.proofs.Placed.{page_is_user}
 use Rattle.process_table.proofs.Charged.{charged-one}
 use Rattle.process_table.proofs.Keeping.{whole, keeps-accept}

@@ -1,5 +1,4 @@
-use Rattle.process_table.proofs.Prelude
-use Prelude.{arith}
+use Rattle.process_table.proofs.Prelude.{arith}
 use Rattle.process_table.proofs.StoreCharge.{load_charge, store_charge}
 use Rattle.process_table.proofs.processes.Processes.access_charge.Goals as goal
 

@@ -1,5 +1,4 @@
-use Rattle.process_table.proofs.Prelude
-use Prelude.{arith, ◌≡◌, true, ap, sym, ◌∙◌, subst, is_live, spawn_answer, View, translated}
+use Rattle.process_table.proofs.Prelude.{arith, ◌≡◌, true, ap, sym, ◌∙◌, subst, is_live, spawn_answer, View, translated}
 use Rattle.process_table.proofs.Spawns.{spawn-split, container-same}
 use Rattle.process_table.proofs.processes.Processes.child_test.Goals as goal
 

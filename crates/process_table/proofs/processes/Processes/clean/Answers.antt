@@ -1,5 +1,4 @@
-use Rattle.process_table.proofs.Prelude
-use Prelude.{◌≡◌, refl, sym, subst, ap, ◌∙◌, length, true, Spaces, cost, at_page, cost-same, kept, State, is_mapped, View, state_of}
+use Rattle.process_table.proofs.Prelude.{◌≡◌, refl, sym, subst, ap, ◌∙◌, length, true, Spaces, cost, at_page, cost-same, kept, State, is_mapped, View, state_of}
 use Rattle.process_table.proofs.Charged.{charged-same}
 use Rattle.process_table.proofs.Keeping.{whole}
 use Rattle.process_table.proofs.SpaceLaws.{cleaned_state, well_formed-cleaned}

@@ -1,5 +1,4 @@
-use Rattle.process_table.proofs.Prelude
-use Prelude.{arith}
+use Rattle.process_table.proofs.Prelude.{arith}
 use Rattle.process_table.proofs.Charged.{used-container}
 use Rattle.process_table.proofs.Forks.{fork-by}
 use Rattle.process_table.proofs.processes.Processes.copy_test.Goals as goal

@@ -1,5 +1,4 @@
-use Rattle.process_table.proofs.Prelude
-use Prelude.{arith, refl, ap, State, state_of, cost}
+use Rattle.process_table.proofs.Prelude.{arith, refl, ap, State, state_of, cost}
 use Rattle.process_table.proofs.Charged.{charged-same}
 use Rattle.process_table.proofs.Keeping.{whole}
 use Rattle.process_table.proofs.SharingLaws.{mapped_user}

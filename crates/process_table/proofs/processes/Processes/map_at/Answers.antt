@@ -1,5 +1,4 @@
-use Rattle.process_table.proofs.Prelude
-use Prelude.{rules, arith, refl, sym, subst, ap, ◌+◌, ◌∙◌, IsOk, Slot, cost, need, fresh, at_page, cost-insert, used_of, State, map_answer, after_map, map_refusal, View, IsProcesses, state_of, cost-insert_other}
+use Rattle.process_table.proofs.Prelude.{rules, arith, refl, sym, subst, ap, ◌+◌, ◌∙◌, IsOk, Slot, cost, need, fresh, at_page, cost-insert, used_of, State, map_answer, after_map, map_refusal, View, IsProcesses, state_of, cost-insert_other}
 use Rattle.process_table.proofs.Charged.{charged-one}
 use Rattle.process_table.proofs.Keeping.{whole, keeps-map}
 use Rattle.process_table.proofs.SpaceLaws.{new_fits}

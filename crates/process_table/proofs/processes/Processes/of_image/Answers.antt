@@ -1,5 +1,4 @@
-use Rattle.process_table.proofs.Prelude
-use Prelude.{◌≡◌, sym, subst, StandsFor, image_in, some_of}
+use Rattle.process_table.proofs.Prelude.{◌≡◌, sym, subst, StandsFor, image_in, some_of}
 use Rattle.process_table.proofs.Restored.{agree, room, parts_whole, state, state_stands}
 use Rattle.process_table.proofs.processes.Processes.of_image.Goals as goal
 

@@ -1,5 +1,4 @@
-use Rattle.process_table.proofs.Prelude
-use Prelude.{arith}
+use Rattle.process_table.proofs.Prelude.{arith}
 use Rattle.process_table.proofs.Refusals.{is_done}
 use Rattle.process_table.proofs.processes.Processes.offer.Goals as goal
 

@@ -1,5 +1,4 @@
-use Rattle.process_table.proofs.Prelude
-use Prelude.{arith, rules}
+use Rattle.process_table.proofs.Prelude.{arith, rules}
 use Rattle.process_table.proofs.Refusals.{test_map}
 use Rattle.process_table.proofs.processes.Processes.place_to_map.Goals as goal
 

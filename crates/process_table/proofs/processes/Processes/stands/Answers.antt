@@ -1,5 +1,4 @@
-use Rattle.process_table.proofs.Prelude
-use Prelude.{arith, subst, IsWellFormed, memory_of, View}
+use Rattle.process_table.proofs.Prelude.{arith, subst, IsWellFormed, memory_of, View}
 use Rattle.address_space.specs.Walks.{WalksAgree}
 use Rattle.process_table.proofs.ImageStanding.{image_stands}
 use Rattle.process_table.proofs.Ranges.{total-book}

@@ -1,5 +1,4 @@
-use Rattle.process_table.proofs.Prelude
-use Prelude.{arith, ap, sym, ◌∙◌, is_some, at_page, need_of, found_of, lazy_place, takes_place}
+use Rattle.process_table.proofs.Prelude.{arith, ap, sym, ◌∙◌, is_some, at_page, need_of, found_of, lazy_place, takes_place}
 use Rattle.process_table.proofs.Placed.{told_flags, told_write, told_may, few_needed, mapped_live}
 use Rattle.process_table.proofs.processes.Processes.tells.Goals as goal
 

@@ -1,5 +1,4 @@
-use Rattle.process_table.proofs.Prelude
-use Prelude.{arith, rules, ◌≡◌, true, offer_key}
+use Rattle.process_table.proofs.Prelude.{arith, rules, ◌≡◌, true, offer_key}
 use Rattle.process_table.proofs.Refusals.{test_accept}
 use Rattle.page_words.specs.FiniteMap as map
 use Rattle.process_table.proofs.processes.Processes.try_accept.Goals as goal

@@ -1,5 +1,4 @@
-use Rattle.process_table.proofs.Prelude
-use Prelude.{arith, rules, refl, sym, subst, ◌∙◌, IsOk, State, exit_answer, after_exit, View, IsProcesses, state_of, image_of, memory_of, LooseStay}
+use Rattle.process_table.proofs.Prelude.{arith, rules, refl, sym, subst, ◌∙◌, IsOk, State, exit_answer, after_exit, View, IsProcesses, state_of, image_of, memory_of, LooseStay}
 use Rattle.process_table.proofs.Charged.{charged-exit}
 use Rattle.process_table.proofs.Keeping.{whole, keeps-exit}
 use Rattle.process_table.proofs.processes.Processes.try_exit.Goals as goal

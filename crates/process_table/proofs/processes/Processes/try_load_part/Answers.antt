@@ -1,5 +1,4 @@
-use Rattle.process_table.proofs.Prelude
-use Prelude.{arith, cost-accessed_of}
+use Rattle.process_table.proofs.Prelude.{arith, cost-accessed_of}
 use Rattle.process_table.proofs.Charged.{charged-same}
 use Rattle.process_table.proofs.SpaceLaws.{well_formed-read_at}
 use Rattle.process_table.proofs.processes.Processes.try_load_part.Goals as goal

@@ -1,5 +1,4 @@
-use Rattle.process_table.proofs.Prelude
-use Prelude.{◌≡◌, refl, sym, subst, ◌∙◌, None, State, View, after_offer, offer_refusal, state_of}
+use Rattle.process_table.proofs.Prelude.{◌≡◌, refl, sym, subst, ◌∙◌, None, State, View, after_offer, offer_refusal, state_of}
 use Rattle.process_table.proofs.Keeping.{whole}
 use Rattle.process_table.proofs.SharingLaws.{well_formed-offer}
 use Rattle.process_table.proofs.processes.Processes.try_offer.Goals as goal

@@ -1,5 +1,4 @@
-use Rattle.process_table.proofs.Prelude
-use Prelude.{refl, sym, subst, ap, ◌∙◌, length, ◌≡◌, None, first_cause, State, cost, at_page, after_protect, protect_refusal, View, state_of, cost-protected_of, is_ok}
+use Rattle.process_table.proofs.Prelude.{refl, sym, subst, ap, ◌∙◌, length, ◌≡◌, None, first_cause, State, cost, at_page, after_protect, protect_refusal, View, state_of, cost-protected_of, is_ok}
 use Rattle.process_table.proofs.Charged.{charged-same}
 use Rattle.process_table.proofs.Keeping.{whole}
 use Rattle.process_table.proofs.Refusals.{may_be, may_protect}

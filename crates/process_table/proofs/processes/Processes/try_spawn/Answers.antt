@@ -1,5 +1,4 @@
-use Rattle.process_table.proofs.Prelude
-use Prelude.{◌≡◌, ◌≤◌, refl, ap, sym, subst, ◌∙◌, arith, Ok, IsOk, cost, quota_of, Containers, total_used, after_split, spawn_answer, after_spawn, View, IsProcesses, state_of, State}
+use Rattle.process_table.proofs.Prelude.{◌≡◌, ◌≤◌, refl, ap, sym, subst, ◌∙◌, arith, Ok, IsOk, cost, quota_of, Containers, total_used, after_split, spawn_answer, after_spawn, View, IsProcesses, state_of, State}
 use Rattle.process_table.proofs.Spawns.{spawn-may, child-is, child-has_none, room-child, charged-child, cost-child}
 use Rattle.process_table.proofs.Keeping.{whole, keeps-spawn}
 use Rattle.page_words.specs.FiniteMap as map

@@ -1,5 +1,4 @@
-use Rattle.process_table.proofs.Prelude
-use Prelude.{rules, ◌≡◌, ℕ, ◌+◌, ◌-◌, sym, subst, ap, ◌∙◌, arith, ne_eqb, cost, without, is_slot, at_page, cost-without_other, used_of, State, after_unmap, unmap_refusal, View, IsProcesses, state_of, image_of, memory_of, slot_of_process, first_cause, None, LooseStay, is_ok}
+use Rattle.process_table.proofs.Prelude.{rules, ◌≡◌, ℕ, ◌+◌, ◌-◌, sym, subst, ap, ◌∙◌, arith, ne_eqb, cost, without, is_slot, at_page, cost-without_other, used_of, State, after_unmap, unmap_refusal, View, IsProcesses, state_of, image_of, memory_of, slot_of_process, first_cause, None, LooseStay, is_ok}
 use Rattle.process_table.proofs.BookLaws.{well_formed-unmap}
 use Rattle.process_table.proofs.Charged.{charged-one}
 use Rattle.process_table.proofs.Keeping.{whole}
