@@ -7,7 +7,8 @@ use Rattle.process_table.proofs.SpaceLaws.{well_formed-flags}
 use Rattle.kernel_calls.specs.declared.calls.Call.TheVariants as call
 use Rattle.shootdowns.proofs.Alike.{AlikeCell, same_cell}
 use Rattle.shootdowns.proofs.Filled.{protects_mapped, completed}
-use Rattle.shootdowns.proofs.Turned.{Grows, Has, has_then, grows_stored, bytes_grow, stores_turn, answer_alike}
+use Rattle.shootdowns.proofs.Taking.{kept_next}
+use Rattle.shootdowns.proofs.Turned.{Grows, Has, has_then, grows_stored, bytes_grow, stores_turn, there_is, answer_alike}
 
 -- a cell with dirty set, where it is the one
 abbrev pub dirt : Bool → Cell → Cell
@@ -230,9 +231,6 @@ dirty_then (suc i) (suc k) v a p S l each =
     has_then S T (slot_at p (a + 1 + j)) first (subst (λ n. Has S (slot_at p n)) next (each (suc j) (omega (arith, l)))))) in
     (d.0, ap (λ n. map.get (all_stored T p (a + 1) (bytes_of k (v / 256))) (slot_at p n)) next ∙ d.1, d.2)
 
-there_is : (S : Spaces) (p page : ℕ) → Has S (at_page p page) → IsThere S p page
-there_is S p page h = ap is_some h.1
-
 -- a store that touches the page sets dirty itself
 pub after_store_dirty : (s : State) (p addr : ℕ) (size : Size) (value i : ℕ) → i < byte_count size → EachTouched addr size (λ page. Has s.spaces (at_page p page))
     → after (dirty_at (slot_at p (addr + i)) s) p (call.Store addr size value) ≡ after s p (call.Store addr size value)
@@ -272,33 +270,8 @@ still_dirty b at s has c there = grind (arith, get_dirty, dirt_flags)
 -- after an event that takes a right, a slot is mapped as before, with accessed as before
 pub right_keeps : (s : State) (e : Event) → takes_right e.call ≡ true → (slot : Slot) (c : Cell) → map.get s.spaces slot ≡ Some c
     → (d : Cell) × (map.get (next s e).spaces slot ≡ Some d) × (d.accessed ≡ c.accessed)
-right_keeps s e takes slot c there = by e.call refl takes (completes (answer s e)) refl
+right_keeps s e takes slot c there = by e.call refl takes
   where
-    protects : (p page : ℕ) → (d : Cell) × (map.get (protected s.spaces (at_page p page) false) slot ≡ Some d) × (d.accessed ≡ c.accessed)
-    protects p page = at (same_or_not slot_order slot (at_page p page))
-      where
-        new : Cell
-        new = record (cell_or_fresh s.spaces (at_page p page)) { write = false }
-
-        at : ((slot ≡ at_page p page) × (same slot_order slot (at_page p page) ≡ true)) ⊎ (same slot_order slot (at_page p page) ≡ false)
-            → (d : Cell) × (map.get (protected s.spaces (at_page p page) false) slot ≡ Some d) × (d.accessed ≡ c.accessed)
-        at (inl is) = (
-          record (cell_or_fresh s.spaces (at_page p page)) { write = false },
-          get-insert s.spaces (at_page p page) (record (cell_or_fresh s.spaces (at_page p page)) { write = false }) slot
-              ∙ ap (λ b. cond b (Some (record (cell_or_fresh s.spaces (at_page p page)) { write = false })) (map.get s.spaces slot)) is.1,
-          ap (λ (z : Option Cell). (unwrap_or z (fresh (at_page p page) true)).accessed) (sym (ap (map.get s.spaces) is.0) ∙ there),
-        )
-        at (inr other) = (
-          c,
-          get-insert s.spaces (at_page p page) (record (cell_or_fresh s.spaces (at_page p page)) { write = false }) slot
-              ∙ ap (λ b. cond b (Some (record (cell_or_fresh s.spaces (at_page p page)) { write = false })) (map.get s.spaces slot)) other ∙ there,
-          refl,
-        )
-
-    by : (k : Call) → e.call ≡ k → takes_right k ≡ true → (b : Bool) → completes (answer s e) ≡ b
-        → (d : Cell) × (map.get (next s e).spaces slot ≡ Some d) × (d.accessed ≡ c.accessed)
-    by k is h false stops = (c, ap (λ (t : State). map.get t.spaces slot) (next-stays s e stops) ∙ there, refl)
-    by (call.Protect page false) is h true goes =
-        let d = protects e.pid page in
-        (d.0, ap (λ (t : State). map.get t.spaces slot) (next-goes s e goes ∙ ap (after s e.pid) is) ∙ d.1, d.2)
-    by _ is h true goes = cc
+    by : (k : Call) → e.call ≡ k → takes_right k ≡ true → (d : Cell) × (map.get (next s e).spaces slot ≡ Some d) × (d.accessed ≡ c.accessed)
+    by (call.Protect page false) is h = let d = kept_next s e page false is slot c there in (d.0, d.1, d.3)
+    by _ is h = cc

@@ -1,7 +1,7 @@
 -- A state with the bytes of frames in its cells: events that only take away leave these as they are, and a store
 -- changes one frame's.
 use Rattle.shootdowns.proofs.Prelude
-use Prelude.{◌≡◌, ℕ, Bool, true, false, cond, List, refl, ap, sym, ◌∙◌, inl, inr, Option, Some, None, unwrap_or, ◌⊎◌, not, if◌then◌else◌, option_map, is_user_page, same, same_map, same_or_not, get-insert, get-map_values, is_some-map, frame_bytes, Slot, slot_order, Cell, Spaces, at_page, cell_or_fresh, fresh, with_bytes, protected, without, is_slot, is_of, State, is_live, is_mapped, answer, answer_of, after, next, completes, refused_or, Call, Event, Reply, fewer, get_gone, next-stays, next-goes, only_takes}
+use Prelude.{◌≡◌, ℕ, Bool, true, false, cond, List, refl, ap, sym, ◌∙◌, inl, inr, Option, Some, None, unwrap_or, ◌⊎◌, not, if◌then◌else◌, option_map, is_user_page, same, same_map, same_or_not, get-insert, get-map_values, is_some-map, frame_bytes, Slot, slot_order, Cell, Spaces, at_page, cell_or_fresh, fresh, with_bytes, protected, without, is_slot, is_of, State, is_live, is_mapped, answer, answer_of, after, next, completes, refused_or, Call, Event, Reply, fewer, get_gone, next-stays, next-goes, only_takes, Book, ◌==◌, nat_lt, number_of_children}
 use Rattle.std.specs.Prelude.{is_some}
 use Rattle.page_words.specs.FiniteMap as map
 use Rattle.process_table.specs.declared.causes.Cause.TheVariants as cause
@@ -34,6 +34,23 @@ completed s e = by (is_live s e.pid) refl
     by : (b : Bool) → is_live s e.pid ≡ b → completes (answer s e) ≡ true → completes (answer_of s e.pid e.call) ≡ true
     by true is k = sym (ap (λ b. completes (if b then answer_of s e.pid e.call else reply.Refused cause.NoProcess)) is) ∙ k
     by false is k = absurd (let z : false ≡ true = sym (ap (λ b. completes (if b then answer_of s e.pid e.call else reply.Refused cause.NoProcess)) is) ∙ k in cc)
+
+-- an event that only takes away is answered by what is mapped, and by who is live
+call_alike : (s t : State) (p : ℕ) (c : Call) → only_takes c ≡ true → t.book ≡ s.book → ((slot : Slot) → map.contains_key t.spaces slot ≡ map.contains_key s.spaces slot)
+    → answer_of t p c ≡ answer_of s p c
+call_alike s t p (call.Unmap page) h book keys =
+    ap (λ b. refused_or (if not (is_user_page page) then Some cause.BadPage else if not b then Some cause.NotMapped else None) reply.Done) (keys (at_page p page))
+call_alike s t p (call.Protect page false) h book keys =
+    ap (λ b. refused_or (if not (is_user_page page) then Some cause.BadPage else if not b then Some cause.NotMapped else None) reply.Done) (keys (at_page p page))
+call_alike s t p call.Exit h book keys =
+    ap (λ (b : Book). refused_or (if p == 0 then Some cause.RootExit else if nat_lt 0 (number_of_children b p) then Some cause.HasChildren else None) reply.Done) book
+call_alike s t p _ h book keys = cc
+
+pub same_answer : (s t : State) (e : Event) → only_takes e.call ≡ true → t.book ≡ s.book → ((slot : Slot) → map.contains_key t.spaces slot ≡ map.contains_key s.spaces slot)
+    → answer t e ≡ answer s e
+same_answer s t e h book keys =
+    (λ i. if map.contains_key (book i) e.pid then answer_of t e.pid e.call else reply.Refused cause.NoProcess)
+    ∙ ap (λ (r : Reply). if is_live s e.pid then r else reply.Refused cause.NoProcess) (call_alike s t e.pid e.call h book keys)
 
 module _ (F : Slot → ℕ) (bytes : List ℕ) where
   pub get_filled : (S : Spaces) (r : Slot) → map.get (filled F bytes S) r ≡ option_map (fill F bytes r) (map.get S r)
@@ -87,23 +104,13 @@ module _ (F : Slot → ℕ) (bytes : List ℕ) where
 
   -- ---- Events
 
-  call_filled : (s : State) (p : ℕ) (c : Call) → only_takes c ≡ true → answer_of (filled_state F bytes s) p c ≡ answer_of s p c
-  call_filled s p (call.Unmap page) h =
-      ap (λ b. refused_or (if not (is_user_page page) then Some cause.BadPage else if not b then Some cause.NotMapped else None) reply.Done) (mapped_filled s.spaces (at_page p page))
-  call_filled s p (call.Protect page false) h =
-      ap (λ b. refused_or (if not (is_user_page page) then Some cause.BadPage else if not b then Some cause.NotMapped else None) reply.Done) (mapped_filled s.spaces (at_page p page))
-  call_filled s p (call.Protect page true) h = cc
-  call_filled s p call.Exit h = refl
-  call_filled s p _ h = cc
-
   pub answer_filled : (s : State) (e : Event) → only_takes e.call ≡ true → answer (filled_state F bytes s) e ≡ answer s e
-  answer_filled s e h = ap (λ (r : Reply). if is_live s e.pid then r else reply.Refused cause.NoProcess) (call_filled s e.pid e.call h)
+  answer_filled s e h = same_answer s (filled_state F bytes s) e h refl (mapped_filled s.spaces)
 
   after_filled : (s : State) (p : ℕ) (c : Call) → only_takes c ≡ true → completes (answer_of s p c) ≡ true
       → after (filled_state F bytes s) p c ≡ filled_state F bytes (after s p c)
   after_filled s p (call.Unmap page) h done = ap (λ (S : Spaces). record (after s p (call.Unmap page)) { spaces = S }) (gone_filled s.spaces (is_slot p page))
   after_filled s p (call.Protect page false) h done = ap (λ (S : Spaces). record s { spaces = S }) (right_filled s.spaces (at_page p page) false (protects_mapped s p page done))
-  after_filled s p (call.Protect page true) h done = cc
   after_filled s p call.Exit h done = ap (λ (S : Spaces). record (after s p call.Exit) { spaces = S }) (gone_filled s.spaces (is_of p))
   after_filled s p _ h done = cc
 

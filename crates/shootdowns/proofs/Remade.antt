@@ -1,7 +1,7 @@
 -- Memory in which bytes of pages and of free frames were written, or dirty was set in words of pages that aren't lazy: it
 -- is a core's, whose cells have those bytes, and dirty there.
 use Rattle.shootdowns.proofs.Prelude
-use Prelude.{◌≡◌, ◌≤◌, ◌≢◌, ℕ, ◌+◌, ◌*◌, ◌<◌, ◌^◌, Bool, true, false, List, [], ◌∷◌, length, refl, ap, sym, ◌∙◌, subst, arith, inr, Option, Some, None, ◌↔◌, ◌&&◌, not, if◌then◌else◌, nat_lt, IsTrue, MatchBool, slice_get, sum_by, Ok, option_and_then, option_map, slot_number, index_number, nat_order, flag, with_flag, frame_number, is_present, is_accessed, is_lazy, IsKernelDirWord, NamesPage, flag-with_flag_same, set_flag_other, set_flag_frame, is_some-map, frame_bytes, word_in, Table, Access, Read, Write, walk_of, directory_at, table_at, word_of, named_by, present_word, page_word, page_frame, is_lazy_at, IsCount, SlotStands, CellStands, is_lazy_word, own_frame, IsTableWord, Slot, slot_order, Cell, slot_at, at_page, way_of, from_map, IsSoundImage, Account, IsCharge, image_of, memory_of, account_of, quota_from, State, View, IsWellFormed, Member, given, IsCore, Kept, translation, directory_entry, IsRead, AreRead, ways_of, has, walk_takes, walk_finds, has_right}
+use Prelude.{◌≡◌, ◌≤◌, ◌≢◌, ℕ, ◌+◌, ◌*◌, ◌<◌, ◌^◌, Bool, true, false, List, [], ◌∷◌, length, refl, ap, sym, ◌∙◌, subst, arith, inr, Option, Some, None, ◌↔◌, ◌&&◌, not, if◌then◌else◌, nat_lt, IsTrue, MatchBool, slice_get, sum_by, Ok, option_and_then, option_map, slot_number, index_number, nat_order, flag, with_flag, frame_number, is_present, is_accessed, is_lazy, IsKernelDirWord, NamesPage, flag-with_flag_same, set_flag_other, set_flag_frame, is_some-map, frame_bytes, word_in, Table, Access, Read, Write, walk_of, directory_at, table_at, word_of, present_word, page_word, page_frame, is_lazy_at, IsCount, SlotStands, CellStands, is_lazy_word, own_frame, IsTableWord, Slot, slot_order, Cell, slot_at, at_page, way_of, from_map, IsSoundImage, Account, IsCharge, image_of, memory_of, account_of, quota_from, State, View, IsWellFormed, Member, given, IsCore, Kept, translation, directory_entry, IsRead, AreRead, ways_of, has, walk_takes, walk_finds, has_right}
 use Rattle.std.specs.Prelude.{is_some}
 use Rattle.std.specs.Option.{unwrap_or}
 use Rattle.std.specs.List.{range_with_len}

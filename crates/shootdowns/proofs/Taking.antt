@@ -48,38 +48,33 @@ pub cell_bytes : (v : View) → IsCore v → (slot : Slot) (c : Cell) (word : �
     → c.bytes ≡ frame_bytes v.bytes (frame_number word)
 cell_bytes v core slot c word at is = grind arith
 
--- a Protect leaves all bytes
-bytes_protected : (s : State) (p page : ℕ) (write : Bool) (slot : Slot) (c : Cell) → map.get s.spaces slot ≡ Some c
-    → (d : Cell) × (map.get (protected s.spaces (at_page p page) write) slot ≡ Some d) × (d.bytes ≡ c.bytes)
-bytes_protected s p page write slot c at = by (same_or_not slot_order slot (at_page p page))
+-- a Protect leaves all bytes, and accessed
+kept_protected : (s : State) (p page : ℕ) (write : Bool) (slot : Slot) (c : Cell) → map.get s.spaces slot ≡ Some c
+    → (d : Cell) × (map.get (protected s.spaces (at_page p page) write) slot ≡ Some d) × (d.bytes ≡ c.bytes) × (d.accessed ≡ c.accessed)
+kept_protected s p page write slot c at = by (same_or_not slot_order slot (at_page p page))
   where
     new : Cell
     new = record (cell_or_fresh s.spaces (at_page p page)) { write = write }
 
-    by : ((slot ≡ at_page p page) × (same slot_order slot (at_page p page) ≡ true)) ⊎ (same slot_order slot (at_page p page) ≡ false)
-        → (d : Cell) × (map.get (protected s.spaces (at_page p page) write) slot ≡ Some d) × (d.bytes ≡ c.bytes)
-    by (inl is) = (
-      record (cell_or_fresh s.spaces (at_page p page)) { write = write },
-      get-insert s.spaces (at_page p page) (record (cell_or_fresh s.spaces (at_page p page)) { write = write }) slot
-          ∙ ap (λ b. cond b (Some (record (cell_or_fresh s.spaces (at_page p page)) { write = write })) (map.get s.spaces slot)) is.1,
-      ap (λ (z : Option Cell). (unwrap_or z (fresh (at_page p page) true)).bytes) (sym (ap (map.get s.spaces) is.0) ∙ at),
-    )
-    by (inr other) = (
-      c,
-      get-insert s.spaces (at_page p page) (record (cell_or_fresh s.spaces (at_page p page)) { write = write }) slot
-          ∙ ap (λ b. cond b (Some (record (cell_or_fresh s.spaces (at_page p page)) { write = write })) (map.get s.spaces slot)) other ∙ at,
-      refl,
-    )
+    get : (b : Bool) → same slot_order slot (at_page p page) ≡ b → map.get (protected s.spaces (at_page p page) write) slot ≡ cond b (Some new) (map.get s.spaces slot)
+    get b is = get-insert s.spaces (at_page p page) new slot ∙ ap (λ b. cond b (Some new) (map.get s.spaces slot)) is
 
-bytes_next : (s : State) (e : Event) (page : ℕ) (write : Bool) → e.call ≡ call.Protect page write → (slot : Slot) (c : Cell) → map.get s.spaces slot ≡ Some c
-    → (d : Cell) × (map.get (next s e).spaces slot ≡ Some d) × (d.bytes ≡ c.bytes)
-bytes_next s e page write is slot c at = by (completes (answer s e)) refl
+    by : ((slot ≡ at_page p page) × (same slot_order slot (at_page p page) ≡ true)) ⊎ (same slot_order slot (at_page p page) ≡ false)
+        → (d : Cell) × (map.get (protected s.spaces (at_page p page) write) slot ≡ Some d) × (d.bytes ≡ c.bytes) × (d.accessed ≡ c.accessed)
+    by (inl is) =
+        let own : cell_or_fresh s.spaces (at_page p page) ≡ c = ap (λ (z : Option Cell). unwrap_or z (fresh (at_page p page) true)) (sym (ap (map.get s.spaces) is.0) ∙ at) in
+        (new, get true is.1, ap (λ (z : Cell). z.bytes) own, ap (λ (z : Cell). z.accessed) own)
+    by (inr other) = (c, get false other ∙ at, refl, refl)
+
+pub kept_next : (s : State) (e : Event) (page : ℕ) (write : Bool) → e.call ≡ call.Protect page write → (slot : Slot) (c : Cell) → map.get s.spaces slot ≡ Some c
+    → (d : Cell) × (map.get (next s e).spaces slot ≡ Some d) × (d.bytes ≡ c.bytes) × (d.accessed ≡ c.accessed)
+kept_next s e page write is slot c at = by (completes (answer s e)) refl
   where
-    by : (b : Bool) → completes (answer s e) ≡ b → (d : Cell) × (map.get (next s e).spaces slot ≡ Some d) × (d.bytes ≡ c.bytes)
-    by false stops = (c, ap (λ (t : State). map.get t.spaces slot) (next-stays s e stops) ∙ at, refl)
+    by : (b : Bool) → completes (answer s e) ≡ b → (d : Cell) × (map.get (next s e).spaces slot ≡ Some d) × (d.bytes ≡ c.bytes) × (d.accessed ≡ c.accessed)
+    by false stops = (c, ap (λ (t : State). map.get t.spaces slot) (next-stays s e stops) ∙ at, refl, refl)
     by true goes =
-        let d = bytes_protected s e.pid page write slot c at in
-        (d.0, ap (λ (t : State). map.get t.spaces slot) (next-goes s e goes ∙ ap (after s e.pid) is) ∙ d.1, d.2)
+        let d = kept_protected s e.pid page write slot c at in
+        (d.0, ap (λ (t : State). map.get t.spaces slot) (next-goes s e goes ∙ ap (after s e.pid) is) ∙ d.1, d.2, d.3)
 
 none_gone : (s : State) (e : Event) (page : ℕ) (write : Bool) → e.call ≡ call.Protect page write → (slot : Slot) (f : ℕ) → gone_by s e slot f ≡ false
 none_gone s e page write is slot f = grind arith
@@ -112,7 +107,7 @@ by_protect v w before later e state stay page write is = record {
         let now = way_parts (memory_of w) slot way.0 (frame_number old.0) (stay.ways slot way.0 (frame_number old.0) (none_gone v.state e page write is slot (frame_number old.0)) way.1) in
         let new = from_map frame_number (page_word (memory_of w) slot) (frame_number old.0) now.names in
         let cell = some_value (map.get v.state.spaces slot) (mapped_word v before slot old.0 old.1) in
-        let left = bytes_next v.state e page write is slot cell.0 cell.1 in
+        let left = kept_next v.state e page write is slot cell.0 cell.1 in
         let there : map.get w.state.spaces slot ≡ Some left.0 = ap (λ (t : State). map.get t.spaces slot) state ∙ left.1 in
         let same : frame_number new.0 ≡ f = new.2 ∙ own.1 in (
           ap (frame_bytes w.bytes) (sym same) ∙ sym (cell_bytes w later slot left.0 new.0 there new.1) ∙ left.2

@@ -1,14 +1,11 @@
 -- An access of pages that stay mapped, and an event that only takes away, in either order.
 use Rattle.shootdowns.proofs.Prelude
-use Prelude.{◌≡◌, ◌≢◌, ℕ, zero, suc, ◌+◌, ◌/◌, ◌%◌, ◌<◌, Bool, true, false, cond, ◌==◌, List, [], ◌∷◌, refl, ap, sym, ◌∙◌, subst, arith, inl, inr, Option, Some, None, unwrap_or, is_some, ◌⊎◌, if◌then◌else◌, IfSome, option_map, page_number, offset_number, page_and, second_page, byte_count, touched, EachTouched, is_user_page, Size, same, same_or_not, get-insert, get-map_values, some_value, Slot, slot_order, Cell, Spaces, at_page, slot_at, fresh, with_bytes, set_bytes, write_at, stored, all_stored, bytes_of, accessed, all_accessed, with_pages, protected, without, is_slot, is_of, IsThere, with_touched-same, each_byte, State, is_live, Book, number_of_children, get-inserted, each_page, answer, answer_of, after, next, completes, refused_or, Call, Event, Reply, next-stays, next-goes, only_takes}
-use Rattle.std.proofs.Common.{not, nat_lt}
+use Prelude.{◌≡◌, ◌≢◌, ℕ, zero, suc, ◌+◌, ◌/◌, ◌%◌, ◌<◌, Bool, true, false, cond, List, [], ◌∷◌, refl, ap, sym, ◌∙◌, subst, arith, inl, inr, Option, Some, None, unwrap_or, is_some, ◌⊎◌, if◌then◌else◌, IfSome, option_map, page_number, offset_number, page_and, second_page, byte_count, touched, EachTouched, Size, same, same_or_not, get-insert, get-map_values, some_value, Slot, slot_order, Cell, Spaces, at_page, slot_at, fresh, with_bytes, set_bytes, write_at, stored, all_stored, bytes_of, accessed, all_accessed, with_pages, protected, without, is_slot, is_of, IsThere, with_touched-same, each_byte, State, get-inserted, each_page, answer, answer_of, after, next, completes, Call, Event, next-stays, next-goes, only_takes}
 use Rattle.page_words.specs.FiniteMap as map
 use Rattle.page_words.specs.FiniteSet as set
-use Rattle.process_table.specs.declared.causes.Cause.TheVariants as cause
 use Rattle.kernel_calls.specs.declared.calls.Call.TheVariants as call
-use Rattle.kernel_calls.specs.declared.calls.Reply.TheVariants as reply
 use Rattle.shootdowns.proofs.Alike.{AlikeCell, same_cell}
-use Rattle.shootdowns.proofs.Filled.{protects_mapped, completed}
+use Rattle.shootdowns.proofs.Filled.{protects_mapped, completed, same_answer}
 use Rattle.shootdowns.proofs.Swapped.{accessed_gone, stored_gone, accessed_right, stored_right}
 use Rattle.shootdowns.proofs.Taking.{left_gone}
 
@@ -184,7 +181,7 @@ pub record StaysMapped (s : State) (e : Event) (p : ℕ) (writes : Bool) (page :
   pub there : map.get (next s e).spaces (at_page p page) ≡ Some cell
   pub write : writes ≡ true → cell.write ≡ true
 
-there_is : (S : Spaces) (p page : ℕ) → Has S (at_page p page) → IsThere S p page
+pub there_is : (S : Spaces) (p page : ℕ) → Has S (at_page p page) → IsThere S p page
 there_is S p page h = ap is_some h.1
 
 module _ (s : State) (e : Event) (p : ℕ) where
@@ -291,22 +288,8 @@ next_book s a done h = ap (λ (t : State). t.book) (next-goes s a done ∙ (spac
 pub keys_of : (S T : Spaces) → Grows S T → (slot : Slot) → map.contains_key T slot ≡ map.contains_key S slot
 keys_of S T grows slot = grind (arith, is_some)
 
--- is answered by what is mapped, and by who is live
-call_alike : (s t : State) (p : ℕ) (c : Call) → only_takes c ≡ true → t.book ≡ s.book → ((slot : Slot) → map.contains_key t.spaces slot ≡ map.contains_key s.spaces slot)
-    → answer_of t p c ≡ answer_of s p c
-call_alike s t p (call.Unmap page) h book keys =
-    ap (λ b. refused_or (if not (is_user_page page) then Some cause.BadPage else if not b then Some cause.NotMapped else None) reply.Done) (keys (at_page p page))
-call_alike s t p (call.Protect page false) h book keys =
-    ap (λ b. refused_or (if not (is_user_page page) then Some cause.BadPage else if not b then Some cause.NotMapped else None) reply.Done) (keys (at_page p page))
-call_alike s t p (call.Protect page true) h book keys = cc
-call_alike s t p call.Exit h book keys =
-    ap (λ (b : Book). refused_or (if p == 0 then Some cause.RootExit else if nat_lt 0 (number_of_children b p) then Some cause.HasChildren else None) reply.Done) book
-call_alike s t p _ h book keys = cc
-
 pub answer_alike : (s t : State) (e : Event) → only_takes e.call ≡ true → t.book ≡ s.book → Grows s.spaces t.spaces → answer t e ≡ answer s e
-answer_alike s t e h book grows =
-    (λ i. if map.contains_key (book i) e.pid then answer_of t e.pid e.call else reply.Refused cause.NoProcess)
-    ∙ ap (λ (r : Reply). if is_live s e.pid then r else reply.Refused cause.NoProcess) (call_alike s t e.pid e.call h book (keys_of s.spaces t.spaces grows))
+answer_alike s t e h book grows = same_answer s t e h book (keys_of s.spaces t.spaces grows)
 
 -- the pages are mapped after it
 pub mapped_after : (s : State) (e : Event) (p : ℕ) (c : Call) (X : State) → X.spaces ≡ (next s e).spaces → Pages s e p c → Mapped X p c

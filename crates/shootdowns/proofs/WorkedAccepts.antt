@@ -114,37 +114,28 @@ stays_lazy v w e core later mapped spares stay =
     by true f = spares f
     by false f = refl
 
--- what the calls of a core that boots ensure, with these events
-pub record Made (e1 e2 e3 e4 e5 : Event) (o a l c v w : View) (map_reply r : Reply) (y : Ended) : Type 0 where
+-- what the calls of a core that boots ensure
+pub record Called (o a l c v w : View) (map_reply r : Reply) (y : Ended) : Type 0 where
   pub opening : o.state ≡ open_with 16
-  pub mapped : a.state ≡ next o.state e1
-  pub map_told : map_reply ≡ answer o.state e1
-  pub lazy : LeavesLazy o e1 map_reply a
+  pub mapped : a.state ≡ next o.state map_it
+  pub map_told : map_reply ≡ answer o.state map_it
+  pub lazy : LeavesLazy o map_it map_reply a
   pub core_mapped : IsCore a
-  pub loaded : l.state ≡ next a.state e2
-  pub load_stay : FramesStay (gone_by a.state e2) (memory_of a) (memory_of l)
+  pub loaded : l.state ≡ next a.state load_it
+  pub load_stay : FramesStay (gone_by a.state load_it) (memory_of a) (memory_of l)
   pub core_loaded : IsCore l
-  pub spawned : c.state ≡ next l.state e3
-  pub spawn_stay : FramesStay (gone_by l.state e3) (memory_of l) (memory_of c)
+  pub spawned : c.state ≡ next l.state spawn_it
+  pub spawn_stay : FramesStay (gone_by l.state spawn_it) (memory_of l) (memory_of c)
   pub core_spawned : IsCore c
-  pub offered : v.state ≡ next c.state e4
-  pub offer_stay : FramesStay (gone_by c.state e4) (memory_of c) (memory_of v)
+  pub offered : v.state ≡ next c.state offer_it
+  pub offer_stay : FramesStay (gone_by c.state offer_it) (memory_of c) (memory_of v)
   pub before : IsCore v
-  pub reply : r ≡ answer v.state e5
-  pub ended : y ≡ ended_by v e5
-  pub state : w.state ≡ next v.state e5
+  pub reply : r ≡ answer v.state accept_it
+  pub ended : y ≡ ended_by v accept_it
+  pub state : w.state ≡ next v.state accept_it
   pub ends : Ends y v w
-  pub stay : FramesStay (gone_by v.state e5) (memory_of v) (memory_of w)
+  pub stay : FramesStay (gone_by v.state accept_it) (memory_of v) (memory_of w)
   pub later : IsCore w
-
--- which are those of the worked Accept
-abbrev pub Called : View → View → View → View → View → View → Reply → Reply → Ended → Type 0
-Called = Made map_it load_it spawn_it offer_it accept_it
-
-pub called : (e1 e2 e3 e4 e5 : Event) (o a l c v w : View) (map_reply r : Reply) (y : Ended) → e1 ≡ map_it → e2 ≡ load_it → e3 ≡ spawn_it
-    → e4 ≡ offer_it → e5 ≡ accept_it → Made e1 e2 e3 e4 e5 o a l c v w map_reply r y → Called o a l c v w map_reply r y
-called e1 e2 e3 e4 e5 o a l c v w map_reply r y one two three four five =
-    subst (λ (t : Type 0). t) (λ i. Made (one i) (two i) (three i) (four i) (five i) o a l c v w map_reply r y)
 
 pub worked_by : (o a l c v w : View) (map_reply r : Reply) (y : Ended) → Called o a l c v w map_reply r y → WorkedZeros w
 worked_by o a l c v w map_reply r y k = worked v w r k.before opened lazy_here

@@ -1,6 +1,6 @@
 -- The steps of the worked Protect.
 use Rattle.shootdowns.proofs.Prelude
-use Prelude.{◌≡◌, ◌≢◌, ◌==◌, ℕ, ◌≤◌, ◌^◌, Bool, true, false, List, [], ◌∷◌, refl, ap, sym, ◌∙◌, subst, inr, zero, suc, arith, Some, is_some, length, unwrap_or, ◌⊎◌, if◌then◌else◌, slice_get, nat_lt, option_map, some_value, Read, walk_of, finds_at, is_lazy_at, Cell, at_page, FramesStay, none_goes, memory_of, State, open_with, View, gone_by, gone_of_call, bytes_kept, LeavesLazy, answer, completes, next, AllAreRead, IsCore, IsWalked, Processors, with_kept, AreRead, IsRead, Kept, translation, directory_entry, Ends, ended_by, is_invalidated, left_by, bytes_accessed, reply_found, Event, Reply, Ended, ways_of, next-stays, next-goes, nothing_ends, walks_leave_cores, mapped_way, Begins, IsStaleClean, KeepsNone, Steps, begun, walked, stored_clean, ordered, refilled, forgotten, invalidated, told, none, first, nobody, with_one, settled, under_way, all_dirty, first_store, fork_it, load_copy, store_copy, protect_it, ask_it, none_kept, WorkedProtect}
+use Prelude.{◌≡◌, ◌≢◌, ◌==◌, ℕ, ◌≤◌, ◌^◌, Bool, true, false, List, [], ◌∷◌, refl, ap, sym, ◌∙◌, subst, inr, zero, suc, arith, Some, is_some, length, unwrap_or, ◌⊎◌, if◌then◌else◌, slice_get, nat_lt, option_map, some_value, Read, walk_of, finds_at, is_lazy_at, Cell, at_page, FramesStay, none_goes, memory_of, State, open_with, View, gone_by, gone_of_call, bytes_kept, LeavesLazy, answer, completes, next, AllAreRead, IsCore, IsWalked, Processors, with_kept, AreRead, IsRead, Kept, translation, directory_entry, Ends, ended_by, is_invalidated, left_by, bytes_accessed, reply_found, Reply, Ended, ways_of, next-stays, next-goes, nothing_ends, walks_leave_cores, mapped_way, Begins, IsStaleClean, KeepsNone, Steps, begun, walked, stored_clean, ordered, refilled, forgotten, invalidated, told, none, first, nobody, with_one, settled, under_way, all_dirty, first_store, fork_it, load_copy, store_copy, protect_it, ask_it, none_kept, WorkedProtect}
 use Rattle.std.proofs.Common.{◌&&◌}
 use Rattle.std.specs.Result.{is_ok}
 use Rattle.page_words.specs.FiniteMap as map
@@ -247,33 +247,24 @@ module _ (v w : View) (r : Reply) (core : IsCore v) (state : v.state ≡ loaded_
     forgets = subst Forgets quota forgets;
   }
 
--- what the calls of a core that boots ensure, with these events
-pub record Made (e1 e2 e3 e4 : Event) (o s f v w : View) (r fork_reply : Reply) (y : Ended) : Type 0 where
+-- what the calls of a core that boots ensure
+pub record Called (o s f v w : View) (r fork_reply : Reply) (y : Ended) : Type 0 where
   pub opening : o.state ≡ open_with 16
-  pub stored : s.state ≡ next o.state e1
+  pub stored : s.state ≡ next o.state first_store
   pub core_stored : IsCore s
-  pub forked : f.state ≡ next s.state e2
-  pub fork_told : fork_reply ≡ answer s.state e2
-  pub lazy : LeavesLazy s e2 fork_reply f
+  pub forked : f.state ≡ next s.state fork_it
+  pub fork_told : fork_reply ≡ answer s.state fork_it
+  pub lazy : LeavesLazy s fork_it fork_reply f
   pub core_forked : IsCore f
-  pub loaded : v.state ≡ next f.state e3
-  pub load_stay : FramesStay (gone_by f.state e3) (memory_of f) (memory_of v)
+  pub loaded : v.state ≡ next f.state load_copy
+  pub load_stay : FramesStay (gone_by f.state load_copy) (memory_of f) (memory_of v)
   pub before : IsCore v
-  pub reply : r ≡ answer v.state e4
-  pub ended : y ≡ ended_by v e4
-  pub state : w.state ≡ next v.state e4
+  pub reply : r ≡ answer v.state protect_it
+  pub ended : y ≡ ended_by v protect_it
+  pub state : w.state ≡ next v.state protect_it
   pub ends : Ends y v w
-  pub stay : FramesStay (gone_by v.state e4) (memory_of v) (memory_of w)
+  pub stay : FramesStay (gone_by v.state protect_it) (memory_of v) (memory_of w)
   pub later : IsCore w
-
--- which are those of the worked Protect
-abbrev pub Called : View → View → View → View → View → Reply → Reply → Ended → Type 0
-Called = Made first_store fork_it load_copy protect_it
-
-pub called : (e1 e2 e3 e4 : Event) (o s f v w : View) (r fork_reply : Reply) (y : Ended) → e1 ≡ first_store → e2 ≡ fork_it → e3 ≡ load_copy → e4 ≡ protect_it
-    → Made e1 e2 e3 e4 o s f v w r fork_reply y → Called o s f v w r fork_reply y
-called e1 e2 e3 e4 o s f v w r fork_reply y one two three four =
-    subst (λ (t : Type 0). t) (λ i. Made (one i) (two i) (three i) (four i) o s f v w r fork_reply y)
 
 pub worked_by : (o s f v w : View) (r fork_reply : Reply) (y : Ended) → Called o s f v w r fork_reply y → WorkedProtect w
 worked_by o s f v w r fork_reply y k = worked v w r k.before opened real_here

@@ -200,36 +200,27 @@ module _ (v w y x : View) (r : Reply) (core : IsCore v) (state : v.state ≡ sto
     window = subst (λ (z : Reply). Window z reply.Done) value (subst (λ (z : Reply). Window q z) replied window);
   }
 
--- what the calls of a core that boots ensure, with these events, and the number of its root
-pub record Made (e1 e2 e3 : Event) (p : ℕ) (o s v w y x : View) (r : Reply) (z : Ended) : Type 0 where
+-- what the calls of a core that boots ensure
+pub record Called (o s v w y x : View) (r : Reply) (z : Ended) : Type 0 where
   pub opening : o.state ≡ open_with 16
-  pub stored : s.state ≡ next o.state e1
-  pub more : v.state ≡ next s.state e2
+  pub stored : s.state ≡ next o.state first_store
+  pub more : v.state ≡ next s.state second_store
   pub before : IsCore v
-  pub reply : r ≡ answer v.state e3
-  pub ended : z ≡ ended_by v e3
-  pub state : w.state ≡ next v.state e3
+  pub reply : r ≡ answer v.state unmap_it
+  pub ended : z ≡ ended_by v unmap_it
+  pub state : w.state ≡ next v.state unmap_it
   pub ends : Ends z v w
-  pub stay : FramesStay (gone_by v.state e3) (memory_of v) (memory_of w)
+  pub stay : FramesStay (gone_by v.state unmap_it) (memory_of v) (memory_of w)
   pub loose : LooseStay (memory_of v) (memory_of w)
   pub later : IsCore w
   pub clear_state : y.state ≡ w.state
   pub clear_directories : y.directories ≡ w.directories
   pub clear_roles : y.roles ≡ w.roles
-  pub clear_bytes : (directory : ℕ) → directory_at (memory_of w) p ≡ Some directory → y.bytes ≡ with_walked w.bytes directory 0x40000 false
+  pub clear_bytes : (directory : ℕ) → directory_at (memory_of w) 0 ≡ Some directory → y.bytes ≡ with_walked w.bytes directory 0x40000 false
   pub same : x.state ≡ y.state
   pub directories : x.directories ≡ y.directories
   pub roles : x.roles ≡ y.roles
-  pub bytes : (directory : ℕ) → directory_at (memory_of y) p ≡ Some directory → x.bytes ≡ with_walked y.bytes directory 0x40000 true
-
--- which are those of the worked window
-abbrev pub Called : View → View → View → View → View → View → Reply → Ended → Type 0
-Called = Made first_store second_store unmap_it 0
-
-pub called : (e1 e2 e3 : Event) (p : ℕ) (o s v w y x : View) (r : Reply) (z : Ended) → e1 ≡ first_store → e2 ≡ second_store → e3 ≡ unmap_it
-    → p ≡ 0 → Made e1 e2 e3 p o s v w y x r z → Called o s v w y x r z
-called e1 e2 e3 p o s v w y x r z one two three root =
-    subst (λ (t : Type 0). t) (λ i. Made (one i) (two i) (three i) (root i) o s v w y x r z)
+  pub bytes : (directory : ℕ) → directory_at (memory_of y) 0 ≡ Some directory → x.bytes ≡ with_walked y.bytes directory 0x40000 true
 
 -- a live process has a directory
 home_live : (v : View) → IsCore v → (p : ℕ) → is_live v.state p ≡ true → (d : ℕ) × (directory_at (memory_of v) p ≡ Some d)
