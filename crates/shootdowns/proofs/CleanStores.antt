@@ -107,10 +107,7 @@ module _ (x : Ended) (done : Acknowledged) (e : Event) (r : Reply) (keeps : Proc
             cc)
 
     cells : (slot : Slot) → map.get (next (dirty_at (at_page p page) s) e).spaces slot ≡ option_map (dirt (same slot_order (at_page p page) slot)) (map.get w.state.spaces slot)
-    cells slot =
-        ap (λ (z : State). map.get z.spaces slot) (next_dirty (at_page p page) s e right)
-        ∙ get_dirty (at_page p page) (next s e).spaces slot
-        ∙ sym (ap (λ (z : State). option_map (dirt (same slot_order (at_page p page) slot)) (map.get z.spaces slot)) g.stands.2)
+    cells slot = grind (arith, next_dirty, get_dirty, dirt)
 
     book : (next (dirty_at (at_page p page) s) e).book ≡ w.state.book
     book = ap (λ (z : State). z.book) (next_dirty (at_page p page) s e right) ∙ sym (ap (λ (z : State). z.book) g.stands.2)

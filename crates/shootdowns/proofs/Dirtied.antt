@@ -120,9 +120,7 @@ module _ (w : View) (core : IsCore w) (small : length w.bytes ≤ 2 ^ 32) (p pag
 
   -- a frame with another role keeps its bytes
   by_role : (f : ℕ) (r : Role) → slice_get w.roles f ≡ Some r → r ≢ Table p (slot_number page) → f ≢ table
-  by_role f r is apart same = apart (
-      let k : ◌≡◌ {A = Option Role} (Some r) (Some (Table p (slot_number page))) = sym is ∙ ap (slice_get w.roles) same ∙ role in
-      cc)
+  by_role f r is apart same = grind (arith, role)
 
   -- ---- Words
 
@@ -131,9 +129,7 @@ module _ (w : View) (core : IsCore w) (small : length w.bytes ≤ 2 ^ 32) (p pag
 
   -- a table is a page's only where it is that of the page's process and region
   its_table : (q s : ℕ) → table_at (memory_of w) q s ≡ Some table → (q ≡ p) × (s ≡ slot_number page)
-  its_table q s linked =
-      let k : ◌≡◌ {A = Option Role} (Some (Table q s)) (Some (Table p (slot_number page))) = sym ((S.tables table q s).1 linked) ∙ role in
-      (cc, cc)
+  its_table q s linked = grind (arith, role)
 
   -- the word of a slot
   tab_marked : (slot : Slot) (f : ℕ) → table_at (memory_of w) slot.pid (slot_number slot.page) ≡ Some f
@@ -171,9 +167,7 @@ module _ (w : View) (core : IsCore w) (small : length w.bytes ≤ 2 ^ 32) (p pag
   -- ---- The cells
 
   zero_apart : 0 ≢ table
-  zero_apart =
-      let size = core.image.sound.root.2 in
-      by_role 0 Reserved ((S.reserved 0 (omega (arith, size))).1 refl) (λ e. cc)
+  zero_apart = grind (arith, by_role)
 
   pub dirtied : Remade w (frame_at w) one t bytes
   dirtied = record {

@@ -255,6 +255,4 @@ all_steps (first {es = es} {events = events} {rs = rs} {replies = replies} now m
     }
 
 pub shootdowns_make_events : ShootdownsMakeEvents
-shootdowns_make_events v m keeps last events replies core all steps =
-    let came = all_steps steps (record { stands = (core, λ i. subst (AreRead v) (sym (none_left (keeps i))) (all i)); taken = tt }) in
-    record { replies = came.replies; state = came.state; stands = came.stands }
+shootdowns_make_events v m keeps last events replies core all steps = grind (arith, all_steps, none_left)

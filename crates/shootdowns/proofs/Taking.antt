@@ -193,10 +193,7 @@ module _ (v w : View) (before : IsCore v) (later : IsCore w) (e : Event) (takes 
       by slot (map.get v.state.spaces slot) refl ∙ sym (get_filled (frame_at v) w.bytes v.state.spaces slot)))
     where
       stands : (slot : Slot) (c : Cell) → map.get v.state.spaces slot ≡ Some c → c.bytes ≡ frame_bytes w.bytes (frame_at v slot)
-      stands slot c at =
-          let word = word_mapped v before slot c at in
-          cell_bytes v before slot c word.0 at word.1
-          ∙ bytes_stay slot word.0 word.1 ∙ ap (frame_bytes w.bytes) (sym (frame_is v slot word.0 word.1))
+      stands slot c at = grind (arith, word_mapped, cell_bytes, bytes_stay, frame_is)
 
       by : (slot : Slot) (z : Option Cell) → map.get v.state.spaces slot ≡ z → map.get v.state.spaces slot ≡ option_map (fill (frame_at v) w.bytes slot) (map.get v.state.spaces slot)
       by slot None is = is ∙ sym (ap (option_map (fill (frame_at v) w.bytes slot)) is)

@@ -1,5 +1,5 @@
 use Rattle.shootdowns.proofs.Prelude
-use Prelude.{rules, ◌≡◌, ◌∙◌, ap, gives_back, Event, first_store, second_store, unmap_it}
+use Prelude.{rules, ◌≡◌, ◌∙◌, first_store, second_store, unmap_it, refl}
 use Rattle.shootdowns.proofs.WorkedSteps.{worked_by}
 use Rattle.shootdowns.proofs.worked.worked_window.Goals as goal
 
@@ -15,19 +15,16 @@ returns c =
     let cleared = c.set_walked.ensures in
     let marked = c.set_walked-2.ensures in
     worked_by c.in_ok-core.core c.step.new.self c.step-2.new.self c.step_ending.new.self c.set_walked.new.self c.set_walked-2.new.self
-    c.step_ending.result.0 c.step_ending.result.1
     (record {
       opening = c.in_ok-core.ensures.opening;
       stored = rw store at c.step.ensures.state;
       more = rw more at c.step-2.ensures.state;
       before = c.stands.ensures.core;
-      reply = rw unmap at begun.reply;
-      ended = rw unmap at begun.ended;
-      state = rw unmap at begun.state;
-      ends = begun.ends;
-      stay = rw unmap at begun.stay;
-      loose = begun.loose (ap (λ (e : Event). gives_back e.call) unmap);
-      later = c.stands-2.ensures.core;
+      begins = record {
+        carried = record { reply = refl; state = rw unmap at begun.state; ends = rw (begun.ended, unmap) at begun.ends; core = c.stands-2.ensures.core };
+        stay = rw unmap at begun.stay;
+        loose = rw unmap at begun.loose;
+      };
       clear_state = cleared.state;
       clear_directories = cleared.directories;
       clear_roles = cleared.roles;

@@ -1,5 +1,5 @@
 use Rattle.shootdowns.proofs.Prelude
-use Prelude.{rules, ◌≡◌, ◌∙◌, true, accept_it, load_it, map_it, offer_it, spawn_it}
+use Prelude.{rules, ◌≡◌, ◌∙◌, true, accept_it, load_it, map_it, offer_it, spawn_it, refl}
 use Rattle.kernel_calls.specs.declared.calls.Call.TheVariants as call
 use Rattle.shootdowns.proofs.WorkedAccepts.{worked_by}
 use Rattle.shootdowns.proofs.worked.worked_zeros.Goals as goal
@@ -16,7 +16,7 @@ returns c =
     c.event-5.ensures ∙ (λ i. record accept_it { pid = child i; call = c.accept_of.ensures i }) ∙ (λ i. record accept_it { call = call.Accept (root i) 0x40000 0x50000 }) in
     let begun = c.step_ending.ensures in
     worked_by c.in_ok-core.core c.step.new.self c.step-2.new.self c.step-3.new.self c.step-4.new.self c.step_ending.new.self
-    c.step.result c.step_ending.result.0 c.step_ending.result.1
+    c.step.result
     (record {
       opening = c.in_ok-core.ensures.opening;
       mapped = rw maps at c.step.ensures.state;
@@ -32,10 +32,9 @@ returns c =
       offered = rw offers at c.step-4.ensures.state;
       offer_stay = rw offers at c.step-4.ensures.stay;
       before = c.stands-4.ensures.core;
-      reply = rw accepts at begun.reply;
-      ended = rw accepts at begun.ended;
-      state = rw accepts at begun.state;
-      ends = begun.ends;
-      stay = rw accepts at begun.stay;
-      later = c.stands-5.ensures.core;
+      begins = record {
+        carried = record { reply = refl; state = rw accepts at begun.state; ends = rw (begun.ended, accepts) at begun.ends; core = c.stands-5.ensures.core };
+        stay = rw accepts at begun.stay;
+        loose = λ no. cc;
+      };
     })
