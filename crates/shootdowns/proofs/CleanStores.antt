@@ -151,9 +151,7 @@ module _ (x : Ended) (done : Acknowledged) (e : Event) (r : Reply) (keeps : Proc
         by : (slot : Slot) (z : Option Cell) → map.get s.spaces slot ≡ z
             → option_map (dirt (same slot_order (at_page p page) slot)) (map.get s.spaces slot)
             ≡ option_map (fill (frame_at v) byte_list slot) (option_map (dirt (same slot_order (at_page p page) slot)) (map.get s.spaces slot))
-        by slot None is =
-            ap (option_map (dirt (same slot_order (at_page p page) slot))) is
-            ∙ sym (ap (λ (z : Option Cell). option_map (fill (frame_at v) byte_list slot) (option_map (dirt (same slot_order (at_page p page) slot)) z)) is)
+        by slot None is = grind (arith, dirt, fill, frame_at)
         by slot (Some c) is =
             ap (option_map (dirt (same slot_order (at_page p page) slot))) is
             ∙ ap (λ (c : Cell). Some c) (put (same slot_order (at_page p page) slot) slot c (own slot c is))

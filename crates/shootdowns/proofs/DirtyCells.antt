@@ -79,23 +79,8 @@ module _ (at : Slot) where
         where
           by : (r : Slot) → ((r ≡ at) × (same slot_order r at ≡ true)) ⊎ (same slot_order r at ≡ false)
               → option_map (dirt (same slot_order at r)) (map.get s.spaces r) ≡ cond (same slot_order r at) (Some (record c { dirty = true })) (map.get s.spaces r)
-          by r (inl h) =
-              (λ i. option_map (dirt ((ap (same slot_order at) h.0 ∙ same_itself slot_order at) i)) ((ap (map.get s.spaces) h.0 ∙ there) i))
-              ∙ sym (ap (λ b. cond b (Some (record c { dirty = true })) (map.get s.spaces r)) h.1)
-          by r (inr h) =
-              (λ i. option_map (dirt (other i)) (map.get s.spaces r)) ∙ none (map.get s.spaces r)
-              ∙ sym (ap (λ b. cond b (Some (record c { dirty = true })) (map.get s.spaces r)) h)
-            where
-              other : same slot_order at r ≡ false
-              other = flip (same_or_not slot_order at r)
-                where
-                  flip : ((at ≡ r) × (same slot_order at r ≡ true)) ⊎ (same slot_order at r ≡ false) → same slot_order at r ≡ false
-                  flip (inl k) = absurd (let e : true ≡ false = sym (ap (same slot_order r) k.0 ∙ same_itself slot_order r) ∙ h in cc)
-                  flip (inr k) = k
-
-              none : (z : Option Cell) → option_map (dirt false) z ≡ z
-              none None = refl
-              none (Some d) = refl
+          by r (inl h) = grind (arith, same_itself)
+          by r (inr h) = grind (arith, same_or_not, same_itself)
 
   -- ---- An event that takes the right to write
 
@@ -116,9 +101,7 @@ module _ (at : Slot) where
       by : (r : Slot) → ((r ≡ slot) × (same slot_order r slot ≡ true)) ⊎ (same slot_order r slot ≡ false)
           → cond (same slot_order r slot) (Some (dirt (same slot_order at slot) (record has.0 { write = w }))) (option_map (dirt (same slot_order at r)) (map.get S r))
           ≡ option_map (dirt (same slot_order at r)) (cond (same slot_order r slot) (Some (record has.0 { write = w })) (map.get S r))
-      by r (inl is) =
-          (λ i. cond (is.1 i) (Some (dirt (same slot_order at (sym is.0 i)) (record has.0 { write = w }))) (option_map (dirt (same slot_order at r)) (map.get S r)))
-          ∙ sym (ap (λ k. option_map (dirt (same slot_order at r)) (cond k (Some (record has.0 { write = w })) (map.get S r))) is.1)
+      by r (inl is) = grind arith
       by r (inr other) = (λ i. cond (other i) (Some (dirt (same slot_order at slot) (record has.0 { write = w }))) (option_map (dirt (same slot_order at r)) (map.get S r)))
           ∙ sym (ap (λ k. option_map (dirt (same slot_order at r)) (cond k (Some (record has.0 { write = w })) (map.get S r))) other)
 

@@ -72,12 +72,8 @@ module _ (F : Slot → ℕ) (bytes : List ℕ) where
       by : (r : Slot) → ((r ≡ slot) × (same slot_order r slot ≡ true)) ⊎ (same slot_order r slot ≡ false)
           → cond (same slot_order r slot) (Some (fill F bytes slot (record has.0 { write = w }))) (option_map (fill F bytes r) (map.get S r))
           ≡ option_map (fill F bytes r) (cond (same slot_order r slot) (Some (record has.0 { write = w })) (map.get S r))
-      by r (inl is) =
-          (λ i. cond (is.1 i) (Some (fill F bytes (sym is.0 i) (record has.0 { write = w }))) (option_map (fill F bytes r) (map.get S r)))
-          ∙ sym (ap (λ k. option_map (fill F bytes r) (cond k (Some (record has.0 { write = w })) (map.get S r))) is.1)
-      by r (inr other) =
-          ap (λ k. cond k (Some (fill F bytes slot (record has.0 { write = w }))) (option_map (fill F bytes r) (map.get S r))) other
-          ∙ sym (ap (λ k. option_map (fill F bytes r) (cond k (Some (record has.0 { write = w })) (map.get S r))) other)
+      by r (inl is) = grind arith
+      by r (inr other) = grind arith
 
   -- ---- Events
 

@@ -1,6 +1,6 @@
 -- Uses of what was kept come after an event that gives lazy pages frames and leaves their zeros.
 use Rattle.shootdowns.proofs.Prelude
-use Prelude.{◌≡◌, ◌≢◌, ℕ, Bool, true, false, List, [], ◌∷◌, ◌+◌, refl, ap, sym, ◌∙◌, arith, inl, inr, Option, Some, None, subst, is_some, ◌⊎◌, if◌then◌else◌, slice_get, slice_index, page_number, byte_count, EachTouched, Size, frame_bytes, byte-frame, Read, Write, directory_at, is_lazy_at, kept_place, number_at, Slot, Cell, at_page, byte_at, value_of, each_byte, same_each, memory_of, State, is_live, is_mapped, View, touched_user, plan_at, each_page, walk_completes, Serves, ServesCall, ServesEvent, IsLoad, IsStore, reply_kept, answer, answer_of, answers, after, next, completes, end_of, IsCore, IsLeft, Processors, AllAreRead, IsLoaded, LetsThrough, LetCall, Translation, translation, IsGiven, Ends, AreRead, ended_by, is_ended, Call, Event, Reply, Ended, goes-call, next-goes, Touched, loaded_same, live, kept_find, kept_reply, stores_leave_cores, left_read, read_at, answered, goes_frameless, told_planned, IsStale, Uses, ComeAfter, UsesComeAfterZeros}
+use Prelude.{◌≡◌, ◌≢◌, ℕ, Bool, true, false, List, [], ◌∷◌, ◌+◌, refl, ap, sym, ◌∙◌, arith, inl, inr, Option, Some, None, subst, is_some, ◌⊎◌, if◌then◌else◌, slice_get, slice_index, page_number, byte_count, EachTouched, Size, frame_bytes, byte-frame, Read, Write, directory_at, is_lazy_at, kept_place, number_at, Slot, Cell, at_page, byte_at, value_of, each_byte, same_each, memory_of, State, is_live, is_mapped, View, touched_user, plan_at, each_page, walk_completes, Serves, ServesCall, ServesEvent, IsLoad, IsStore, reply_kept, answer, answer_of, after, next, completes, IsCore, IsLeft, Processors, AllAreRead, IsLoaded, LetsThrough, LetCall, Translation, translation, IsGiven, Ends, AreRead, ended_by, is_ended, Call, Event, Reply, Ended, goes-call, next-goes, Touched, loaded_same, live, kept_find, kept_reply, stores_leave_cores, left_read, read_at, answered, goes_frameless, told_planned, IsStale, Uses, ComeAfter, UsesComeAfterZeros}
 use Rattle.page_words.specs.FiniteMap as map
 use Rattle.page_words.specs.FiniteSet as set
 use Rattle.process_table.specs.Calls as calls
@@ -225,11 +225,7 @@ module _ (v : View) (before : IsCore v) (x : Ended) (keeps : Processors) (all : 
   all_uses (loaded {u = u} {a = a} {q = q} {events = events} {replies = replies} i l more) t =
       let here = one_load u t i a q l in
       let later = all_uses more t in
-      record {
-        replies = (λ j. here.0 j ∷ later.replies j) ∙ ap (λ (s : State). answer u.state a ∷ answers s events) (sym here.1);
-        state = later.state ∙ ap (λ (s : State). end_of s events) (sym here.1);
-        core = later.core;
-      }
+      grind arith
   all_uses (stored {u = u} {a = a} {q = q} {bytes = bytes} {events = events} {replies = replies} i l more) t =
       let later = all_uses more (store_after u t i a q bytes l) in
       record { replies = (λ j. store_told u t i a q bytes l j ∷ later.replies j); state = later.state; core = later.core }

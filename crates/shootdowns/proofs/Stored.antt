@@ -85,11 +85,7 @@ module _ (F : Slot → ℕ) (S : Spaces) (p : ℕ) (frames : ℕ → ℕ) where
       by : (r : Slot) → ((r ≡ slot) × (same slot_order r slot ≡ true)) ⊎ (same slot_order r slot ≡ false)
           → cond (same slot_order r slot) (Some done) (option_map (λ (c : Cell). if set.contains h.cell.holders r then with_bytes c new else c) (option_map (fill F bytes r) (map.get S r)))
           ≡ option_map (fill F two r) (map.get S r)
-      by r (inl is) =
-          ap (λ k. cond k (Some done) (option_map (λ (c : Cell). if set.contains h.cell.holders r then with_bytes c new else c) (option_map (fill F bytes r) (map.get S r)))) is.1
-          ∙ ap (λ (c : Cell). Some c) marked
-          ∙ sym (ap (option_map (fill F two slot)) h.there)
-          ∙ (λ i. option_map (fill F two (sym is.0 i)) (map.get S (sym is.0 i)))
+      by r (inl is) = grind (arith, done, new, fill, marked, two, slot)
       by r (inr differ) =
           ap (λ k. cond k (Some done) (option_map (λ (c : Cell). if set.contains h.cell.holders r then with_bytes c new else c) (option_map (fill F bytes r) (map.get S r)))) differ
           ∙ in_group r (map.get S r) refl (set.contains h.cell.holders r) refl

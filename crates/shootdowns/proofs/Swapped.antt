@@ -1,6 +1,6 @@
 -- Accesses of mapped pages, and slots that go or lose a right, in either order.
 use Rattle.shootdowns.proofs.Prelude
-use Prelude.{◌≡◌, ◌≢◌, ℕ, Bool, true, false, cond, List, refl, ap, sym, ◌∙◌, subst, inl, inr, Option, Some, None, unwrap_or, ◌⊎◌, if◌then◌else◌, option_map, same, Set, same_map, same_or_not, same_itself, get-insert, get-map_values, contains-retain, Slot, slot_order, Cell, Spaces, cell_or_fresh, fresh, with_bytes, set_bytes, write_at, stored, accessed, protected, without, get-inserted, fewer, get_gone, bytes_gone}
+use Prelude.{◌≡◌, ◌≢◌, ℕ, Bool, true, false, cond, List, refl, ap, sym, ◌∙◌, subst, inl, inr, Option, Some, None, unwrap_or, ◌⊎◌, if◌then◌else◌, option_map, same, Set, same_map, same_or_not, same_itself, get-insert, get-map_values, contains-retain, Slot, slot_order, Cell, Spaces, cell_or_fresh, fresh, with_bytes, set_bytes, write_at, stored, accessed, protected, without, get-inserted, fewer, get_gone, bytes_gone, arith}
 use Rattle.std.proofs.Common.{not, ◌&&◌}
 use Rattle.page_words.specs.FiniteMap as map
 use Rattle.page_words.specs.FiniteSet as set
@@ -25,13 +25,8 @@ set_gone S gone b y stays = same_map _ _ (λ r.
     by : (r : Slot) → ((r ≡ b) × (same slot_order r b ≡ true)) ⊎ (same slot_order r b ≡ false)
         → option_map (fewer gone) (cond (not (gone r)) (cond (same slot_order r b) (Some y) (map.get S r)) None)
         ≡ cond (same slot_order r b) (Some (fewer gone y)) (option_map (fewer gone) (cond (not (gone r)) (map.get S r) None))
-    by r (inl is) =
-        let here : gone r ≡ false = ap gone is.0 ∙ stays in
-        (λ i. option_map (fewer gone) (cond (not (here i)) (cond (is.1 i) (Some y) (map.get S r)) None))
-        ∙ sym (ap (λ k. cond k (Some (fewer gone y)) (option_map (fewer gone) (cond (not (gone r)) (map.get S r) None))) is.1)
-    by r (inr other) =
-        ap (λ k. option_map (fewer gone) (cond (not (gone r)) (cond k (Some y) (map.get S r)) None)) other
-        ∙ sym (ap (λ k. cond k (Some (fewer gone y)) (option_map (fewer gone) (cond (not (gone r)) (map.get S r) None))) other)
+    by r (inl is) = grind (arith, fewer)
+    by r (inr other) = grind (arith, fewer)
 
 -- a group's bytes, where some of the group are gone
 group_gone : (S : Spaces) (gone : Slot → Bool) (h : Set slot_order) (new : List ℕ)
@@ -51,12 +46,8 @@ group_gone S gone h new = same_map _ _ (λ r.
     by : (r : Slot) (b : Bool) → gone r ≡ b
         → option_map (λ (c : Cell). if set.contains (set.retain h (λ x. not (gone x))) r then with_bytes c new else c) (map.get (without S gone) r)
         ≡ option_map (λ (c : Cell). if set.contains h r then with_bytes c new else c) (map.get (without S gone) r)
-    by r true is =
-        ap (option_map (λ (c : Cell). if set.contains (set.retain h (λ x. not (gone x))) r then with_bytes c new else c)) (none r is)
-        ∙ sym (ap (option_map (λ (c : Cell). if set.contains h r then with_bytes c new else c)) (none r is))
-    by r false is =
-        ap (λ k. option_map (λ (c : Cell). if k then with_bytes c new else c) (map.get (without S gone) r))
-        (contains-retain h (λ x. not (gone x)) r ∙ ap (λ k. set.contains h r && not k) is ∙ inside (set.contains h r))
+    by r true is = grind (arith, none)
+    by r false is = grind (arith, contains-retain, inside)
 
 -- ---- One page
 
@@ -141,10 +132,5 @@ stored_right S a b c d w o ys apart at there = same_map _ _ (λ r.
         → cond (same slot_order r a) (Some (record (grouped c o ys a d) { write = w })) (cond (same slot_order r b) (Some (written c o ys)) (option_map (grouped c o ys r) (map.get S r)))
         ≡ cond (same slot_order r b) (Some (written c o ys)) (option_map (grouped c o ys r) (cond (same slot_order r a) (Some (record d { write = w })) (map.get S r)))
     by r (inl one) (inl two) = absurd (apart (sym one.0 ∙ two.0))
-    by r (inl one) (inr two) =
-        (λ i. cond (one.1 i) (Some (record (grouped c o ys (sym one.0 i) d) { write = w })) (cond (same slot_order r b) (Some (written c o ys)) (option_map (grouped c o ys r) (map.get S r))))
-        ∙ ap (λ (k : Cell). Some k) (pick (set.contains c.holders r))
-        ∙ sym (λ i. cond (two i) (Some (written c o ys)) (option_map (grouped c o ys r) (cond (one.1 i) (Some (record d { write = w })) (map.get S r))))
-    by r (inr one) two =
-        ap (λ q. cond q (Some (record (grouped c o ys a d) { write = w })) (cond (same slot_order r b) (Some (written c o ys)) (option_map (grouped c o ys r) (map.get S r)))) one
-        ∙ sym (ap (λ q. cond (same slot_order r b) (Some (written c o ys)) (option_map (grouped c o ys r) (cond q (Some (record d { write = w })) (map.get S r)))) one)
+    by r (inl one) (inr two) = grind (arith, grouped, written, pick)
+    by r (inr one) two = grind (arith, grouped, written)

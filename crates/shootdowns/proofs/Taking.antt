@@ -1,6 +1,6 @@
 -- Events that only take away: which slots stay, and on which frames.
 use Rattle.shootdowns.proofs.Prelude
-use Prelude.{◌≡◌, ℕ, Bool, true, false, cond, List, [], ◌∷◌, length, refl, ap, sym, ◌∙◌, arith, inl, inr, Option, Some, None, is_some, unwrap_or, ◌<◌, ◌⊎◌, slice_get, slice_get_within, option_map, option_and_then, same, Set, some_value, same_itself, same_map, same_or_not, get-insert, frame_number, is_lazy, frame_bytes, Role, Reserved, Free, Page, directory_at, table_at, page_word, page_frame, own_frame, Slot, slot_order, Cell, Spaces, at_page, cell_or_fresh, fresh, with_bytes, without, protected, is_slot, is_of, FramesStay, LooseStay, way_parts, owned, own_is, from_map, from_then, memory_of, State, View, gone_of_call, gone_by, gives_back, answer, answer_of, after, next, completes, IsCore, Call, Event, get_gone, next-stays, next-goes, tables_map, kept-next, only_takes}
+use Prelude.{◌≡◌, ℕ, Bool, true, false, cond, List, [], ◌∷◌, length, refl, ap, sym, ◌∙◌, arith, inl, inr, Option, Some, None, is_some, unwrap_or, ◌<◌, ◌⊎◌, slice_get, slice_get_within, option_map, option_and_then, same, Set, some_value, same_itself, same_map, same_or_not, get-insert, frame_number, is_lazy, frame_bytes, Free, Page, directory_at, table_at, page_word, page_frame, own_frame, Slot, slot_order, Cell, Spaces, at_page, cell_or_fresh, fresh, with_bytes, without, protected, is_slot, is_of, FramesStay, LooseStay, way_parts, owned, own_is, from_map, from_then, memory_of, State, View, gone_of_call, gone_by, gives_back, answer, answer_of, after, next, completes, IsCore, Call, Event, get_gone, next-stays, next-goes, tables_map, kept-next, only_takes}
 use Rattle.std.specs.FinMap.Entries.{find}
 use Rattle.page_words.specs.FiniteMap as map
 use Rattle.page_words.specs.FiniteSet as set
@@ -117,12 +117,7 @@ by_protect v w before later e state stay page write is = record {
       where
         real : (word : ℕ) → page_word (memory_of w) slot ≡ Some word → (b : Bool) → is_lazy word ≡ b → frame_number word ≡ f → is_lazy word ≡ false
         real word at false k same = k
-        real word at true k same = absurd (
-            let zero = lazy_zero w later slot word at k in
-            let within = slice_get_within v.roles f (Page c) role in
-            let none : f ≡ 0 = sym same ∙ zero in
-            let k : ◌≡◌ {A = Option Role} (Some Reserved) (Some (Page c)) = sym ((before.image.memory.sound.reserved f within).1 none) ∙ role in
-            cc)
+        real word at true k same = grind (arith, lazy_zero, slice_get_within)
 
 pub pages_stand : (v w : View) → IsCore v → IsCore w → (e : Event) → w.state ≡ next v.state e → FramesStay (gone_by v.state e) (memory_of v) (memory_of w)
     → (gives_back e.call ≡ true → LooseStay (memory_of v) (memory_of w)) → only_takes e.call ≡ true → PagesStand v w
@@ -181,9 +176,7 @@ module _ (v w : View) (before : IsCore v) (later : IsCore w) (e : Event) (takes 
   bytes_stay slot word is = by (is_lazy word) refl
     where
       by : (b : Bool) → is_lazy word ≡ b → frame_bytes v.bytes (frame_number word) ≡ frame_bytes w.bytes (frame_number word)
-      by true lazy =
-          let zero = lazy_zero v before slot word is lazy in
-          ap (frame_bytes v.bytes) zero ∙ before.image.memory.sound.zero_frame ∙ sym later.image.memory.sound.zero_frame ∙ ap (frame_bytes w.bytes) (sym zero)
+      by true lazy = grind (arith, lazy_zero)
       by false real =
           let role = before.image.memory.sound.pages slot (frame_number word) (ap (option_and_then (own_frame 2)) is ∙ own_is word real) in
           sym (pages.each (frame_number word) role.0 role.1).0

@@ -50,11 +50,7 @@ leads_on v core p d page c live there low =
     let size = core.image.memory.sound.size in
     let few = core.sized.few in
     let number : frame_number (word_at v.bytes (word_place d slot)) ≡ t.0 = ap frame_number same ∙ names.1 in
-    record {
-      inside = omega (arith, frame, size, low);
-      present = ap is_present same ∙ names.0;
-      small = omega (arith, table, few, number);
-    }
+    grind arith
 
 -- it is another once accessed is cleared and set
 set_again : (bytes : List ℕ) (d page : ℕ) → word_place d (slot_number page) + 4 ≤ length bytes
