@@ -1,6 +1,6 @@
 -- Two slots of one group lead to one frame.
 use Rattle.kernel_acts.proofs.Prelude
-use Prelude.{◌≡◌, ◌<◌, ◌≤◌, ◌+◌, ◌*◌, ◌^◌, ℕ, [], length, Err, inl, inr, arith, Bool, true, false, not, ◌&&◌, ◌==◌, refl, sym, ap, subst, ◌∙◌, is_some, Option, Some, None, unwrap_or, Ok, ◌↔◌, IsTrue, MatchBool, ◌⊎◌, option_map, option_and_then, cases_lt, page_number, start_number, IsUserPage, frame_bytes, frame_past, walk_of, Read, is_lazy_at, directory_at, page_word, page_frame, CellStands, Slot, slot_order, Cell, cell_or_fresh, is_slot, at_page, slot_at, way_of, IsCore, WalkEndsBy, way_parts, owned, own_is, memory_of, State, is_mapped, View, IsWellFormed, same_itself, shares, is_beside, eqb-true, eq-eqb, walks_of, ways_of, way_mapped}
+use Prelude.{◌≡◌, ◌<◌, ◌≤◌, ◌+◌, ◌*◌, ◌^◌, ℕ, [], length, Err, inl, inr, arith, Bool, true, false, not, ◌&&◌, ◌==◌, refl, sym, ap, subst, ◌∙◌, is_some, Option, Some, None, unwrap_or, Ok, ◌↔◌, IsTrue, MatchBool, ◌⊎◌, option_map, option_and_then, cases_lt, page_number, start_number, IsUserPage, frame_bytes, frame_past, walk_of, Read, is_lazy_at, directory_at, page_word, page_frame, CellStands, Slot, slot_order, Cell, is_slot, at_page, slot_at, way_of, IsCore, WalkEndsBy, way_parts, owned, own_is, memory_of, State, is_mapped, View, IsWellFormed, same_itself, shares, Leads, is_beside, eqb-true, eq-eqb, walks_of, ways_of, way_mapped}
 use Rattle.table_walk.specs.declared.WalkEnd.{WalkEnd}
 use Rattle.page_words.specs.FiniteMap as map
 use Rattle.page_words.specs.FiniteSet as set
@@ -96,26 +96,13 @@ module _ (v : View) (core : IsCore v) where
   -- ---- By the walk of a page
 
   -- the walk of a page finds the frame to which the page leads
-  pub page_way : (p page d f a : ℕ) → IsUserPage page → a ≡ start_number page → directory_at (memory_of v) p ≡ Some d
-      → walk_of v.bytes d a Read ≡ Ok f → way_of (memory_of v) (at_page p page) ≡ Some (d, f)
-  page_way p page d f a user is live walk =
-      let below = user.1 in
-      let small : a < 2 ^ 32 = omega (arith, is, below) in
-      let same : page_number a ≡ page = omega (arith, is) in
-      sym (ap (λ n. way_of (memory_of v) (at_page p n)) same) ∙ (ways_of core).lead p d a f Read live small walk
-
-  -- the page is mapped then, and the frame lies in memory and has its bytes
-  pub record Leads (p page f : ℕ) : Type 0 where
-    pub mapped : is_mapped v.state (at_page p page) ≡ true
-    pub inside : 4096 * f + 4096 ≤ length v.bytes
-    pub bytes : frame_bytes v.bytes f ≡ (cell_or_fresh v.state.spaces (at_page p page)).bytes
-
   pub page_leads : (p page d f a : ℕ) → IsUserPage page → a ≡ start_number page → directory_at (memory_of v) p ≡ Some d
-      → walk_of v.bytes d a Read ≡ Ok f → Leads p page f
+      → walk_of v.bytes d a Read ≡ Ok f → Leads v p page f
   page_leads p page d f a user is live walk =
       let below = user.1 in
       let small : a < 2 ^ 32 = omega (arith, is, below) in
       by (map.get v.state.spaces (slot_at p a)) (ap (λ n. map.get v.state.spaces (at_page p n)) same) (walks_of core p d a Read live small)
+      (d, sym (ap (λ n. way_of (memory_of v) (at_page p n)) same) ∙ (ways_of core).lead p d a f Read live small walk)
     where
       same : page_number a ≡ page
       same = omega (arith, is)
@@ -129,8 +116,9 @@ module _ (v : View) (core : IsCore v) where
           let zero : ◌≡◌ {A = ℕ} 0 (length c.bytes) = ap length (sym none ∙ bytes) in
           omega (arith, long, zero))
 
-      by : (x : Option Cell) → x ≡ map.get v.state.spaces (at_page p page) → WalkEndsBy v.bytes d a Read (is_lazy_at (memory_of v) (slot_at p a)) x → Leads p page f
-      by x e h = grind (arith, same, held, cases_lt)
+      by : (x : Option Cell) → x ≡ map.get v.state.spaces (at_page p page) → WalkEndsBy v.bytes d a Read (is_lazy_at (memory_of v) (slot_at p a)) x
+          → (e : ℕ) × (way_of (memory_of v) (at_page p page) ≡ Some (e, f)) → Leads v p page f
+      by x e h way = grind (arith, same, held, cases_lt)
 
   -- and where it finds none, the page is not mapped
   pub page_bare : (p page d a : ℕ) (e : WalkEnd) → IsUserPage page → a ≡ start_number page → directory_at (memory_of v) p ≡ Some d

@@ -58,8 +58,8 @@ pub use Rattle.table_walk.specs.declared.Access.TheVariants.{Read, Write}
 pub use Rattle.kernel_acts.specs.Acts.{ChildrenFirst, Descends, EndsFamily, all_done, child, exit_of, exits, is_among, itself, spaces_of_all, ungrouped, without_processes}
 pub use Rattle.kernel_acts.specs.Installed.{Installs, IsNotOpened, IsOpened, IsRunTo, closed, installed, is_writable_at, map_of, opening, protect_of, store_run}
 pub use Rattle.kernel_acts.specs.Loaded.{IsLastThere, Loads, load_refusal, may_at, no_page, page_more, pages_under}
-pub use Rattle.kernel_acts.specs.TakenBack.{TakesBack, Taking, Unmapped, is_beside, is_held, unmap_of, without_slots}
-pub use Rattle.kernel_acts.specs.Transfers.{AreLoaded, AreStored, carried, load_byte, loads, of_lazy_pages, stop_of, store_byte, stores, value_in, values}
+pub use Rattle.kernel_acts.specs.TakenBack.{Leads, TakesBack, Taking, Unmapped, is_beside, is_held, unmap_of, without_slots}
+pub use Rattle.kernel_acts.specs.Transfers.{AreLoaded, AreStored, Reads, Writes, carried, load_byte, loads, of_lazy_pages, stop_of, store_byte, stores, value_in, values}
 pub use Rattle.kernel_acts.specs.declared.taking.Holder.{Holder}
 pub use Rattle.kernel_acts.specs.declared.transfers.Transfer.{Transfer}
 pub use Rattle.std.specs.Cmp.{nat_cmp_total, unsigned_tied}

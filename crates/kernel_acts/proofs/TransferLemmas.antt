@@ -1,6 +1,6 @@
 -- Runs that stop at the first event that is refused or faults, and transfers one behind another.
 use Rattle.kernel_acts.proofs.Prelude
-use Prelude.{◌≡◌, ℕ, zero, suc, ◌+◌, ◌<◌, Bool, true, false, List, [], ◌∷◌, ◌++◌, length, take, drop, refl, ap, sym, ◌∙◌, subst, arith, ◌-◌, ◌≤◌, Option, Some, None, length-drop, append_assoc, length-append, append-nil, take-append-drop, length-take-le, take_at, drop_at, drop-drop, if◌then◌else◌, slice_index, State, answer, answers, next, end_of, completes, load_byte, store_byte, loads, stores, carried, stop_of, value_in, values, AreLoaded, AreStored, Event, Reply, put_mid, answers-append, end_of-append}
+use Prelude.{◌≡◌, ℕ, zero, suc, ◌+◌, ◌<◌, Bool, true, false, List, [], ◌∷◌, ◌++◌, length, take, drop, refl, ap, sym, ◌∙◌, subst, arith, ◌-◌, ◌≤◌, Option, Some, None, length-drop, append_assoc, length-append, append-nil, take-append-drop, length-take-le, take_at, drop_at, drop-drop, if◌then◌else◌, slice_index, State, answer, next, end_of, completes, load_byte, store_byte, loads, stores, carried, stop_of, value_in, values, AreLoaded, AreStored, Reads, Writes, Event, Reply, put_mid, answers-append, end_of-append}
 use Rattle.kernel_calls.specs.declared.calls.Reply.TheVariants as reply
 
 -- ---- A run of which all is carried out, and then more
@@ -93,32 +93,19 @@ stored-then s t u p a xs ys first rest = grind (arith, stores-append, carried-ap
 
 -- ---- What a transfer tells at its end
 
--- of loads
-pub record Read (s : State) (p a : ℕ) (old new : List ℕ) (n : ℕ) (told : Option Reply) (later : State) : Type 0 where
-  pub count : n ≡ length (carried s (loads p a (length old)))
-  pub stop : told ≡ stop_of s (loads p a (length old))
-  pub bytes : new ≡ values (answers s (carried s (loads p a (length old)))) ++ drop n old
-  pub state : later ≡ end_of s (carried s (loads p a (length old)))
-
--- of stores
-pub record Written (s : State) (p a : ℕ) (bytes : List ℕ) (n : ℕ) (told : Option Reply) (later : State) : Type 0 where
-  pub count : n ≡ length (carried s (stores p a bytes))
-  pub stop : told ≡ stop_of s (stores p a bytes)
-  pub state : later ≡ end_of s (carried s (stores p a bytes))
-
 -- so many of some loads are carried out, and this stops the rest
 read_by : (s t : State) (p a done : ℕ) (old new : List ℕ) (stop : Option Reply) → AreLoaded s p a done (take done new) t → drop done new ≡ drop done old → take done new ++ drop done new ≡ new
-    → carried s (loads p a (length old)) ≡ loads p a done → stop ≡ stop_of s (loads p a (length old)) → Read s p a old new done stop t
+    → carried s (loads p a (length old)) ≡ loads p a done → stop ≡ stop_of s (loads p a (length old)) → Reads s p a old new (record { count = done; stop = stop }) t
 read_by s t p a done old new stop loaded rest whole here stops = grind (arith, length-loads)
 
-pub read_whole : (s t : State) (p a done : ℕ) (old new : List ℕ) → AreLoaded s p a done (take done new) t → drop done new ≡ drop done old → done ≡ length old → Read s p a old new done None t
+pub read_whole : (s t : State) (p a done : ℕ) (old new : List ℕ) → AreLoaded s p a done (take done new) t → drop done new ≡ drop done old → done ≡ length old → Reads s p a old new (record { count = done; stop = None }) t
 read_whole s t p a done old new loaded rest is =
     read_by s t p a done old new None loaded rest (take-append-drop done new)
     (ap (λ n. carried s (loads p a n)) (sym is) ∙ loaded.all)
     (sym (ap (λ n. stop_of s (loads p a n)) (sym is) ∙ stop_of-none s (loads p a done) loaded.all))
 
 pub read_stopped : (s t : State) (p a done : ℕ) (old new : List ℕ) (r : Reply) → AreLoaded s p a done (take done new) t → drop done new ≡ drop done old → done < length old
-    → r ≡ answer t (load_byte p (a + done)) → completes r ≡ false → Read s p a old new done (Some r) t
+    → r ≡ answer t (load_byte p (a + done)) → completes r ≡ false → Reads s p a old new (record { count = done; stop = Some r }) t
 read_stopped s t p a done old new r loaded rest less told stops =
     let m : ℕ = length old - suc done in
     let e : Event = load_byte p (a + done) in
@@ -135,7 +122,7 @@ take_all : (xs : List ℕ) → take (length xs) xs ≡ xs
 take_all [] = refl
 take_all (x ∷ xs) = ap (λ ys. x ∷ ys) (take_all xs)
 
-pub written_whole : (s t : State) (p a done : ℕ) (bytes : List ℕ) → AreStored s p a (take done bytes) t → done ≡ length bytes → Written s p a bytes done None t
+pub written_whole : (s t : State) (p a done : ℕ) (bytes : List ℕ) → AreStored s p a (take done bytes) t → done ≡ length bytes → Writes s p a bytes (record { count = done; stop = None }) t
 written_whole s t p a done bytes stored is =
     let whole : take done bytes ≡ bytes = ap (λ n. take n bytes) is ∙ take_all bytes in
     let w : AreStored s p a bytes t = subst (λ (xs : List ℕ). AreStored s p a xs t) whole stored in
@@ -159,7 +146,7 @@ left_of bytes done (suc n) less some = by (drop done bytes) refl
     by (x ∷ xs) is = record { more = xs; is = is ∙ ap (λ ys. slice_index (take (suc n) ys) 0 ∷ xs) (sym is) }
 
 pub written_stopped : (s t : State) (p a done count : ℕ) (bytes : List ℕ) (r : Reply) → AreStored s p a (take done bytes) t → done < length bytes → 0 < count
-    → r ≡ answer t (store_byte p (a + done) (slice_index (take count (drop done bytes)) 0)) → completes r ≡ false → Written s p a bytes done (Some r) t
+    → r ≡ answer t (store_byte p (a + done) (slice_index (take count (drop done bytes)) 0)) → completes r ≡ false → Writes s p a bytes (record { count = done; stop = Some r }) t
 written_stopped s t p a done count bytes r stored less some told stops =
     let b : ℕ = slice_index (take count (drop done bytes)) 0 in
     let l = left_of bytes done count less some in

@@ -1,20 +1,13 @@
 -- What the kernel does for its processes: runs of their own events.
 use Rattle.std.proofs.Common.{◌≡◌, ℕ, ◌+◌, Bool, true, false, not, ◌||◌, ◌==◌, List, [], ◌∷◌, map, filter, Some}
 use Rattle.std.specs.Prelude.{◌↔◌}
-use Rattle.std.specs.List.{list_any, range_with_len}
-use Rattle.std.specs.Option.{option_map}
+use Rattle.kernel_acts.specs.Words.{Cell, Ended, Event, Member, Reply, Slot, State, answers, end_of, given, is_live}
+use Rattle.kernel_acts.specs.Words.{list_any, option_map, range_with_len, with_holders, without}
 use Rattle.page_words.specs.FiniteMap as map
 use Rattle.page_words.specs.FiniteSet as set
-use Rattle.address_space.specs.Spaces.{Slot, Cell, without, with_holders}
-use Rattle.quota_tree.specs.Book.{Member, given}
-use Rattle.process_table.specs.State.{State, is_live}
 use Rattle.kernel_calls.specs.Integrity.{is_child_of}
-use Rattle.kernel_calls.specs.Machine.{answers, end_of}
 use Rattle.kernel_calls.specs.declared.calls.Call.TheVariants as call
-use Rattle.kernel_calls.specs.declared.calls.Event.{Event}
-use Rattle.kernel_calls.specs.declared.calls.Reply.{Reply}
 use Rattle.kernel_calls.specs.declared.calls.Reply.TheVariants as reply
-use Rattle.kernel_calls.specs.declared.translations.Ended.{Ended}
 use Rattle.kernel_calls.specs.declared.translations.Ended.TheVariants as end
 
 -- as many replies Done as there are events

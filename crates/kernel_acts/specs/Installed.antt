@@ -1,19 +1,10 @@
 -- Bytes that the kernel puts into one page of a process, whatever right the process has there.
 use Rattle.std.proofs.Common.{◌≡◌, ℕ, Bool, true, false, if◌then◌else◌, List, [], ◌∷◌, ◌++◌, unwrap_or}
-use Rattle.std.specs.Option.{option_map}
-use Rattle.page_words.specs.Addresses.{page_number}
+use Rattle.kernel_acts.specs.Words.{Cell, Event, Reply, Slot, State, View, after_protect, after_stores, answer, at_page}
+use Rattle.kernel_acts.specs.Words.{completes, end_of, ended_by, is_mapped, next, option_map, page_number}
 use Rattle.page_words.specs.FiniteMap as map
-use Rattle.address_space.specs.Spaces.{Slot, Cell, at_page}
-use Rattle.process_table.specs.Calls.{after_protect}
-use Rattle.process_table.specs.Parts.{after_stores}
-use Rattle.process_table.specs.State.{State, is_mapped}
-use Rattle.process_table.specs.View.{View}
-use Rattle.kernel_calls.specs.Machine.{answer, next, end_of, completes}
 use Rattle.kernel_acts.specs.Transfers.{stores, carried}
 use Rattle.kernel_calls.specs.declared.calls.Call.TheVariants as call
-use Rattle.kernel_calls.specs.declared.calls.Event.{Event}
-use Rattle.kernel_calls.specs.Translations.{ended_by}
-use Rattle.kernel_calls.specs.declared.calls.Reply.{Reply}
 use Rattle.kernel_calls.specs.declared.translations.Ended.TheVariants as end
 
 -- the Map and the Protect of a page

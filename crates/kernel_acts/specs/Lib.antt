@@ -5,3 +5,4 @@ pub mod Steps
 pub mod TakenBack
 pub mod Touched
 pub mod Transfers
+pub mod Words

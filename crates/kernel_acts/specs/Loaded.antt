@@ -1,15 +1,10 @@
 -- Bytes that the kernel puts into the pages of a process in which they lie: all of them, or none.
 use Rattle.std.proofs.Common.{◌≡◌, ℕ, zero, suc, ◌+◌, ◌-◌, ◌<◌, ◌≤◌, Bool, false, not, if◌then◌else◌, length, List, [], ◌++◌, Option, Some, None}
-use Rattle.std.specs.List.{list_all, range_with_len}
-use Rattle.page_words.specs.Addresses.{page_number, offset_number, is_user_page}
-use Rattle.address_space.specs.Spaces.{cell_or_fresh, at_page, slot_at}
-use Rattle.process_table.specs.State.{State, is_live, overdrawn}
-use Rattle.process_table.specs.View.{View}
-use Rattle.process_table.specs.declared.causes.Cause.{Cause}
+use Rattle.kernel_acts.specs.Words.{Cause, EndsMarks, IsCore, State, View, at_page, cell_or_fresh, is_live}
+use Rattle.kernel_acts.specs.Words.{is_user_page, list_all, offset_number, overdrawn, page_number, range_with_len}
+use Rattle.kernel_acts.specs.Words.{slot_at}
 use Rattle.process_table.specs.declared.causes.Cause.TheVariants as cause
 use Rattle.kernel_calls.specs.Integrity.{shares}
-use Rattle.kernel_calls.specs.Cleaned.{EndsMarks}
-use Rattle.kernel_calls.specs.Processors.{IsCore}
 use Rattle.kernel_acts.specs.Installed.{installed, Installs}
 use Rattle.kernel_calls.specs.declared.translations.Ended.TheVariants as end
 

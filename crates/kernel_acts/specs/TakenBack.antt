@@ -1,21 +1,21 @@
 -- The other slots of a slot's group, and their Unmaps.
-use Rattle.std.proofs.Common.{◌≡◌, Bool, true, not, ◌&&◌, List, map}
-use Rattle.std.specs.List.{All, list_any}
-use Rattle.std.specs.Option.{option_map}
+use Rattle.std.proofs.Common.{◌≡◌, ℕ, ◌+◌, ◌*◌, ◌≤◌, Bool, true, not, ◌&&◌, List, map, length, Some}
+use Rattle.kernel_acts.specs.Words.{All, CarriesOut, EndAlong, Ended, Event, Slot, State, View, answers, at_page}
+use Rattle.kernel_acts.specs.Words.{cell_or_fresh, end_of, ended_by, frame_bytes, is_mapped, is_slot, list_any}
+use Rattle.kernel_acts.specs.Words.{memory_of, option_map, way_of, without}
 use Rattle.page_words.specs.FiniteMap as map
-use Rattle.address_space.specs.Spaces.{Slot, without, is_slot, at_page}
-use Rattle.process_table.specs.State.{State}
-use Rattle.process_table.specs.View.{View}
 use Rattle.kernel_acts.specs.Acts.{all_done, ungrouped}
 use Rattle.kernel_calls.specs.Integrity.{shares}
-use Rattle.kernel_calls.specs.Machine.{answers, end_of}
-use Rattle.kernel_calls.specs.Along.{CarriesOut, EndAlong}
-use Rattle.kernel_calls.specs.Translations.{ended_by}
 use Rattle.kernel_calls.specs.declared.calls.Call.TheVariants as call
-use Rattle.kernel_calls.specs.declared.calls.Event.{Event}
 use Rattle.kernel_acts.specs.declared.taking.Holder.{Holder}
-use Rattle.kernel_calls.specs.declared.translations.Ended.{Ended}
 use Rattle.kernel_calls.specs.declared.translations.Ended.TheVariants as end
+
+-- a page leads to a frame: it is mapped, and the frame lies in memory and has its bytes
+pub record Leads (v : View) (p page frame : ℕ) : Type 0 where
+  pub way : (directory : ℕ) × (way_of (memory_of v) (at_page p page) ≡ Some (directory, frame))
+  pub mapped : is_mapped v.state (at_page p page) ≡ true
+  pub inside : 4096 * frame + 4096 ≤ length v.bytes
+  pub bytes : frame_bytes v.bytes frame ≡ (cell_or_fresh v.state.spaces (at_page p page)).bytes
 
 -- the Unmap of a slot
 abbrev pub unmap_of : Holder → Event

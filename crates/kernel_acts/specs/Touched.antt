@@ -1,23 +1,10 @@
 -- A processor's page fault as an event: the access of the byte at its address, which changes no byte.
 use Rattle.std.proofs.Common.{◌≡◌, ℕ, true, false, if◌then◌else◌}
 use Rattle.std.specs.Prelude.{nat_lt}
-use Rattle.table_walk.specs.declared.Access.{Access}
+use Rattle.kernel_acts.specs.Words.{Access, Ended, Ends, Event, FramesStay, IsUserPage, Reply, Slot, Spaces, State}
+use Rattle.kernel_acts.specs.Words.{View, answer, byte_at, cell_or_fresh, completes, ended_by, finds_at, gone_by}
+use Rattle.kernel_acts.specs.Words.{is_write, memory_of, next, page_number, slot_at, takes_stores}
 use Rattle.table_walk.specs.declared.Access.TheVariants.{Read, Write}
-use Rattle.table_walk.specs.Walk.{is_write}
-use Rattle.page_words.specs.Addresses.{IsUserPage, page_number}
-use Rattle.address_space.specs.ByWalk.{finds_at}
-use Rattle.address_space.specs.Image.{takes_stores}
-use Rattle.address_space.specs.Spaces.{Slot, Spaces, cell_or_fresh, byte_at, slot_at}
-use Rattle.address_space.specs.Stays.{FramesStay}
-use Rattle.process_table.specs.Image.{memory_of}
-use Rattle.process_table.specs.State.{State}
-use Rattle.process_table.specs.View.{View}
-use Rattle.kernel_calls.specs.Gone.{gone_by}
-use Rattle.kernel_calls.specs.Machine.{answer, next, completes}
-use Rattle.kernel_calls.specs.Translations.{ended_by, Ends}
-use Rattle.kernel_calls.specs.declared.calls.Event.{Event}
-use Rattle.kernel_calls.specs.declared.calls.Reply.{Reply}
-use Rattle.kernel_calls.specs.declared.translations.Ended.{Ended}
 use Rattle.kernel_acts.specs.Transfers.{load_byte, store_byte}
 
 -- an address of 32 bits, and the highest one in place of any above: it is outside the user range

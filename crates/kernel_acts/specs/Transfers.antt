@@ -1,15 +1,11 @@
 -- A process's memory in and out: the accesses of one byte each that it represents, up to the first that stops.
-use Rattle.std.proofs.Common.{◌≡◌, ℕ, zero, suc, ◌+◌, ◌-◌, if◌then◌else◌, ◌&&◌, ◌==◌, List, [], ◌∷◌, map, Option, Some, None}
+use Rattle.std.proofs.Common.{◌≡◌, ℕ, zero, suc, ◌+◌, ◌-◌, if◌then◌else◌, ◌&&◌, ◌==◌, List, [], ◌∷◌, ◌++◌, length, drop, map, Option, Some, None}
 use Rattle.std.specs.Prelude.{nat_le}
-use Rattle.page_words.specs.Addresses.{page_number}
+use Rattle.kernel_acts.specs.Words.{Event, Gone, Reply, State, answer, answers, completes, end_of, is_of, next}
+use Rattle.kernel_acts.specs.Words.{page_number}
 use Rattle.page_words.specs.declared.addresses.Size.TheVariants.{One}
-use Rattle.address_space.specs.Spaces.{is_of}
-use Rattle.address_space.specs.Stays.{Gone}
-use Rattle.process_table.specs.State.{State}
-use Rattle.kernel_calls.specs.Machine.{answer, answers, next, end_of, completes}
+use Rattle.kernel_acts.specs.declared.transfers.Transfer.{Transfer}
 use Rattle.kernel_calls.specs.declared.calls.Call.TheVariants as call
-use Rattle.kernel_calls.specs.declared.calls.Event.{Event}
-use Rattle.kernel_calls.specs.declared.calls.Reply.{Reply}
 use Rattle.kernel_calls.specs.declared.calls.Reply.TheVariants as reply
 
 -- ---- The accesses
@@ -70,3 +66,18 @@ pub record AreLoaded (s : State) (p address count : ℕ) (bytes : List ℕ) (lat
 pub record AreStored (s : State) (p address : ℕ) (bytes : List ℕ) (later : State) : Type 0 where
   pub all : carried s (stores p address bytes) ≡ stores p address bytes
   pub after : end_of s (stores p address bytes) ≡ later
+
+-- ---- Transfers up to the access that stops them
+
+-- bytes were loaded over these, from an address on, which led to this state
+pub record Reads (s : State) (p address : ℕ) (old new : List ℕ) (made : Transfer) (later : State) : Type 0 where
+  pub count : made.count ≡ length (carried s (loads p address (length old)))
+  pub stop : made.stop ≡ stop_of s (loads p address (length old))
+  pub bytes : new ≡ values (answers s (carried s (loads p address (length old)))) ++ drop made.count old
+  pub state : later ≡ end_of s (carried s (loads p address (length old)))
+
+-- these bytes were stored from an address on, which led to this state
+pub record Writes (s : State) (p address : ℕ) (bytes : List ℕ) (made : Transfer) (later : State) : Type 0 where
+  pub count : made.count ≡ length (carried s (stores p address bytes))
+  pub stop : made.stop ≡ stop_of s (stores p address bytes)
+  pub state : later ≡ end_of s (carried s (stores p address bytes))

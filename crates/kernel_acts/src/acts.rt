@@ -1,18 +1,14 @@
 //! What the kernel does for its processes: runs of their own events, as a kernel needs them that ends or reclaims what
 //! others have.
 
-ghost use Rattle.std.specs.Prelude.{◌≡◌, ◌≢◌, ◌↔◌, ℕ, ◌+◌, ◌<◌, ◌≤◌, ◌++◌, ◌∷◌, [], if◌then◌else◌, true, false, Ok, Err, IfSome, IfNone, IsOk, IfOk, IsErr, take, drop};
-ghost use Rattle.process_table.specs.Image.{StandsFor, image_of};
-ghost use Rattle.process_table.specs.State.{is_live};
+ghost use Rattle.std.specs.Prelude.{◌≡◌, ◌≢◌, ℕ, ◌+◌, ◌<◌, ◌≤◌, ◌++◌, ◌∷◌, [], if◌then◌else◌, true, false, Err, IfSome, IfNone, IsOk, IfOk, IsErr, take, drop};
+ghost use Rattle.kernel_acts.specs.Words.{CarriesOut, EndAlong, Member, StandsFor, answer, ended_by, image_of, is_live};
+ghost use Rattle.kernel_acts.specs.Words.{next};
 ghost use Rattle.kernel_acts.specs.Acts.{children_in, exit_of, exits, spaces_of_all, Descends, EndsFamily};
 ghost use Rattle.kernel_calls.specs.Integrity.{is_child_of};
-ghost use Rattle.kernel_calls.specs.Machine.{answer, next};
-ghost use Rattle.kernel_calls.specs.Along.{CarriesOut, EndAlong};
-ghost use Rattle.kernel_calls.specs.Translations.{ended_by};
 ghost use Rattle.kernel_calls.specs.declared.calls.Reply.TheVariants as reply;
 ghost use Rattle.kernel_calls.specs.declared.translations.Ended.TheVariants as end;
 ghost use Rattle.page_words.specs.FiniteMap as map;
-ghost use Rattle.quota_tree.specs.Book.{Member};
 
 use crate::steps::step;
 use kernel_calls::{Call, Core};

@@ -1,14 +1,9 @@
 //! Putting bytes into the pages of a process in which they lie: all of them, or none.
 
 ghost use Rattle.std.specs.Prelude.{◌≡◌, ℕ, ◌+◌, ◌-◌, ◌∷◌, ◌<◌, ◌≤◌, ◌==◌, ◌&&◌, not, if◌then◌else◌, true, None, [], IsOk, IsErr, length, slice_index};
-ghost use Rattle.std.specs.List.{list_all};
-ghost use Rattle.page_words.specs.Addresses.{page_number, slot_number, offset_number, is_user_page, IsUserPage};
-ghost use Rattle.address_space.specs.Spaces.{need, at_page, slot_at, byte_at};
-ghost use Rattle.process_table.specs.Image.{StandsFor, image_of};
-ghost use Rattle.process_table.specs.State.{is_mapped, extra_cost};
-ghost use Rattle.process_table.specs.TestAnswers.{done_unless};
-ghost use Rattle.kernel_calls.specs.Cleaned.{EndsMarks};
-ghost use Rattle.kernel_calls.specs.Processors.{IsCore};
+ghost use Rattle.kernel_acts.specs.Words.{EndsMarks, IsCore, IsUserPage, StandsFor, at_page, byte_at, done_unless};
+ghost use Rattle.kernel_acts.specs.Words.{extra_cost, image_of, is_mapped, is_user_page, list_all, need, offset_number};
+ghost use Rattle.kernel_acts.specs.Words.{page_number, slot_at, slot_number};
 ghost use Rattle.kernel_acts.specs.Installed.{is_writable_at, installed, Installs};
 ghost use Rattle.kernel_acts.specs.Loaded.{pages_under, may_at, load_refusal, Loads, IsLastThere};
 ghost use Rattle.kernel_calls.specs.declared.translations.Ended.TheVariants as end;

@@ -1,12 +1,8 @@
 //! Looking at a process's pages without a call: nothing is mapped, marked or charged.
 
 ghost use Rattle.std.specs.Prelude.{◌≡◌, ℕ, ◌+◌, ◌*◌, ◌++◌, ◌<◌, ◌≤◌, true, false, IfSome, IfNone, length, map, drop};
-ghost use Rattle.std.specs.List.{range_with_len};
-ghost use Rattle.page_words.specs.Addresses.{page_number, offset_number, IsUserPage};
-ghost use Rattle.phys_memory.specs.Bytes.{frame_bytes};
-ghost use Rattle.address_space.specs.Spaces.{at_page, slot_at, byte_at, bytes_at};
-ghost use Rattle.process_table.specs.State.{is_mapped};
-ghost use Rattle.kernel_calls.specs.Cleaned.{is_dirty_at};
+ghost use Rattle.kernel_acts.specs.Words.{IsUserPage, at_page, byte_at, bytes_at, frame_bytes, is_dirty_at, is_mapped};
+ghost use Rattle.kernel_acts.specs.Words.{offset_number, page_number, range_with_len, slot_at};
 
 use crate::taking::frame_at;
 use crate::transfers::count_in_page;

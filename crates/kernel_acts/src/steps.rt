@@ -1,13 +1,9 @@
 //! A step of the core: what all runs of this crate are made of.
 
 ghost use Rattle.std.specs.Prelude.{◌≡◌, false};
-ghost use Rattle.address_space.specs.Stays.{FramesStay};
-ghost use Rattle.process_table.specs.Image.{memory_of};
+ghost use Rattle.kernel_acts.specs.Words.{CarriesOut, Ends, FramesStay, answer, completes, ended_by, gone_by};
+ghost use Rattle.kernel_acts.specs.Words.{memory_of, next};
 ghost use Rattle.kernel_acts.specs.Steps.{event_of};
-ghost use Rattle.kernel_calls.specs.Along.{CarriesOut};
-ghost use Rattle.kernel_calls.specs.Gone.{gone_by};
-ghost use Rattle.kernel_calls.specs.Machine.{answer, next, completes};
-ghost use Rattle.kernel_calls.specs.Translations.{ended_by, Ends};
 
 use kernel_calls::{Call, Core, Event, Reply};
 use page_words::Pid;

@@ -1,18 +1,10 @@
 //! Who else has a page, and taking it back: the Unmaps of all other slots of its group.
 
-ghost use Rattle.std.specs.Prelude.{◌≡◌, ℕ, ◌+◌, ◌*◌, ◌<◌, ◌≤◌, ◌==◌, ◌&&◌, not, true, false, Some, Ok, Err, IsOk, IfSome, IfNone, IfOk, IfErr, IsErr, length, take, drop};
-ghost use Rattle.page_words.specs.Addresses.{IsUserPage};
-ghost use Rattle.phys_memory.specs.Bytes.{frame_bytes};
-ghost use Rattle.address_space.specs.Spaces.{Slot, cell_or_fresh, is_slot, at_page};
-ghost use Rattle.address_space.specs.Stays.{way_of};
-ghost use Rattle.process_table.specs.Image.{StandsFor, image_of, memory_of};
-ghost use Rattle.process_table.specs.State.{is_mapped};
-ghost use Rattle.process_table.specs.View.{View};
+ghost use Rattle.std.specs.Prelude.{◌≡◌, ℕ, ◌<◌, ◌≤◌, ◌==◌, ◌&&◌, not, true, false, IsOk, IfSome, IfNone, IfOk, IfErr, IsErr, length, take, drop};
+ghost use Rattle.kernel_acts.specs.Words.{EndAlong, IsUserPage, Slot, StandsFor, View, answer, at_page, completes};
+ghost use Rattle.kernel_acts.specs.Words.{image_of, info_of_page, is_mapped, is_slot};
 ghost use Rattle.kernel_calls.specs.Effects.{IsAlone};
-ghost use Rattle.kernel_calls.specs.Machine.{answer, next, completes};
-ghost use Rattle.kernel_calls.specs.Cleaned.{info_of_page};
-ghost use Rattle.kernel_acts.specs.TakenBack.{unmaps, pages_of_all, is_beside, TakesBack, Taking, Unmapped};
-ghost use Rattle.kernel_calls.specs.Along.{EndAlong};
+ghost use Rattle.kernel_acts.specs.TakenBack.{Leads, unmaps, pages_of_all, is_beside, TakesBack, Taking, Unmapped};
 ghost use Rattle.kernel_calls.specs.declared.calls.Reply.TheVariants as reply;
 ghost use Rattle.kernel_calls.specs.declared.translations.Ended.TheVariants as end;
 
@@ -47,12 +39,7 @@ pub(crate) fn are_one(frame: Frame, other: Frame) -> bool
 /// The frame to which a page of a process leads, frame 0 where it is lazy; None where it is not mapped.
 pub(crate) fn frame_at(core: &Core, pid: Pid, page: Page) -> Option<Frame>
     requires user { IsUserPage page }
-    ensures way { IfSome result (λ frame. (directory : ℕ)
-        × (way_of (memory_of core.now) (at_page pid page) ≡ Some (directory, frame))) }
-    ensures mapped { IfSome result (λ _. is_mapped core.now.state (at_page pid page) ≡ true) }
-    ensures inside { IfSome result (λ frame. 4096 * frame + 4096 ≤ length core.now.bytes) }
-    ensures bytes { IfSome result (λ frame. frame_bytes core.now.bytes frame
-        ≡ (cell_or_fresh core.now.state.spaces (at_page pid page)).bytes) }
+    ensures leads { IfSome result (Leads core.now pid page) }
     ensures none { IfNone result (is_mapped core.now.state (at_page pid page) ≡ false) }
 {
     core.stands();

@@ -1,23 +1,18 @@
 //! A processor's page fault: the access of one byte, as an event that changes no byte.
 
 ghost use Rattle.std.specs.Prelude.{◌≡◌, ℕ, true, false};
-ghost use Rattle.page_words.specs.Addresses.{IsUserPage, page_number};
+ghost use Rattle.kernel_acts.specs.Words.{Ends, FramesStay, IsUserPage, StandsFor, answer, byte_at, completes};
+ghost use Rattle.kernel_acts.specs.Words.{ended_by, finds_at, gone_by, image_of, memory_of, next, of_call, page_number};
+ghost use Rattle.kernel_acts.specs.Words.{slot_at};
 ghost use Rattle.table_walk.specs.declared.Access.TheVariants as access;
-ghost use Rattle.address_space.specs.ByWalk.{finds_at};
-ghost use Rattle.address_space.specs.Image.{is_lazy_at};
-ghost use Rattle.address_space.specs.Spaces.{at_page, byte_at, slot_at};
-ghost use Rattle.address_space.specs.Stays.{FramesStay};
-ghost use Rattle.process_table.specs.Image.{StandsFor, image_of, memory_of};
-ghost use Rattle.kernel_calls.specs.Gone.{gone_by};
-ghost use Rattle.kernel_calls.specs.Machine.{answer, next, completes};
-ghost use Rattle.kernel_calls.specs.Translations.{ended_by, of_call, Ends};
 ghost use Rattle.kernel_calls.specs.declared.calls.Reply.TheVariants as reply;
 ghost use Rattle.kernel_calls.specs.declared.translations.Ended.TheVariants as end;
 ghost use Rattle.kernel_acts.specs.Touched.{near, touch_of, access_of_byte, AreMarked, TakesNoStore, Touches};
 ghost use Rattle.kernel_acts.specs.Transfers.{load_byte, store_byte};
 
+use crate::writing::is_lazy;
 use kernel_calls::{Call, Core, Ended, Event, Reply};
-use page_words::{Page, Pid, Size, Vaddr, in_user_range, page_of};
+use page_words::{Pid, Size, Vaddr, page_of};
 use table_walk::Access;
 
 /// The address as one of 32 bits. Any above is the highest one, which is outside the user range.
@@ -78,21 +73,6 @@ fn mark_written(core: &mut Core, pid: Pid, address: Vaddr) -> bool
     let marked = core.store_taken(pid, address, &[]);
     core.stands();
     marked
-}
-
-/// Whether a page of a process is lazy.
-#[inline(always)]
-fn is_lazy(core: &Core, pid: Pid, page: Page) -> bool
-    ensures { result ≡ is_lazy_at (memory_of core.now) (at_page pid page) }
-{
-    core.stands();
-    if !in_user_range(page) {
-        return false;
-    }
-    match core.page(pid, page) {
-        Some(found) => found.lazy,
-        None => false,
-    }
 }
 
 /// What the Store of a byte makes stale if it completes: the translation of its page, if that is lazy.

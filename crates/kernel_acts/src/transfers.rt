@@ -1,14 +1,12 @@
 //! Copies a process's memory in and out, as copyin and copyout do: with the effect of one-byte accesses, up to the
 //! first that is refused or faults. A page that is ready is looked up once, and its bytes are copied as one slice.
 
-ghost use Rattle.std.specs.Prelude.{◌≡◌, ◌+◌, ◌++◌, ◌<◌, ◌≤◌, Some, None, IfSome, IsSome, IsNone, false, length, drop, slice_index};
-ghost use Rattle.page_words.specs.Addresses.{page_number, offset_number, IsUserPage};
-ghost use Rattle.address_space.specs.Stays.{FramesStay, none_goes, of_lazy};
-ghost use Rattle.process_table.specs.Image.{StandsFor, image_of, memory_of};
-ghost use Rattle.kernel_calls.specs.Machine.{answer, answers, end_of, completes};
+ghost use Rattle.std.specs.Prelude.{◌≡◌, ◌+◌, ◌++◌, ◌<◌, ◌≤◌, Some, IfSome, IsSome, IsNone, false, length, drop, slice_index};
+ghost use Rattle.kernel_acts.specs.Words.{FramesStay, IsUserPage, StandsFor, answer, answers, completes, end_of};
+ghost use Rattle.kernel_acts.specs.Words.{image_of, memory_of, none_goes, of_lazy, offset_number, page_number};
 ghost use Rattle.kernel_calls.specs.declared.calls.Call.TheVariants as call;
 ghost use Rattle.page_words.specs.declared.addresses.Size.TheVariants.{One};
-ghost use Rattle.kernel_acts.specs.Transfers.{load_byte, store_byte, loads, stores, carried, stop_of, values, of_lazy_pages, AreLoaded, AreStored};
+ghost use Rattle.kernel_acts.specs.Transfers.{load_byte, store_byte, loads, stores, carried, stop_of, values, of_lazy_pages, AreLoaded, AreStored, Reads, Writes};
 
 use crate::steps::{completes, step};
 use kernel_calls::{Call, Core, Reply};
@@ -29,13 +27,6 @@ fn stopped_at(count: usize, reply: Reply) -> Transfer
 {
     let stop = Some(reply);
     Transfer { count, stop }
-}
-
-/// A transfer of so many bytes that went to its end.
-fn all_of(count: usize) -> Transfer
-    ensures { result ≡ record { count = count; stop = None } }
-{
-    Transfer { count, stop: None }
 }
 
 /// The store of a byte at an address.
@@ -100,12 +91,7 @@ fn load_first(core: &mut Core, pid: Pid, address: Vaddr, out: &mut [u8]) -> Opti
 
 /// Loads page by page.
 fn load_pages(core: &mut Core, pid: Pid, address: Vaddr, out: &mut [u8]) -> Transfer
-    ensures count { result.count ≡ length (carried core.old.state (loads pid address (length out.old))) }
-    ensures stop { result.stop ≡ stop_of core.old.state (loads pid address (length out.old)) }
-    ensures bytes { out.new ≡ values (answers core.old.state
-        (carried core.old.state (loads pid address (length out.old)))) ++ drop result.count out.old }
-    ensures state { core.new.state ≡ end_of core.old.state
-        (carried core.old.state (loads pid address (length out.old))) }
+    ensures read { Reads core.old.state pid address out.old out.new result core.new.state }
     ensures stay { FramesStay none_goes (memory_of core.old) (memory_of core.new) }
     ensures kept { result.count ≡ 0 → core.new ≡ core.old }
 {
@@ -118,7 +104,7 @@ fn load_pages(core: &mut Core, pid: Pid, address: Vaddr, out: &mut [u8]) -> Tran
         done += count;
         at = Vaddr(at.0 + count as u32);
     }
-    all_of(done)
+    Transfer { count: done, stop: None }
 }
 
 /// Reads a process's memory from an address on, with the effect of one-byte loads in order, up to the first that is
@@ -187,9 +173,7 @@ fn store_first(core: &mut Core, pid: Pid, address: Vaddr, part: &[u8]) -> Option
 
 /// Stores page by page.
 fn store_pages(core: &mut Core, pid: Pid, address: Vaddr, bytes: &[u8]) -> Transfer
-    ensures count { result.count ≡ length (carried core.old.state (stores pid address bytes.now)) }
-    ensures stop { result.stop ≡ stop_of core.old.state (stores pid address bytes.now) }
-    ensures state { core.new.state ≡ end_of core.old.state (carried core.old.state (stores pid address bytes.now)) }
+    ensures written { Writes core.old.state pid address bytes.now result core.new.state }
     ensures stay { FramesStay (of_lazy_pages pid address result.count) (memory_of core.old) (memory_of core.new) }
     ensures kept { result.count ≡ 0 → core.new ≡ core.old }
 {
@@ -202,7 +186,7 @@ fn store_pages(core: &mut Core, pid: Pid, address: Vaddr, bytes: &[u8]) -> Trans
         done += count;
         at = Vaddr(at.0 + count as u32);
     }
-    all_of(done)
+    Transfer { count: done, stop: None }
 }
 
 /// Writes a process's memory from an address on, with the effect of one-byte stores in order, up to the first that

@@ -1,11 +1,7 @@
 //! Which frames an event may write: for whoever keeps something by frames, such as code that was translated.
 
 ghost use Rattle.std.specs.Prelude.{◌≡◌, ◌↔◌, ◌⊎◌, ℕ, ◌<◌, IsTrue, Some, length};
-ghost use Rattle.page_words.specs.Addresses.{IsUserPage};
-ghost use Rattle.address_space.specs.Image.{is_lazy_at, page_frame};
-ghost use Rattle.address_space.specs.Spaces.{at_page};
-ghost use Rattle.process_table.specs.Image.{memory_of};
-ghost use Rattle.kernel_calls.specs.Written.{MayWrite, TakesLazy};
+ghost use Rattle.kernel_acts.specs.Words.{IsUserPage, MayWrite, TakesLazy, at_page, is_lazy_at, memory_of, page_frame};
 
 use crate::taking::{are_one, frame_at};
 use alloc_table::Role;
@@ -13,7 +9,8 @@ use kernel_calls::{Call, Core, Event};
 use page_words::{Frame, Page, Pid, in_user_range, slot_of};
 
 /// Whether a page of a process is lazy.
-fn is_lazy(core: &Core, pid: Pid, page: Page) -> bool
+#[inline(always)]
+pub(crate) fn is_lazy(core: &Core, pid: Pid, page: Page) -> bool
     ensures { result ≡ is_lazy_at (memory_of core.now) (at_page pid page) }
 {
     core.stands();

@@ -1,6 +1,6 @@
 -- Accesses by what a processor keeps of an earlier memory, where the pages of that are still on their frames.
 use Rattle.shootdowns.proofs.Prelude
-use Prelude.{◌≡◌, ℕ, ◌+◌, ◌*◌, ◌<◌, ◌≤◌, ◌^◌, Bool, true, false, List, length, refl, ap, sym, ◌∙◌, subst, arith, Option, Some, None, unwrap_or, is_some, eqb-true, ◌&&◌, not, if◌then◌else◌, MatchBool, slice_get, slice_index, option_map, option_and_then, slice_get_within, page_number, offset_number, slot_number, index_number, start_number, byte_count, EachTouched, Size, ways_of, goes_frameless, told_planned, frame_number, is_lazy, frame_bytes, byte-frame, Role, Reserved, Page, Access, Read, Write, table_at, word_of, present_word, page_word, page_frame, is_lazy_at, takes_stores, SlotStands, CellStands, own_frame, kept_place, number_at, Slot, Cell, Spaces, at_page, slot_at, byte_at, value_of, bytes_of, cell_or_fresh, fresh, all_stored, way_of, IsThere, with_touched-same, way_parts, way_whole, from_map, from_then, owned, own_is, each_byte, same_each, memory_of, State, is_live, is_mapped, View, IsWellFormed, touched_user, plan_of, plan_at, takes_no_frame, each_page, walk_completes, Serves, ServesCall, ServesEvent, reply_kept, bytes_kept, answer, answer_of, after, next, completes, IsCore, Call, Event, goes-call, next-goes, small_page, live, leads, Touched, loaded_same, walk_takes, lives}
+use Prelude.{◌≡◌, ℕ, ◌+◌, ◌*◌, ◌<◌, ◌≤◌, ◌^◌, Bool, true, false, List, length, refl, ap, sym, ◌∙◌, subst, arith, Option, Some, unwrap_or, is_some, eqb-true, ◌&&◌, not, MatchBool, slice_get, slice_index, option_map, option_and_then, slice_get_within, page_number, offset_number, slot_number, start_number, byte_count, EachTouched, Size, ways_of, goes_frameless, told_planned, frame_number, is_lazy, frame_bytes, byte-frame, Page, Access, Read, Write, table_at, page_word, page_frame, is_lazy_at, takes_stores, SlotStands, CellStands, own_frame, kept_place, number_at, Slot, Cell, Spaces, at_page, slot_at, byte_at, value_of, bytes_of, cell_or_fresh, fresh, all_stored, way_of, IsThere, with_touched-same, way_parts, way_whole, from_map, from_then, owned, own_is, each_byte, same_each, memory_of, State, is_live, is_mapped, View, IsWellFormed, touched_user, plan_of, plan_at, takes_no_frame, each_page, walk_completes, Serves, ServesCall, ServesEvent, reply_kept, bytes_kept, answer, answer_of, after, next, completes, IsCore, Call, Event, goes-call, next-goes, small_page, live, leads, Touched, loaded_same, walk_takes, lives, Role, Reserved}
 use Rattle.page_words.specs.FiniteMap as map
 use Rattle.page_words.specs.FiniteSet as set
 use Rattle.process_table.specs.Calls.{loaded}
@@ -20,9 +20,7 @@ pub frame_is : (v : View) (slot : Slot) (word : ℕ) → page_word (memory_of v)
 frame_is v slot word is = ap (λ (y : Option ℕ). unwrap_or (option_map frame_number y) 0) is
 
 pub both : (a b : Bool) → (a && b) ≡ true → (a ≡ true) × (b ≡ true)
-both true true h = (refl, refl)
-both true false h = cc
-both false b h = cc
+both x0 x1 h = grind arith
 
 pub real_by : (b : Bool) → not b ≡ true → b ≡ false
 real_by false h = refl
@@ -33,15 +31,11 @@ pub word_mapped : (v : View) → IsCore v → (r : Slot) (d : Cell) → map.get 
 word_mapped v core r d at = by (page_word (memory_of v) r) refl (map.get v.state.spaces r) at (core.image.memory.cells r)
   where
     by : (y : Option ℕ) → page_word (memory_of v) r ≡ y → (z : Option Cell) → z ≡ Some d → SlotStands (memory_of v) r y z → (word : ℕ) × (page_word (memory_of v) r ≡ Some word)
-    by (Some word) is z k h = (word, is)
-    by None is None k h = cc
-    by None is (Some c) k h = absurd h
+    by x0 is x2 k h = grind arith
 
 -- in a table
 pub table_of_word : (v : View) (r : Slot) (word : ℕ) → page_word (memory_of v) r ≡ Some word → (t : ℕ) × (table_at (memory_of v) r.pid (slot_number r.page) ≡ Some t)
-table_of_word v r word is =
-    let table = from_then (λ t. present_word (memory_of v) t (word_of (memory_of v) t (index_number r.page))) (table_at (memory_of v) r.pid (slot_number r.page)) word is in
-    (table.0, table.1)
+table_of_word v r word is = grind (arith, from_then)
 
 -- and a way
 pub way_at : (v : View) (r : Slot) (word : ℕ) → page_word (memory_of v) r ≡ Some word → (d : ℕ) × (way_of (memory_of v) r ≡ Some (d, frame_number word))
@@ -142,13 +136,7 @@ module _ (v : View) (core : IsCore v) (base : State) (alike : Alike v.state base
 
       stands : (y : Option ℕ) → page_word (memory_of v) (at_page p page) ≡ y → y ≡ Some o.word → (z : Option Cell) → z ≡ Some own.0
           → SlotStands (memory_of v) (at_page p page) y z → CellStands (memory_of v) (at_page p page) o.word own.0
-      stands None at y z h c = cc
-      stands (Some word) at y None h c = cc
-      stands (Some word) at y (Some cell) h c =
-          let same : word ≡ o.word = cc in
-          let one : cell ≡ own.0 = cc in
-          subst (λ (q : Cell). CellStands (memory_of v) (at_page p page) o.word q) one
-          (subst (λ n. CellStands (memory_of v) (at_page p page) n cell) same c)
+      stands x0 at y x3 h c = grind arith
 
       k : CellStands (memory_of v) (at_page p page) o.word own.0
       k = stands (page_word (memory_of v) (at_page p page)) refl o.there (map.get v.state.spaces (at_page p page)) own.1
@@ -262,9 +250,7 @@ module _ (v : View) (core : IsCore v) (base : State) (alike : Alike v.state base
 
   -- such an access is answered by the bytes there
   pub kept_answer : answer (filled_state (frame_at v) bytes base) a ≡ reply_kept frames bytes a.call
-  kept_answer =
-      ap (λ b. if b then answer_of (filled_state (frame_at v) bytes base) a.pid a.call else reply.Refused cause.NoProcess) served_live
-      ∙ call_answer v core base alike well a.pid bytes frames a.call served
+  kept_answer = grind (arith, filled_state, served_live, call_answer)
 
   completing : completes (answer (filled_state (frame_at v) bytes base) a) ≡ true
   completing = grind (arith, kept_answer)

@@ -107,10 +107,7 @@ module _ (x : Ended) (done : Acknowledged) (e : Event) (r : Reply) (keeps : Proc
             cc)
 
     cells : (slot : Slot) → map.get (next (dirty_at (at_page p page) s) e).spaces slot ≡ option_map (dirt (same slot_order (at_page p page) slot)) (map.get w.state.spaces slot)
-    cells slot =
-        ap (λ (z : State). map.get z.spaces slot) (next_dirty (at_page p page) s e right)
-        ∙ get_dirty (at_page p page) (next s e).spaces slot
-        ∙ sym (ap (λ (z : State). option_map (dirt (same slot_order (at_page p page) slot)) (map.get z.spaces slot)) g.stands.2)
+    cells slot = grind (arith, next_dirty, get_dirty, dirt)
 
     book : (next (dirty_at (at_page p page) s) e).book ≡ w.state.book
     book = ap (λ (z : State). z.book) (next_dirty (at_page p page) s e right) ∙ sym (ap (λ (z : State). z.book) g.stands.2)
@@ -154,9 +151,7 @@ module _ (x : Ended) (done : Acknowledged) (e : Event) (r : Reply) (keeps : Proc
         by : (slot : Slot) (z : Option Cell) → map.get s.spaces slot ≡ z
             → option_map (dirt (same slot_order (at_page p page) slot)) (map.get s.spaces slot)
             ≡ option_map (fill (frame_at v) byte_list slot) (option_map (dirt (same slot_order (at_page p page) slot)) (map.get s.spaces slot))
-        by slot None is =
-            ap (option_map (dirt (same slot_order (at_page p page) slot))) is
-            ∙ sym (ap (λ (z : Option Cell). option_map (fill (frame_at v) byte_list slot) (option_map (dirt (same slot_order (at_page p page) slot)) z)) is)
+        by slot None is = grind (arith, dirt, fill, frame_at)
         by slot (Some c) is =
             ap (option_map (dirt (same slot_order (at_page p page) slot))) is
             ∙ ap (λ (c : Cell). Some c) (put (same slot_order (at_page p page) slot) slot c (own slot c is))

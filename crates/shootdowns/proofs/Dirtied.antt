@@ -1,6 +1,6 @@
 -- Memory in which dirty was set in the word of a page that isn't lazy.
 use Rattle.shootdowns.proofs.Prelude
-use Prelude.{◌≡◌, ◌≢◌, ℕ, ◌<◌, ◌≤◌, ◌^◌, Bool, true, false, List, length, refl, ap, sym, ◌∙◌, arith, inl, inr, Option, Some, None, cases_eq, slice_get_within, ◌⊎◌, ◌&&◌, if◌then◌else◌, nat_lt, slice_get, option_and_then, option_map, slot_number, index_number, same, with_flag, frame_number, is_present, is_accessed, is_lazy, same_itself, same_or_not, same-true, frame_bytes, word_at, word_in, word_place, with_word, with_word_in, with_frame, IsInside, word_in-frame, frames-with_word, with_frame-same, with_frame-other, length-frame, word_in_same, word_in_other, length-with_word, Role, Reserved, Directory, Table, Page, directory_at, table_at, word_of, present_word, page_word, own_frame, Slot, slot_order, Cell, at_page, own_is, memory_of, State, View, IsWellFormed, IsCore}
+use Prelude.{◌≡◌, ◌≢◌, ℕ, ◌<◌, ◌≤◌, ◌^◌, Bool, true, false, List, length, refl, ap, sym, ◌∙◌, arith, inl, inr, Option, Some, None, cases_eq, slice_get_within, ◌⊎◌, ◌&&◌, if◌then◌else◌, nat_lt, slice_get, option_and_then, option_map, slot_number, index_number, same, with_flag, frame_number, is_present, is_accessed, is_lazy, same_itself, same_or_not, same-true, frame_bytes, word_at, word_in, word_place, with_word, with_word_in, with_frame, IsInside, word_in-frame, frames-with_word, with_frame-same, with_frame-other, length-frame, word_in_same, word_in_other, length-with_word, Role, Directory, Table, Page, directory_at, table_at, word_of, present_word, page_word, own_frame, Slot, slot_order, Cell, at_page, own_is, memory_of, State, View, IsWellFormed, IsCore}
 use Rattle.page_words.specs.FiniteMap as map
 use Rattle.address_space.specs.Image as memory
 use Rattle.kernel_calls.specs.Processors.{with_bytes}
@@ -19,11 +19,7 @@ frame_apart w core slot n is q s f linked same = by (is_lazy n) refl
     role = (core.image.memory.sound.tables f q s).1 linked
 
     by : (b : Bool) → is_lazy n ≡ b → ⊥
-    by true lazy =
-        let size = core.image.sound.root.2 in
-        let none : 0 ≡ f = sym (lazy_zero w core slot n is lazy) ∙ same in
-        let k : ◌≡◌ {A = Option Role} (Some Reserved) (Some (Table q s)) = sym ((core.image.memory.sound.reserved 0 (omega (arith, size))).1 refl) ∙ ap (slice_get w.roles) none ∙ role in
-        cc
+    by true lazy = grind (arith, lazy_zero, role)
     by false real =
         let page = core.image.memory.sound.pages slot (frame_number n) (ap (option_and_then (own_frame 2)) is ∙ own_is n real) in
         let k : ◌≡◌ {A = Option Role} (Some (Page page.0)) (Some (Table q s)) = sym page.1 ∙ ap (slice_get w.roles) same ∙ role in
@@ -120,9 +116,7 @@ module _ (w : View) (core : IsCore w) (small : length w.bytes ≤ 2 ^ 32) (p pag
 
   -- a frame with another role keeps its bytes
   by_role : (f : ℕ) (r : Role) → slice_get w.roles f ≡ Some r → r ≢ Table p (slot_number page) → f ≢ table
-  by_role f r is apart same = apart (
-      let k : ◌≡◌ {A = Option Role} (Some r) (Some (Table p (slot_number page))) = sym is ∙ ap (slice_get w.roles) same ∙ role in
-      cc)
+  by_role f r is apart same = grind (arith, role)
 
   -- ---- Words
 
@@ -131,9 +125,7 @@ module _ (w : View) (core : IsCore w) (small : length w.bytes ≤ 2 ^ 32) (p pag
 
   -- a table is a page's only where it is that of the page's process and region
   its_table : (q s : ℕ) → table_at (memory_of w) q s ≡ Some table → (q ≡ p) × (s ≡ slot_number page)
-  its_table q s linked =
-      let k : ◌≡◌ {A = Option Role} (Some (Table q s)) (Some (Table p (slot_number page))) = sym ((S.tables table q s).1 linked) ∙ role in
-      (cc, cc)
+  its_table q s linked = grind (arith, role)
 
   -- the word of a slot
   tab_marked : (slot : Slot) (f : ℕ) → table_at (memory_of w) slot.pid (slot_number slot.page) ≡ Some f
@@ -142,12 +134,7 @@ module _ (w : View) (core : IsCore w) (small : length w.bytes ≤ 2 ^ 32) (p pag
     where
       by : ((at ≡ slot) × (same slot_order at slot ≡ true)) ⊎ (same slot_order at slot ≡ false)
           → word_of (memory_of x) f (index_number slot.page) ≡ mark (one slot) (word_of (memory_of w) f (index_number slot.page))
-      by (inl is) =
-          let k : ◌≡◌ {A = Option ℕ} (Some f) (Some table) = sym linked ∙ sym (ap (λ (q : Slot). table_at (memory_of w) q.pid (slot_number q.page)) is.0) ∙ leads in
-          let g : f ≡ table = cc in
-          let n : index_number slot.page ≡ i0 = sym (ap (λ (q : Slot). index_number q.page) is.0) in
-          (λ i. word_of (memory_of x) (g i) (n i)) ∙ own_word
-          ∙ (λ i. mark (sym is.1 i) (word_of (memory_of w) (sym g i) (sym n i)))
+      by (inl is) = grind (arith, own_word, mark)
       by (inr apart) = beside (cases_eq f table)
         where
           beside : (f ≡ table) ⊎ (f ≢ table) → word_of (memory_of x) f (index_number slot.page) ≡ mark (one slot) (word_of (memory_of w) f (index_number slot.page))
@@ -171,9 +158,7 @@ module _ (w : View) (core : IsCore w) (small : length w.bytes ≤ 2 ^ 32) (p pag
   -- ---- The cells
 
   zero_apart : 0 ≢ table
-  zero_apart =
-      let size = core.image.sound.root.2 in
-      by_role 0 Reserved ((S.reserved 0 (omega (arith, size))).1 refl) (λ e. cc)
+  zero_apart = grind (arith, by_role)
 
   pub dirtied : Remade w (frame_at w) one t bytes
   dirtied = record {

@@ -1,13 +1,15 @@
 -- Dirty set in a slot's cell: what it leaves of a state, of an event that takes the right to write, and of a store.
 use Rattle.shootdowns.proofs.Prelude
-use Prelude.{◌≡◌, ℕ, zero, suc, ◌+◌, ◌/◌, ◌%◌, ◌<◌, Bool, true, false, cond, List, [], ◌∷◌, refl, ap, sym, ◌∙◌, subst, arith, inl, inr, Option, Some, None, unwrap_or, is_some, ◌⊎◌, if◌then◌else◌, option_map, offset_number, byte_count, EachTouched, Size, same, same_map, same_itself, same_or_not, get-insert, get-map_values, Slot, slot_order, Cell, Spaces, at_page, slot_at, cell_or_fresh, fresh, with_bytes, set_bytes, write_at, stored, all_stored, bytes_of, protected, IsThere, with_touched-same, each_byte, State, IsWellFormed, get-inserted, each_page, answer, answer_of, after, next, completes, Call, Event, next-stays, next-goes, only_takes, takes_right}
+use Prelude.{◌≡◌, ℕ, zero, suc, ◌+◌, ◌/◌, ◌%◌, ◌<◌, Bool, true, false, cond, List, [], ◌∷◌, refl, ap, sym, ◌∙◌, subst, arith, inl, inr, Option, Some, None, is_some, ◌⊎◌, if◌then◌else◌, option_map, offset_number, byte_count, EachTouched, Size, same, same_map, same_itself, same_or_not, get-insert, get-map_values, Slot, slot_order, Cell, Spaces, at_page, slot_at, cell_or_fresh, with_bytes, set_bytes, write_at, stored, all_stored, bytes_of, protected, IsThere, with_touched-same, each_byte, State, IsWellFormed, get-inserted, each_page, answer, answer_of, after, next, completes, Call, Event, next-stays, next-goes, only_takes, takes_right, some_value}
 use Rattle.page_words.specs.FiniteMap as map
 use Rattle.page_words.specs.FiniteSet as set
 use Rattle.process_table.proofs.SpaceLaws.{well_formed-flags}
 use Rattle.kernel_calls.specs.declared.calls.Call.TheVariants as call
 use Rattle.shootdowns.proofs.Alike.{AlikeCell, same_cell}
+use Rattle.shootdowns.proofs.Cells.{written, grouped, get_protected, get_stored, first_of, rest_of}
 use Rattle.shootdowns.proofs.Filled.{protects_mapped, completed}
-use Rattle.shootdowns.proofs.Turned.{Grows, Has, has_then, grows_stored, bytes_grow, stores_turn, answer_alike}
+use Rattle.shootdowns.proofs.Taking.{kept_next}
+use Rattle.shootdowns.proofs.Turned.{Grows, Has, has_then, grows_stored, bytes_grow, stores_turn, there_is, answer_alike}
 
 -- a cell with dirty set, where it is the one
 abbrev pub dirt : Bool → Cell → Cell
@@ -77,23 +79,8 @@ module _ (at : Slot) where
         where
           by : (r : Slot) → ((r ≡ at) × (same slot_order r at ≡ true)) ⊎ (same slot_order r at ≡ false)
               → option_map (dirt (same slot_order at r)) (map.get s.spaces r) ≡ cond (same slot_order r at) (Some (record c { dirty = true })) (map.get s.spaces r)
-          by r (inl h) =
-              (λ i. option_map (dirt ((ap (same slot_order at) h.0 ∙ same_itself slot_order at) i)) ((ap (map.get s.spaces) h.0 ∙ there) i))
-              ∙ sym (ap (λ b. cond b (Some (record c { dirty = true })) (map.get s.spaces r)) h.1)
-          by r (inr h) =
-              (λ i. option_map (dirt (other i)) (map.get s.spaces r)) ∙ none (map.get s.spaces r)
-              ∙ sym (ap (λ b. cond b (Some (record c { dirty = true })) (map.get s.spaces r)) h)
-            where
-              other : same slot_order at r ≡ false
-              other = flip (same_or_not slot_order at r)
-                where
-                  flip : ((at ≡ r) × (same slot_order at r ≡ true)) ⊎ (same slot_order at r ≡ false) → same slot_order at r ≡ false
-                  flip (inl k) = absurd (let e : true ≡ false = sym (ap (same slot_order r) k.0 ∙ same_itself slot_order r) ∙ h in cc)
-                  flip (inr k) = k
-
-              none : (z : Option Cell) → option_map (dirt false) z ≡ z
-              none None = refl
-              none (Some d) = refl
+          by r (inl h) = grind (arith, same_itself)
+          by r (inr h) = grind (arith, same_or_not, same_itself)
 
   -- ---- An event that takes the right to write
 
@@ -103,31 +90,20 @@ module _ (at : Slot) where
 
   right_dirty : (S : Spaces) (slot : Slot) (w : Bool) → is_some (map.get S slot) ≡ true → protected (dirty_in at S) slot w ≡ dirty_in at (protected S slot w)
   right_dirty S slot w there = same_map _ _ (λ r.
-      get-insert (dirty_in at S) slot (record (cell_or_fresh (dirty_in at S) slot) { write = w }) r
-      ∙ ap (cond (same slot_order r slot) (Some (record (cell_or_fresh (dirty_in at S) slot) { write = w }))) (get_dirty S r)
+      get_protected (dirty_in at S) slot (dirt (same slot_order at slot) has.0) (get_dirty S slot ∙ ap (option_map (dirt (same slot_order at slot))) has.1) w r
+      ∙ (λ i. cond (same slot_order r slot) (Some (dirt_write (same slot_order at slot) w has.0 i)) (get_dirty S r i))
       ∙ by r (same_or_not slot_order r slot)
-      ∙ sym (get_dirty (protected S slot w) r
-      ∙ ap (option_map (dirt (same slot_order at r))) (get-insert S slot (record (cell_or_fresh S slot) { write = w }) r)))
+      ∙ sym (get_dirty (protected S slot w) r ∙ ap (option_map (dirt (same slot_order at r))) (get_protected S slot has.0 has.1 w r)))
     where
-      own : (z : Option Cell) → map.get S slot ≡ z → is_some z ≡ true
-          → record (cell_or_fresh (dirty_in at S) slot) { write = w } ≡ dirt (same slot_order at slot) (record (cell_or_fresh S slot) { write = w })
-      own None is k = cc
-      own (Some c) is k =
-          ap (λ (z : Option Cell). record (unwrap_or z (fresh slot true)) { write = w }) (get_dirty S slot ∙ ap (option_map (dirt (same slot_order at slot))) is)
-          ∙ dirt_write (same slot_order at slot) w c
-          ∙ sym (ap (λ (z : Option Cell). dirt (same slot_order at slot) (record (unwrap_or z (fresh slot true)) { write = w })) is)
+      has : (c : Cell) × (map.get S slot ≡ Some c)
+      has = some_value (map.get S slot) there
 
       by : (r : Slot) → ((r ≡ slot) × (same slot_order r slot ≡ true)) ⊎ (same slot_order r slot ≡ false)
-          → cond (same slot_order r slot) (Some (record (cell_or_fresh (dirty_in at S) slot) { write = w })) (option_map (dirt (same slot_order at r)) (map.get S r))
-          ≡ option_map (dirt (same slot_order at r)) (cond (same slot_order r slot) (Some (record (cell_or_fresh S slot) { write = w })) (map.get S r))
-      by r (inl is) =
-          ap (λ k. cond k (Some (record (cell_or_fresh (dirty_in at S) slot) { write = w })) (option_map (dirt (same slot_order at r)) (map.get S r))) is.1
-          ∙ ap (λ (c : Cell). Some c) (own (map.get S slot) refl there)
-          ∙ (λ i. Some (dirt (same slot_order at (sym is.0 i)) (record (cell_or_fresh S slot) { write = w })))
-          ∙ sym (ap (λ k. option_map (dirt (same slot_order at r)) (cond k (Some (record (cell_or_fresh S slot) { write = w })) (map.get S r))) is.1)
-      by r (inr other) =
-          ap (λ k. cond k (Some (record (cell_or_fresh (dirty_in at S) slot) { write = w })) (option_map (dirt (same slot_order at r)) (map.get S r))) other
-          ∙ sym (ap (λ k. option_map (dirt (same slot_order at r)) (cond k (Some (record (cell_or_fresh S slot) { write = w })) (map.get S r))) other)
+          → cond (same slot_order r slot) (Some (dirt (same slot_order at slot) (record has.0 { write = w }))) (option_map (dirt (same slot_order at r)) (map.get S r))
+          ≡ option_map (dirt (same slot_order at r)) (cond (same slot_order r slot) (Some (record has.0 { write = w })) (map.get S r))
+      by r (inl is) = grind arith
+      by r (inr other) = (λ i. cond (other i) (Some (dirt (same slot_order at slot) (record has.0 { write = w }))) (option_map (dirt (same slot_order at r)) (map.get S r)))
+          ∙ sym (ap (λ k. option_map (dirt (same slot_order at r)) (cond k (Some (record has.0 { write = w })) (map.get S r))) other)
 
   pub answer_dirty : (s : State) (e : Event) → takes_right e.call ≡ true → answer (dirty_at at s) e ≡ answer s e
   answer_dirty s e h = answer_alike s (dirty_at at s) e (right_taken e.call h) refl (grows_dirty s.spaces)
@@ -143,44 +119,29 @@ module _ (at : Slot) where
 
   stored_dirty : (S : Spaces) (b : Slot) (c : Cell) (o : ℕ) (ys : List ℕ) → map.get S b ≡ Some c → dirty_in at (stored S b o ys) ≡ stored (dirty_in at S) b o ys
   stored_dirty S b c o ys has = same_map _ _ (λ r.
-      get_dirty (stored S b o ys) r
-      ∙ ap (option_map (dirt (same slot_order at r)))
-      (ap (λ (k : Cell). map.get (map.insert (set_bytes S k.holders (write_at k.bytes o ys)) b (record k { bytes = write_at k.bytes o ys; accessed = true; dirty = true })) r) (ap (λ (z : Option Cell). unwrap_or z (fresh b true)) has)
-      ∙ get-insert (set_bytes S c.holders new) b done r
-      ∙ ap (cond (same slot_order r b) (Some done)) (get-map_values slot_order (λ q (k : Cell). if set.contains c.holders q then with_bytes k new else k) S r))
+      get_dirty (stored S b o ys) r ∙ ap (option_map (dirt (same slot_order at r))) (get_stored S b c has o ys r)
       ∙ by (same slot_order at r) (same slot_order r b) (set.contains c.holders r) (map.get S r)
-      ∙ sym (ap (λ (k : Cell). map.get (map.insert (set_bytes (dirty_in at S) k.holders (write_at k.bytes o ys)) b (record k { bytes = write_at k.bytes o ys; accessed = true; dirty = true })) r)
-      (ap (λ (z : Option Cell). unwrap_or z (fresh b true)) (get_dirty S b ∙ ap (option_map (dirt (same slot_order at b))) has))
+      ∙ sym (get_stored (dirty_in at S) b (dirt (same slot_order at b) c) (get_dirty S b ∙ ap (option_map (dirt (same slot_order at b))) has) o ys r
       ∙ whole (same slot_order at b) r
-      ∙ get-insert (set_bytes (dirty_in at S) c.holders new) b done r
-      ∙ ap (cond (same slot_order r b) (Some done))
-      (get-map_values slot_order (λ q (k : Cell). if set.contains c.holders q then with_bytes k new else k) (dirty_in at S) r
-      ∙ ap (option_map (λ (k : Cell). if set.contains c.holders r then with_bytes k new else k)) (get_dirty S r))))
+      ∙ ap (λ (z : Option Cell). cond (same slot_order r b) (Some (written c o ys)) (option_map (grouped c o ys r) z)) (get_dirty S r)))
     where
-      new : List ℕ
-      new = write_at c.bytes o ys
-
-      done : Cell
-      done = record c { bytes = write_at c.bytes o ys; accessed = true; dirty = true }
-
-      whole : (y : Bool) (r : Slot) → map.get (map.insert (set_bytes (dirty_in at S) (dirt y c).holders (write_at (dirt y c).bytes o ys)) b (record (dirt y c) { bytes = write_at (dirt y c).bytes o ys; accessed = true; dirty = true })) r
-          ≡ map.get (map.insert (set_bytes (dirty_in at S) c.holders (write_at c.bytes o ys)) b (record c { bytes = write_at c.bytes o ys; accessed = true; dirty = true })) r
+      whole : (y : Bool) (r : Slot) → cond (same slot_order r b) (Some (written (dirt y c) o ys)) (option_map (grouped (dirt y c) o ys r) (map.get (dirty_in at S) r))
+          ≡ cond (same slot_order r b) (Some (written c o ys)) (option_map (grouped c o ys r) (map.get (dirty_in at S) r))
       whole true r = refl
       whole false r = refl
+
+      own : (x : Bool) → dirt x (written c o ys) ≡ written c o ys
+      own true = refl
+      own false = refl
 
       put : (x m : Bool) (k : Cell) → dirt x (if m then with_bytes k (write_at c.bytes o ys) else k) ≡ (if m then with_bytes (dirt x k) (write_at c.bytes o ys) else dirt x k)
       put true true k = refl
       put true false k = refl
-      put false true k = refl
-      put false false k = refl
-
-      own : (x : Bool) → dirt x (record c { bytes = write_at c.bytes o ys; accessed = true; dirty = true }) ≡ record c { bytes = write_at c.bytes o ys; accessed = true; dirty = true }
-      own true = refl
-      own false = refl
+      put false m k = refl
 
       by : (x q m : Bool) (z : Option Cell)
-          → option_map (dirt x) (cond q (Some (record c { bytes = write_at c.bytes o ys; accessed = true; dirty = true })) (option_map (λ (k : Cell). if m then with_bytes k (write_at c.bytes o ys) else k) z))
-          ≡ cond q (Some (record c { bytes = write_at c.bytes o ys; accessed = true; dirty = true })) (option_map (λ (k : Cell). if m then with_bytes k (write_at c.bytes o ys) else k) (option_map (dirt x) z))
+          → option_map (dirt x) (cond q (Some (written c o ys)) (option_map (λ (k : Cell). if m then with_bytes k (write_at c.bytes o ys) else k) z))
+          ≡ cond q (Some (written c o ys)) (option_map (λ (k : Cell). if m then with_bytes k (write_at c.bytes o ys) else k) (option_map (dirt x) z))
       by x true m z = ap (λ (k : Cell). Some k) (own x)
       by x false m None = refl
       by x false m (Some k) = ap (λ (k : Cell). Some k) (put x m k)
@@ -193,45 +154,30 @@ module _ (at : Slot) where
   same_dirty S d there dirty = same_map _ _ (λ r. get_dirty S r ∙ by r (same_or_not slot_order at r))
     where
       by : (r : Slot) → ((at ≡ r) × (same slot_order at r ≡ true)) ⊎ (same slot_order at r ≡ false) → option_map (dirt (same slot_order at r)) (map.get S r) ≡ map.get S r
-      by r (inl is) =
-          let here : map.get S r ≡ Some d = sym (ap (map.get S) is.0) ∙ there in
-          (λ i. option_map (dirt (is.1 i)) (here i)) ∙ (λ i. Some (record d { dirty = sym dirty i })) ∙ sym here
-      by r (inr apart) = (λ i. option_map (dirt (apart i)) (map.get S r)) ∙ none (map.get S r)
-        where
-          none : (z : Option Cell) → option_map (dirt false) z ≡ z
-          none None = refl
-          none (Some c) = refl
+      by r x1 = grind arith
 
 -- the page of each byte of a store is dirty after it
 dirty_then : (i k v a p : ℕ) (S : Spaces) → i < k → ((j : ℕ) → j < k → Has S (slot_at p (a + j)))
     → (d : Cell) × (map.get (all_stored S p a (bytes_of k v)) (slot_at p (a + i)) ≡ Some d) × (d.dirty ≡ true)
 dirty_then i zero v a p S l each = absurd (omega (arith, l))
 dirty_then zero (suc k) v a p S l each =
-    let none : a + 0 ≡ a = omega arith in
-    let here = subst (λ n. Has S (slot_at p n)) none (each 0 l) in
+    let here = first_of (λ n. Has S (slot_at p n)) k a each in
     let T = stored S (slot_at p a) (offset_number a) (v % 256 ∷ []) in
     let first = grows_stored S (slot_at p a) here.0 (offset_number a) (v % 256 ∷ []) here.1 in
-    let grows = bytes_grow k (v / 256) (a + 1) p T
-    (λ j l. (let next : a + suc j ≡ a + 1 + j = omega arith in
-    has_then S T (slot_at p (a + 1 + j)) first (subst (λ n. Has S (slot_at p n)) next (each (suc j) (omega (arith, l)))))) in
+    let grows = bytes_grow k (v / 256) (a + 1) p T (λ j l. has_then S T (slot_at p (a + 1 + j)) first (rest_of (λ n. Has S (slot_at p n)) k a each j l)) in
     let c = cell_or_fresh S (slot_at p a) in
-    let done : Cell = record c { bytes = write_at c.bytes (offset_number a) (v % 256 ∷ []); accessed = true; dirty = true } in
+    let done : Cell = written c (offset_number a) (v % 256 ∷ []) in
     let now : map.get T (slot_at p a) ≡ Some done = get-inserted (set_bytes S c.holders (write_at c.bytes (offset_number a) (v % 256 ∷ []))) (slot_at p a) done in
     let d = grows.cells (slot_at p a) done now in
+    let none : a + 0 ≡ a = omega arith in
     (d.0, ap (λ n. map.get (all_stored T p (a + 1) (bytes_of k (v / 256))) (slot_at p n)) none ∙ d.1, d.3.1 refl)
 dirty_then (suc i) (suc k) v a p S l each =
-    let none : a + 0 ≡ a = omega arith in
-    let here = subst (λ n. Has S (slot_at p n)) none (each 0 (omega (arith, l))) in
+    let here = first_of (λ n. Has S (slot_at p n)) k a each in
     let T = stored S (slot_at p a) (offset_number a) (v % 256 ∷ []) in
     let first = grows_stored S (slot_at p a) here.0 (offset_number a) (v % 256 ∷ []) here.1 in
     let next : a + suc i ≡ a + 1 + i = omega arith in
-    let d = dirty_then i k (v / 256) (a + 1) p T (omega (arith, l))
-    (λ j l. (let next : a + suc j ≡ a + 1 + j = omega arith in
-    has_then S T (slot_at p (a + 1 + j)) first (subst (λ n. Has S (slot_at p n)) next (each (suc j) (omega (arith, l)))))) in
+    let d = dirty_then i k (v / 256) (a + 1) p T (omega (arith, l)) (λ j l. has_then S T (slot_at p (a + 1 + j)) first (rest_of (λ n. Has S (slot_at p n)) k a each j l)) in
     (d.0, ap (λ n. map.get (all_stored T p (a + 1) (bytes_of k (v / 256))) (slot_at p n)) next ∙ d.1, d.2)
-
-there_is : (S : Spaces) (p page : ℕ) → Has S (at_page p page) → IsThere S p page
-there_is S p page h = ap is_some h.1
 
 -- a store that touches the page sets dirty itself
 pub after_store_dirty : (s : State) (p addr : ℕ) (size : Size) (value i : ℕ) → i < byte_count size → EachTouched addr size (λ page. Has s.spaces (at_page p page))
@@ -272,33 +218,8 @@ still_dirty b at s has c there = grind (arith, get_dirty, dirt_flags)
 -- after an event that takes a right, a slot is mapped as before, with accessed as before
 pub right_keeps : (s : State) (e : Event) → takes_right e.call ≡ true → (slot : Slot) (c : Cell) → map.get s.spaces slot ≡ Some c
     → (d : Cell) × (map.get (next s e).spaces slot ≡ Some d) × (d.accessed ≡ c.accessed)
-right_keeps s e takes slot c there = by e.call refl takes (completes (answer s e)) refl
+right_keeps s e takes slot c there = by e.call refl takes
   where
-    protects : (p page : ℕ) → (d : Cell) × (map.get (protected s.spaces (at_page p page) false) slot ≡ Some d) × (d.accessed ≡ c.accessed)
-    protects p page = at (same_or_not slot_order slot (at_page p page))
-      where
-        new : Cell
-        new = record (cell_or_fresh s.spaces (at_page p page)) { write = false }
-
-        at : ((slot ≡ at_page p page) × (same slot_order slot (at_page p page) ≡ true)) ⊎ (same slot_order slot (at_page p page) ≡ false)
-            → (d : Cell) × (map.get (protected s.spaces (at_page p page) false) slot ≡ Some d) × (d.accessed ≡ c.accessed)
-        at (inl is) = (
-          record (cell_or_fresh s.spaces (at_page p page)) { write = false },
-          get-insert s.spaces (at_page p page) (record (cell_or_fresh s.spaces (at_page p page)) { write = false }) slot
-              ∙ ap (λ b. cond b (Some (record (cell_or_fresh s.spaces (at_page p page)) { write = false })) (map.get s.spaces slot)) is.1,
-          ap (λ (z : Option Cell). (unwrap_or z (fresh (at_page p page) true)).accessed) (sym (ap (map.get s.spaces) is.0) ∙ there),
-        )
-        at (inr other) = (
-          c,
-          get-insert s.spaces (at_page p page) (record (cell_or_fresh s.spaces (at_page p page)) { write = false }) slot
-              ∙ ap (λ b. cond b (Some (record (cell_or_fresh s.spaces (at_page p page)) { write = false })) (map.get s.spaces slot)) other ∙ there,
-          refl,
-        )
-
-    by : (k : Call) → e.call ≡ k → takes_right k ≡ true → (b : Bool) → completes (answer s e) ≡ b
-        → (d : Cell) × (map.get (next s e).spaces slot ≡ Some d) × (d.accessed ≡ c.accessed)
-    by k is h false stops = (c, ap (λ (t : State). map.get t.spaces slot) (next-stays s e stops) ∙ there, refl)
-    by (call.Protect page false) is h true goes =
-        let d = protects e.pid page in
-        (d.0, ap (λ (t : State). map.get t.spaces slot) (next-goes s e goes ∙ ap (after s e.pid) is) ∙ d.1, d.2)
-    by _ is h true goes = cc
+    by : (k : Call) → e.call ≡ k → takes_right k ≡ true → (d : Cell) × (map.get (next s e).spaces slot ≡ Some d) × (d.accessed ≡ c.accessed)
+    by (call.Protect page false) is h = let d = kept_next s e page false is slot c there in (d.0, d.1, d.3)
+    by _ is h = cc

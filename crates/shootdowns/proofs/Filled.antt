@@ -1,12 +1,13 @@
 -- A state with the bytes of frames in its cells: events that only take away leave these as they are, and a store
 -- changes one frame's.
 use Rattle.shootdowns.proofs.Prelude
-use Prelude.{◌≡◌, ℕ, Bool, true, false, cond, List, refl, ap, sym, ◌∙◌, inl, inr, Option, Some, None, unwrap_or, ◌⊎◌, not, if◌then◌else◌, option_map, is_user_page, same, same_map, same_or_not, get-insert, get-map_values, is_some-map, frame_bytes, Slot, slot_order, Cell, Spaces, at_page, cell_or_fresh, fresh, with_bytes, protected, without, is_slot, is_of, State, is_live, is_mapped, answer, answer_of, after, next, completes, refused_or, Call, Event, Reply, fewer, get_gone, next-stays, next-goes, only_takes}
+use Prelude.{◌≡◌, ℕ, Bool, true, false, cond, List, refl, ap, sym, ◌∙◌, inl, inr, Option, Some, None, ◌⊎◌, not, option_map, same, same_map, same_or_not, get-map_values, is_some-map, frame_bytes, Slot, slot_order, Cell, Spaces, at_page, with_bytes, protected, without, is_slot, is_of, State, is_mapped, answer, answer_of, after, next, completes, Call, Event, Reply, fewer, get_gone, next-stays, next-goes, only_takes, arith, some_value}
 use Rattle.std.specs.Prelude.{is_some}
 use Rattle.page_words.specs.FiniteMap as map
 use Rattle.process_table.specs.declared.causes.Cause.TheVariants as cause
 use Rattle.kernel_calls.specs.declared.calls.Call.TheVariants as call
 use Rattle.kernel_calls.specs.declared.calls.Reply.TheVariants as reply
+use Rattle.shootdowns.proofs.Cells.{get_protected}
 
 -- each cell has the bytes of its slot's frame
 abbrev pub fill : (Slot → ℕ) → List ℕ → Slot → Cell → Cell
@@ -20,20 +21,20 @@ filled_state F bytes s = record s { spaces = filled F bytes s.spaces }
 
 -- a Protect that completes is of a mapped page
 pub protects_mapped : (s : State) (p page : ℕ) → completes (answer_of s p (call.Protect page false)) ≡ true → is_mapped s (at_page p page) ≡ true
-protects_mapped s p page done = by (is_user_page page) (is_mapped s (at_page p page)) done
-  where
-    by : (u b : Bool) → completes (refused_or (if not u then Some cause.BadPage else if not b then Some cause.NotMapped else None) reply.Done) ≡ true → b ≡ true
-    by true true k = refl
-    by true false k = cc
-    by false b k = cc
+protects_mapped s p page done = grind arith
 
 -- an event that completes is a live process's
 pub completed : (s : State) (e : Event) → completes (answer s e) ≡ true → completes (answer_of s e.pid e.call) ≡ true
-completed s e = by (is_live s e.pid) refl
-  where
-    by : (b : Bool) → is_live s e.pid ≡ b → completes (answer s e) ≡ true → completes (answer_of s e.pid e.call) ≡ true
-    by true is k = sym (ap (λ b. completes (if b then answer_of s e.pid e.call else reply.Refused cause.NoProcess)) is) ∙ k
-    by false is k = absurd (let z : false ≡ true = sym (ap (λ b. completes (if b then answer_of s e.pid e.call else reply.Refused cause.NoProcess)) is) ∙ k in cc)
+completed s e = grind arith
+
+-- an event that only takes away is answered by what is mapped, and by who is live
+call_alike : (s t : State) (p : ℕ) (c : Call) → only_takes c ≡ true → t.book ≡ s.book → ((slot : Slot) → map.contains_key t.spaces slot ≡ map.contains_key s.spaces slot)
+    → answer_of t p c ≡ answer_of s p c
+call_alike s t p x3 h book keys = grind arith
+
+pub same_answer : (s t : State) (e : Event) → only_takes e.call ≡ true → t.book ≡ s.book → ((slot : Slot) → map.contains_key t.spaces slot ≡ map.contains_key s.spaces slot)
+    → answer t e ≡ answer s e
+same_answer s t e h book keys = grind (arith, call_alike)
 
 module _ (F : Slot → ℕ) (bytes : List ℕ) where
   pub get_filled : (S : Spaces) (r : Slot) → map.get (filled F bytes S) r ≡ option_map (fill F bytes r) (map.get S r)
@@ -60,61 +61,31 @@ module _ (F : Slot → ℕ) (bytes : List ℕ) where
   right_filled : (S : Spaces) (slot : Slot) (w : Bool) → is_some (map.get S slot) ≡ true
       → protected (filled F bytes S) slot w ≡ filled F bytes (protected S slot w)
   right_filled S slot w there = same_map _ _ (λ r.
-      get-insert (filled F bytes S) slot (record (cell_or_fresh (filled F bytes S) slot) { write = w }) r
-      ∙ ap (cond (same slot_order r slot) (Some (record (cell_or_fresh (filled F bytes S) slot) { write = w }))) (get_filled S r)
+      get_protected (filled F bytes S) slot (fill F bytes slot has.0) (get_filled S slot ∙ ap (option_map (fill F bytes slot)) has.1) w r
+      ∙ ap (cond (same slot_order r slot) (Some (fill F bytes slot (record has.0 { write = w })))) (get_filled S r)
       ∙ by r (same_or_not slot_order r slot)
-      ∙ sym (get_filled (protected S slot w) r
-      ∙ ap (option_map (fill F bytes r)) (get-insert S slot (record (cell_or_fresh S slot) { write = w }) r)))
+      ∙ sym (get_filled (protected S slot w) r ∙ ap (option_map (fill F bytes r)) (get_protected S slot has.0 has.1 w r)))
     where
-      own : (z : Option Cell) → map.get S slot ≡ z → is_some z ≡ true
-          → record (cell_or_fresh (filled F bytes S) slot) { write = w } ≡ fill F bytes slot (record (cell_or_fresh S slot) { write = w })
-      own None is k = cc
-      own (Some c) is k =
-          ap (λ (z : Option Cell). record (unwrap_or z (fresh slot true)) { write = w }) (get_filled S slot ∙ ap (option_map (fill F bytes slot)) is)
-          ∙ sym (ap (λ (z : Option Cell). fill F bytes slot (record (unwrap_or z (fresh slot true)) { write = w })) is)
+      has : (c : Cell) × (map.get S slot ≡ Some c)
+      has = some_value (map.get S slot) there
 
       by : (r : Slot) → ((r ≡ slot) × (same slot_order r slot ≡ true)) ⊎ (same slot_order r slot ≡ false)
-          → cond (same slot_order r slot) (Some (record (cell_or_fresh (filled F bytes S) slot) { write = w })) (option_map (fill F bytes r) (map.get S r))
-          ≡ option_map (fill F bytes r) (cond (same slot_order r slot) (Some (record (cell_or_fresh S slot) { write = w })) (map.get S r))
-      by r (inl is) =
-          ap (λ k. cond k (Some (record (cell_or_fresh (filled F bytes S) slot) { write = w })) (option_map (fill F bytes r) (map.get S r))) is.1
-          ∙ ap (λ (c : Cell). Some c) (own (map.get S slot) refl there)
-          ∙ (λ i. Some (fill F bytes (sym is.0 i) (record (cell_or_fresh S slot) { write = w })))
-          ∙ sym (ap (λ k. option_map (fill F bytes r) (cond k (Some (record (cell_or_fresh S slot) { write = w })) (map.get S r))) is.1)
-      by r (inr other) =
-          ap (λ k. cond k (Some (record (cell_or_fresh (filled F bytes S) slot) { write = w })) (option_map (fill F bytes r) (map.get S r))) other
-          ∙ sym (ap (λ k. option_map (fill F bytes r) (cond k (Some (record (cell_or_fresh S slot) { write = w })) (map.get S r))) other)
+          → cond (same slot_order r slot) (Some (fill F bytes slot (record has.0 { write = w }))) (option_map (fill F bytes r) (map.get S r))
+          ≡ option_map (fill F bytes r) (cond (same slot_order r slot) (Some (record has.0 { write = w })) (map.get S r))
+      by r (inl is) = grind arith
+      by r (inr other) = grind arith
 
   -- ---- Events
 
-  call_filled : (s : State) (p : ℕ) (c : Call) → only_takes c ≡ true → answer_of (filled_state F bytes s) p c ≡ answer_of s p c
-  call_filled s p (call.Unmap page) h =
-      ap (λ b. refused_or (if not (is_user_page page) then Some cause.BadPage else if not b then Some cause.NotMapped else None) reply.Done) (mapped_filled s.spaces (at_page p page))
-  call_filled s p (call.Protect page false) h =
-      ap (λ b. refused_or (if not (is_user_page page) then Some cause.BadPage else if not b then Some cause.NotMapped else None) reply.Done) (mapped_filled s.spaces (at_page p page))
-  call_filled s p (call.Protect page true) h = cc
-  call_filled s p call.Exit h = refl
-  call_filled s p _ h = cc
-
   pub answer_filled : (s : State) (e : Event) → only_takes e.call ≡ true → answer (filled_state F bytes s) e ≡ answer s e
-  answer_filled s e h = ap (λ (r : Reply). if is_live s e.pid then r else reply.Refused cause.NoProcess) (call_filled s e.pid e.call h)
+  answer_filled s e h = same_answer s (filled_state F bytes s) e h refl (mapped_filled s.spaces)
 
   after_filled : (s : State) (p : ℕ) (c : Call) → only_takes c ≡ true → completes (answer_of s p c) ≡ true
       → after (filled_state F bytes s) p c ≡ filled_state F bytes (after s p c)
   after_filled s p (call.Unmap page) h done = ap (λ (S : Spaces). record (after s p (call.Unmap page)) { spaces = S }) (gone_filled s.spaces (is_slot p page))
   after_filled s p (call.Protect page false) h done = ap (λ (S : Spaces). record s { spaces = S }) (right_filled s.spaces (at_page p page) false (protects_mapped s p page done))
-  after_filled s p (call.Protect page true) h done = cc
   after_filled s p call.Exit h done = ap (λ (S : Spaces). record (after s p call.Exit) { spaces = S }) (gone_filled s.spaces (is_of p))
   after_filled s p _ h done = cc
 
   pub next_filled : (s : State) (e : Event) → only_takes e.call ≡ true → next (filled_state F bytes s) e ≡ filled_state F bytes (next s e)
-  next_filled s e h = by (completes (answer s e)) refl
-    where
-      by : (b : Bool) → completes (answer s e) ≡ b → next (filled_state F bytes s) e ≡ filled_state F bytes (next s e)
-      by false is =
-          next-stays (filled_state F bytes s) e (ap completes (answer_filled s e h) ∙ is)
-          ∙ ap (filled_state F bytes) (sym (next-stays s e is))
-      by true is =
-          next-goes (filled_state F bytes s) e (ap completes (answer_filled s e h) ∙ is)
-          ∙ after_filled s e.pid e.call h (completed s e is)
-          ∙ ap (filled_state F bytes) (sym (next-goes s e is))
+  next_filled s e h = grind (arith, next-stays, answer_filled, next-goes, after_filled, completed)

@@ -17,9 +17,7 @@ LeavesFree v w = (f : ℕ) → slice_get v.roles f ≡ Some Free → frame_bytes
 
 -- a frame with another role is another frame
 apart : (roles : List Role) (f g : ℕ) (r : Role) → slice_get roles f ≡ Some Free → slice_get roles g ≡ Some r → r ≢ Free → f ≢ g
-apart roles f g r free is other same = other (
-    let k : ◌≡◌ {A = Option Role} (Some r) (Some Free) = sym is ∙ sym (ap (slice_get roles) same) ∙ free in
-    cc)
+apart roles f g r free is other same = grind arith
 
 -- a word that is written in another frame
 beside_word : (bytes : List ℕ) (g index w f : ℕ) → index < 1024 → IsInside bytes g → f ≢ g → frame_bytes (with_word bytes (word_place g index) w) f ≡ frame_bytes bytes f
@@ -119,6 +117,4 @@ module _ (directories : List (Option ℕ)) (roles : List Role) (p d f : ℕ) (li
   call_free bytes _ sound v is h = cc
 
 pub walk_leaves : (w u : View) (a : Event) (q : Reply) → IsCore w → IsWalked w a q u → LeavesFree w u
-walk_leaves w u a q core k f free =
-    ap (λ (z : View). frame_bytes z.bytes f) k.left
-    ∙ call_free w.directories w.roles a.pid k.directory f k.live free w.bytes a.call (spaces w core).sound w refl k.finds
+walk_leaves w u a q core k f free = grind (arith, call_free, spaces)

@@ -1,6 +1,6 @@
 -- A mapped page of a core: what a walk finds there, and what a processor may keep of it.
 use Rattle.shootdowns.proofs.Prelude
-use Prelude.{◌≡◌, ℕ, ◌<◌, ◌^◌, true, false, ap, sym, ◌∙◌, arith, Bool, Option, Some, unwrap_or, refl, option_map, page_number, frame_number, is_lazy, is_dirty, Access, Read, Write, walk_of, directory_at, page_word, is_lazy_at, Slot, Cell, at_page, way_of, way_parts, memory_of, View, IsCore, IsGiven, ways_of, has, walk_finds}
+use Prelude.{◌≡◌, ℕ, ◌<◌, ◌^◌, true, false, ap, ◌∙◌, arith, Bool, Some, page_number, frame_number, Access, Read, Write, walk_of, directory_at, page_word, is_lazy_at, Slot, Cell, at_page, way_of, way_parts, memory_of, View, IsCore, IsGiven, ways_of, has, walk_finds}
 use Rattle.std.proofs.Common.{Ok}
 use Rattle.page_words.specs.FiniteMap as map
 use Rattle.shootdowns.proofs.Accesses.{word_mapped, way_at}
@@ -8,17 +8,7 @@ use Rattle.shootdowns.proofs.Onward.{stands_at}
 
 -- a page that is dirty isn't lazy
 pub dirty_real : (v : View) → IsCore v → (slot : Slot) (c : Cell) → map.get v.state.spaces slot ≡ Some c → c.dirty ≡ true → is_lazy_at (memory_of v) slot ≡ false
-dirty_real v core slot c there dirty = ap (λ (y : Option ℕ). unwrap_or (option_map is_lazy y) false) word.1 ∙ by (is_lazy word.0) refl
-  where
-    word : (n : ℕ) × (page_word (memory_of v) slot ≡ Some n)
-    word = word_mapped v core slot c there
-
-    by : (b : Bool) → is_lazy word.0 ≡ b → is_lazy word.0 ≡ false
-    by false is = is
-    by true is = absurd (
-        let clean : is_dirty word.0 ≡ false = (ways_of core).clean slot word.0 word.1 is in
-        let k : true ≡ false = sym dirty ∙ (stands_at v core slot c word.0 there word.1).dirty ∙ clean in
-        cc)
+dirty_real v core slot c there dirty = grind (arith, word_mapped, ways_of, stands_at)
 
 module _ (v : View) (core : IsCore v) (p page : ℕ) (c : Cell) (there : map.get v.state.spaces (at_page p page) ≡ Some c) where
   abbrev word : (n : ℕ) × (page_word (memory_of v) (at_page p page) ≡ Some n)

@@ -1,6 +1,6 @@
 -- Steps of windows are events in an order.
 use Rattle.shootdowns.proofs.Prelude
-use Prelude.{◌≡◌, ◌≢◌, ℕ, arith, true, false, List, [], ◌∷◌, ◌++◌, length, refl, ap, sym, ◌∙◌, subst, Option, Some, None, ◌⊎◌, slice_get, option_map, slice_get_within, slot_number, same_map, frame_number, frame_bytes, word_at, word_place, with_word_in, frames-with_word, with_frame-other, Role, Free, Directory, Page, walked_word, page_word, directory_of, Slot, Cell, Spaces, with_bytes, memory_of, State, View, IsWellFormed, answers, next, end_of, IsCore, Processors, with_kept, AllAreRead, AreAmong, IsWalked, IsMarked, Kept, IsRead, AreRead, Ends, ended_by, left_by, Event, Reply, Ended, left_read, walks_leave_cores, marks_leave_cores, among_read, read_with, one, kept-next, only_takes, Acknowledged, nobody, usable, Moment, acknowledged, ended_in, settled, under_way, Step, begun, loaded, walked, marked, ordered, usual, refilled, forgotten, invalidated, told, Steps, none, first, memory_in, state_of, Stands, ShootdownsMakeEvents, stored_clean}
+use Prelude.{◌≡◌, ◌≢◌, ℕ, arith, true, false, List, [], ◌∷◌, length, refl, ap, sym, ◌∙◌, subst, Option, Some, None, ◌⊎◌, slice_get, option_map, slice_get_within, same_map, frame_number, frame_bytes, frames-with_word, with_frame-other, Role, Free, Directory, Page, page_word, directory_of, Slot, Cell, Spaces, with_bytes, memory_of, State, View, IsWellFormed, answers, next, end_of, IsCore, Processors, with_kept, AllAreRead, AreAmong, IsWalked, IsMarked, Kept, IsRead, AreRead, Ends, ended_by, left_by, Event, Reply, Ended, left_read, walks_leave_cores, marks_leave_cores, among_read, read_with, one, kept-next, only_takes, Acknowledged, nobody, usable, Moment, acknowledged, ended_in, settled, under_way, Step, begun, loaded, walked, marked, ordered, usual, refilled, forgotten, invalidated, told, Steps, none, first, memory_in, state_of, Stands, ShootdownsMakeEvents, stored_clean}
 use Rattle.std.specs.Prelude.{◌*◌, is_some}
 use Rattle.shootdowns.specs.Windows.{stored}
 use Rattle.shootdowns.proofs.Accesses.{frame_at}
@@ -38,9 +38,7 @@ mark_leaves w core u k f free =
     let apart : f ≢ k.directory = λ same. (
     let n : ◌≡◌ {A = Option Role} (Some Free) (Some (Directory k.pid)) = sym free ∙ ap (slice_get w.roles) same ∙ role in
     cc) in
-    ap (λ (z : View). frame_bytes z.bytes f) k.left
-    ∙ ap (λ (m : ℕ → List ℕ). m f) (frames-with_word w.bytes k.directory (slot_number k.page) (walked_word k.walked (word_at w.bytes (word_place k.directory (slot_number k.page)))) (omega (arith, high)) (omega (arith, within, size)))
-    ∙ with_frame-other (frame_bytes w.bytes) k.directory f (with_word_in (frame_bytes w.bytes k.directory) (slot_number k.page) (walked_word k.walked (word_at w.bytes (word_place k.directory (slot_number k.page))))) apart
+    grind (arith, frames-with_word, with_frame-other)
 
 -- what any such step leaves, where the order's state grows to another
 onward : (x : Ended) (done : Acknowledged) (e : Event) (r : Reply) (s t : State) (w u : View) (keeps : Processors) → only_takes e.call ≡ true → (v : View) → Taken v e s w keeps → IsCore w → IsCore u
@@ -141,10 +139,7 @@ one_marked x done e r s w u keeps takes good k =
 
 -- a processor keeps one more
 more_kept : (m : Moment) (keeps : Processors) (i : ℕ) (k : Kept) → IsRead (memory_in m) k → Good m keeps → Good m (with_kept keeps i (k ∷ keeps i))
-more_kept (settled x done w) keeps i k read good = record {
-  stands = (good.stands.0, left_more x done w keeps i k read good.stands.1);
-  taken = tt;
-}
+more_kept (settled x done w) keeps i k read good = grind (arith, left_more)
 more_kept (under_way x done e r s w) keeps i k read good = record {
   stands = (good.stands.0, left_more x done w keeps i k read good.stands.1, good.stands.2, good.stands.3);
   taken = λ takes.
@@ -223,12 +218,8 @@ step (stored_clean {x = x} {done = done} {w = w} {s = s} {keeps = keeps} {e = e}
     one_clean x done e r keeps right i s w t.0 (record { stands = good.stands; taken = t.1 }) a q bytes l
 step (walked {x = x} {done = done} {w = w} {u = u} {s = s} {keeps = keeps} {e = e} {a = a} {r = r} {q = q} takes k) good = one_walked x done e r s w u keeps takes good a q k
 step (marked {x = x} {done = done} {w = w} {u = u} {s = s} {keeps = keeps} {e = e} {r = r} takes k) good = one_marked x done e r s w u keeps takes good k
-step (ordered {x = x} {done = done} {w = w} {s = s} {keeps = keeps} {e = e} {r = r}) good =
-    is_event (under_way x done e r s w) (settled x done w) e r keeps good.stands.3 good.stands.2
-    (record { stands = (good.stands.0, good.stands.1); taken = tt })
-step (usual {x = x} {done = done} {v = v} {w = w} {keeps = keeps} {es = es} {rs = rs} own) good =
-    let now = one own good.stands.0 good.stands.1 in
-    record { replies = now.replies; state = now.state; good = record { stands = (now.core, now.kept); taken = tt } }
+step (ordered {x = x} {done = done} {w = w} {s = s} {keeps = keeps} {e = e} {r = r}) good = grind (arith, is_event)
+step (usual {x = x} {done = done} {v = v} {w = w} {keeps = keeps} {es = es} {rs = rs} own) good = grind (arith, one)
 step (refilled {m = m} {keeps = keeps} i k read) good = is_none m m (with_kept keeps i (k ∷ keeps i)) refl (more_kept m keeps i k read good)
 step (forgotten {m = m} {keeps = keeps} i left among) good = is_none m m (with_kept keeps i left) refl (fewer_kept m keeps i left among good)
 step (invalidated {m = m} {keeps = keeps} i) good = is_none m (acknowledged m i) (with_kept keeps i (left_by (ended_in m) (keeps i))) (same_state m i) (done_kept m keeps i good)
@@ -248,13 +239,7 @@ all_steps none good = record { replies = refl; state = refl; stands = good.stand
 all_steps (first {es = es} {events = events} {rs = rs} {replies = replies} now more) good =
     let here = step now good in
     let later = all_steps more here.good in
-    record {
-      replies = ap (λ (l : List Reply). rs ++ l) later.replies ∙ here.replies events;
-      state = later.state ∙ here.state events;
-      stands = later.stands;
-    }
+    grind arith
 
 pub shootdowns_make_events : ShootdownsMakeEvents
-shootdowns_make_events v m keeps last events replies core all steps =
-    let came = all_steps steps (record { stands = (core, λ i. subst (AreRead v) (sym (none_left (keeps i))) (all i)); taken = tt }) in
-    record { replies = came.replies; state = came.state; stands = came.stands }
+shootdowns_make_events v m keeps last events replies core all steps = grind (arith, all_steps, none_left)

@@ -1,6 +1,6 @@
 -- What processors keep apart from what was ended.
 use Rattle.shootdowns.proofs.Prelude
-use Prelude.{◌≡◌, ℕ, zero, suc, Bool, true, false, ◌==◌, eq-eqb, List, [], ◌∷◌, refl, ap, sym, ◌∙◌, subst, inl, inr, Some, cases_eq, ne_eqb, ◌⊎◌, if◌then◌else◌, slice_get, View, Processors, with_kept, AllAreRead, AreAmong, Kept, translation, directory_entry, IsRead, AreRead, is_invalidated, left_by, Ended, read_at, among_read, Acknowledged, with_one, usable, KeepsNone}
+use Prelude.{◌≡◌, ℕ, zero, suc, Bool, true, false, ◌==◌, eq-eqb, List, [], ◌∷◌, refl, ap, sym, subst, inl, inr, Some, cases_eq, ne_eqb, ◌⊎◌, if◌then◌else◌, slice_get, View, Processors, with_kept, AllAreRead, AreAmong, Kept, translation, directory_entry, IsRead, AreRead, is_invalidated, left_by, Ended, read_at, among_read, Acknowledged, with_one, usable, KeepsNone, arith}
 use Rattle.kernel_calls.specs.declared.translations.Ended.TheVariants as end
 
 none_there : (n : ℕ) (k : Kept) → slice_get {X = Kept} [] n ≡ Some k → ⊥
@@ -11,12 +11,7 @@ none_there (suc n) k h = cc
 pub spared : (x : Ended) (w : View) (kept : List Kept) → AreRead w (left_by x kept) → (n : ℕ) (k : Kept) → slice_get kept n ≡ Some k
     → is_invalidated x k ≡ false → IsRead w k
 spared x w [] all n k there not = absurd (none_there n k there)
-spared x w (y ∷ kept) all zero k there not =
-    let e : y ≡ k = cc in
-    subst (IsRead w) e (here x w y kept all (ap (is_invalidated x) e ∙ not))
-  where
-    here : (x : Ended) (w : View) (y : Kept) (kept : List Kept) → AreRead w (left_by x (y ∷ kept)) → is_invalidated x y ≡ false → IsRead w y
-    here x w y kept all is = (subst (λ b. AreRead w (if b then left_by x kept else y ∷ left_by x kept)) is all).0
+spared x w (y ∷ kept) all zero k there not = grind arith
 spared x w (y ∷ kept) all (suc n) k there not = spared x w kept (rest (is_invalidated x y) all) n k there not
   where
     rest : (b : Bool) → AreRead w (if b then left_by x kept else y ∷ left_by x kept) → AreRead w (left_by x kept)
@@ -54,11 +49,7 @@ among x w left kept one false all = sparing x w left (λ m k there not. let n = 
 
 more : (x : Ended) (w : View) (k : Kept) (kept : List Kept) → IsRead w k → (b : Bool) → AreRead w (Usable x b kept) → AreRead w (Usable x b (k ∷ kept))
 more x w k kept read true all = (read, all)
-more x w k kept read false all = sparing x w (k ∷ kept) at
-  where
-    at : (n : ℕ) (y : Kept) → slice_get (k ∷ kept) n ≡ Some y → is_invalidated x y ≡ false → IsRead w y
-    at zero y there not = let e : k ≡ y = cc in subst (IsRead w) e read
-    at (suc n) y there not = spared x w kept all n y there not
+more x w k kept read false all = grind (arith, sparing, spared)
 
 -- what is left once these are invalidated
 pub left_all : (x : Ended) (w : View) (kept : List Kept) → AreRead w kept → AreRead w (left_by x kept)

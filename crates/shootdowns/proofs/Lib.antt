@@ -1,5 +1,6 @@
 pub mod Accesses
 pub mod Alike
+pub mod Cells
 pub mod CleanStores
 pub mod Dirtied
 pub mod DirtyCells

@@ -1,6 +1,6 @@
 -- Memory after an access by a walk, while an event that only takes away isn't in the order.
 use Rattle.shootdowns.proofs.Prelude
-use Prelude.{◌≡◌, ℕ, ◌<◌, ◌^◌, Bool, true, false, refl, ap, sym, ◌∙◌, subst, arith, inl, inr, Option, Some, None, is_some, ◌⊎◌, if◌then◌else◌, MatchBool, Ok, slice_get, option_map, option_and_then, slice_get_within, page_number, start_number, frame_number, is_lazy, some_value, frame_bytes, Role, Reserved, Free, Page, Read, walk_of, directory_at, table_at, page_word, page_frame, is_lazy_at, CellStands, own_frame, Slot, Cell, at_page, slot_at, way_of, WalkEndsBy, way_parts, from_then, owned, own_is, memory_of, State, View, IsWellFormed, next, IsCore, Ends, WalkGives, Event, walks_of, ways_of, tables_map, only_takes}
+use Prelude.{◌≡◌, ℕ, ◌<◌, ◌^◌, Bool, true, false, refl, ap, sym, ◌∙◌, arith, Option, Some, None, is_some, ◌⊎◌, if◌then◌else◌, MatchBool, Ok, slice_get, option_map, option_and_then, slice_get_within, page_number, start_number, frame_number, is_lazy, some_value, frame_bytes, Role, Free, Page, Read, walk_of, directory_at, table_at, page_word, page_frame, is_lazy_at, CellStands, own_frame, Slot, Cell, at_page, slot_at, way_of, WalkEndsBy, way_parts, from_then, owned, own_is, memory_of, State, View, IsWellFormed, next, IsCore, Ends, WalkGives, Event, walks_of, ways_of, tables_map, only_takes, subst, inl, inr}
 use Rattle.page_words.specs.FiniteMap as map
 use Rattle.page_words.specs.FiniteSet as set
 use Rattle.kernel_calls.specs.declared.translations.Ended.TheVariants as end
@@ -115,11 +115,7 @@ module _ (v : View) (before : IsCore v) (s t : State) (first : Alike v.state s) 
         (n.0, n.1, by n.0 (is_lazy n.0) refl ((stands.group slot).0 (sym (ap (λ g. set.contains g slot) old.2.holders) ∙ inside)))
       where
         by : (n : ℕ) (z : Bool) → is_lazy n ≡ z → MatchBool (is_lazy n) (slot ≡ b) (page_frame (memory_of v) slot ≡ Some (frame_number n)) → page_frame (memory_of v) slot ≡ Some (frame_number n)
-        by n true lazy h = absurd (
-            let same : slot ≡ b = subst (λ z. MatchBool z (slot ≡ b) (page_frame (memory_of v) slot ≡ Some (frame_number n))) lazy h in
-            let k : true ≡ false = sym mapped ∙ keys b ∙ sym (ap (λ q. is_some (map.get x.state.spaces q)) same) ∙ none in
-            cc)
-        by n false real h = subst (λ z. MatchBool z (slot ≡ b) (page_frame (memory_of v) slot ≡ Some (frame_number n))) real h
+        by n x1 x2 h = grind arith
 
     gone_here : is_some (map.get w.state.spaces slot) ≡ false
     gone_here = keys slot ∙ none
@@ -172,12 +168,7 @@ module _ (v : View) (before : IsCore v) (s t : State) (first : Alike v.state s) 
             by now.0 now.1 same (is_lazy now.0) refl
           where
             by : (m : ℕ) → page_word (memory_of w) b ≡ Some m → frame_number m ≡ frame_number word_here.0 → (z : Bool) → is_lazy m ≡ z → ⊥
-            by m there same true lazy =
-                let zero = lazy_zero w core b m there lazy in
-                let within = slice_get_within v.roles (frame_number word_here.0) (Page c) is_page in
-                let none : frame_number word_here.0 ≡ 0 = sym same ∙ zero in
-                let k : ◌≡◌ {A = Option Role} (Some Reserved) (Some (Page c)) = sym ((before.image.memory.sound.reserved (frame_number word_here.0) within).1 none) ∙ is_page in
-                cc
+            by m there same true lazy = grind (arith, lazy_zero, slice_get_within)
             by m there same false full =
                 let page = core.image.memory.sound.pages b (frame_number word_here.0) (ap (option_and_then (own_frame 2)) there ∙ own_is m full ∙ ap Some same) in
                 let k : ◌≡◌ {A = Option Role} (Some Free) (Some (Page page.0)) = sym is_free ∙ page.1 in

@@ -1,7 +1,7 @@
 -- Memory in which bytes of pages and of free frames were written, or dirty was set in words of pages that aren't lazy: it
 -- is a core's, whose cells have those bytes, and dirty there.
 use Rattle.shootdowns.proofs.Prelude
-use Prelude.{◌≡◌, ◌≤◌, ◌≢◌, ℕ, ◌+◌, ◌*◌, ◌<◌, ◌^◌, Bool, true, false, List, [], ◌∷◌, length, refl, ap, sym, ◌∙◌, subst, arith, inr, Option, Some, None, ◌↔◌, ◌&&◌, not, if◌then◌else◌, nat_lt, IsTrue, MatchBool, slice_get, sum_by, Ok, option_and_then, option_map, slot_number, index_number, nat_order, flag, with_flag, frame_number, is_present, is_accessed, is_lazy, IsKernelDirWord, NamesPage, flag-with_flag_same, set_flag_other, set_flag_frame, is_some-map, frame_bytes, word_in, Table, Access, Read, Write, walk_of, directory_at, table_at, word_of, named_by, present_word, page_word, page_frame, is_lazy_at, IsCount, SlotStands, CellStands, is_lazy_word, own_frame, IsTableWord, Slot, slot_order, Cell, slot_at, at_page, way_of, from_map, IsSoundImage, Account, IsCharge, image_of, memory_of, account_of, quota_from, State, View, IsWellFormed, Member, given, IsCore, Kept, translation, directory_entry, IsRead, AreRead, ways_of, has, walk_takes, walk_finds, has_right}
+use Prelude.{◌≡◌, ◌≤◌, ◌≢◌, ℕ, ◌+◌, ◌*◌, ◌<◌, ◌^◌, Bool, true, false, List, [], ◌∷◌, length, refl, ap, sym, ◌∙◌, subst, arith, inr, Option, Some, None, ◌↔◌, ◌&&◌, not, if◌then◌else◌, nat_lt, IsTrue, MatchBool, slice_get, sum_by, Ok, option_and_then, option_map, slot_number, index_number, nat_order, flag, with_flag, frame_number, is_present, is_accessed, is_lazy, IsKernelDirWord, NamesPage, flag-with_flag_same, set_flag_other, set_flag_frame, is_some-map, frame_bytes, word_in, Table, Access, Read, Write, walk_of, directory_at, table_at, word_of, present_word, page_word, page_frame, is_lazy_at, IsCount, SlotStands, CellStands, is_lazy_word, own_frame, IsTableWord, Slot, slot_order, Cell, slot_at, at_page, way_of, from_map, IsSoundImage, Account, IsCharge, image_of, memory_of, account_of, quota_from, State, View, IsWellFormed, given, IsCore, Kept, translation, directory_entry, IsRead, AreRead, ways_of, has, walk_takes, walk_finds, has_right}
 use Rattle.std.specs.Prelude.{is_some}
 use Rattle.std.specs.Option.{unwrap_or}
 use Rattle.std.specs.List.{range_with_len}
@@ -144,9 +144,7 @@ module _ (w : View) (core : IsCore w) (F : Slot → ℕ) (one : Slot → Bool) (
       there = ap (table_at (memory_of w) q) region ∙ linked
 
       present : (a b : Bool) (word n : ℕ) → (if a && b then Some word else None) ≡ Some n → word ≡ n
-      present true true word n k = cc
-      present true false word n k = cc
-      present false b word n k = cc
+      present x0 x1 word n k = grind arith
 
   sound : memory.IsSoundImage (memory_of x)
   sound = record {
@@ -203,10 +201,7 @@ module _ (w : View) (core : IsCore w) (F : Slot → ℕ) (one : Slot → Bool) (
 
       by : (y : Option ℕ) → page_word (memory_of w) slot ≡ y → (z : Option Cell) → SlotStands (memory_of w) slot y z
           → SlotStands (memory_of x) slot (option_map (mark (one slot)) y) (option_map (change slot) z)
-      by None is None k = tt
-      by None is (Some c) k = absurd k
-      by (Some n) is None k = absurd k
-      by (Some n) is (Some c) k = stands (one slot) n c (r.names slot n is) k
+      by x0 is x2 k = grind (arith, stands)
 
   -- ---- Accounts
 
@@ -214,9 +209,7 @@ module _ (w : View) (core : IsCore w) (F : Slot → ℕ) (one : Slot → Bool) (
   keys_same q = ap is_some (r.cells q) ∙ is_some-map (change q) (map.get w.state.spaces q)
 
   account_same : (q : ℕ) → account_of t q ≡ account_of w.state q
-  account_same q =
-      let used = cost-same t.spaces w.state.spaces q keys_same in
-      λ i. option_map (λ (m : Member). record { parent = m.parent; quota = m.quota; used = used i; given = given (r.book i) q }) (map.get (r.book i) q)
+  account_same q = grind (arith, cost-same, keys_same)
 
   charge_same : (q used : ℕ) → IsCharge (memory_of w) q used → IsCharge (memory_of x) q used
   charge_same q used k = record {
@@ -263,12 +256,7 @@ module _ (w : View) (core : IsCore w) (F : Slot → ℕ) (one : Slot → Bool) (
       (ap (has (λ c. c.write)) (r.cells (slot_at p a)) ∙ writes (map.get w.state.spaces (slot_at p a)) ∙ right.0, lazy_same (slot_at p a) ∙ right.1))
     where
       writes : (z : Option Cell) → has (λ c. c.write) (option_map (change (slot_at p a)) z) ≡ has (λ c. c.write) z
-      writes z = by (one (slot_at p a)) z
-        where
-          by : (b : Bool) (z : Option Cell) → has (λ c. c.write) (option_map (λ c. fill F bytes (slot_at p a) (dirt b c)) z) ≡ has (λ c. c.write) z
-          by b None = refl
-          by true (Some c) = refl
-          by false (Some c) = refl
+      writes z = grind (arith, has, fill, dirt)
 
   kept_same : (k : Kept) → IsRead w k → IsRead x k
   kept_same (translation k) g = record {

@@ -1,6 +1,6 @@
 -- Uses of what was kept come after an event that gives lazy pages frames and leaves their zeros.
 use Rattle.shootdowns.proofs.Prelude
-use Prelude.{◌≡◌, ◌≢◌, ℕ, Bool, true, false, List, [], ◌∷◌, ◌+◌, refl, ap, sym, ◌∙◌, arith, inl, inr, Option, Some, None, subst, unwrap_or, is_some, ◌⊎◌, if◌then◌else◌, slice_get, slice_index, page_number, offset_number, byte_count, EachTouched, Size, frame_bytes, byte-frame, Read, Write, directory_at, is_lazy_at, kept_place, number_at, Slot, Cell, at_page, slot_at, fresh, byte_at, value_of, each_byte, same_each, memory_of, State, is_live, is_mapped, View, touched_user, plan_of, plan_at, each_page, walk_completes, Serves, ServesCall, ServesEvent, IsLoad, IsStore, reply_kept, answer, answer_of, answers, after, next, completes, end_of, IsCore, IsLeft, Processors, AllAreRead, IsLoaded, LetsThrough, LetCall, Translation, translation, IsGiven, Ends, AreRead, ended_by, is_ended, Call, Event, Reply, Ended, goes-call, next-goes, Touched, loaded_same, live, kept_find, kept_reply, stores_leave_cores, left_read, read_at, answered, goes_frameless, told_planned, IsStale, Uses, ComeAfter, UsesComeAfterZeros}
+use Prelude.{◌≡◌, ◌≢◌, ℕ, Bool, true, false, List, [], ◌∷◌, ◌+◌, refl, ap, sym, ◌∙◌, arith, inl, inr, Option, Some, None, subst, is_some, ◌⊎◌, if◌then◌else◌, slice_get, slice_index, page_number, byte_count, EachTouched, Size, frame_bytes, byte-frame, Read, Write, directory_at, is_lazy_at, kept_place, number_at, Slot, Cell, at_page, byte_at, value_of, each_byte, same_each, memory_of, State, is_live, is_mapped, View, touched_user, plan_at, each_page, walk_completes, Serves, ServesCall, ServesEvent, IsLoad, IsStore, reply_kept, answer, answer_of, after, next, completes, IsCore, IsLeft, Processors, AllAreRead, IsLoaded, LetsThrough, LetCall, Translation, translation, IsGiven, Ends, AreRead, ended_by, is_ended, Call, Event, Reply, Ended, goes-call, next-goes, Touched, loaded_same, live, kept_find, kept_reply, stores_leave_cores, left_read, read_at, answered, goes_frameless, told_planned, IsStale, Uses, ComeAfter, UsesComeAfterZeros}
 use Rattle.page_words.specs.FiniteMap as map
 use Rattle.page_words.specs.FiniteSet as set
 use Rattle.process_table.specs.Calls as calls
@@ -32,9 +32,7 @@ FindsCall u p frames _ = ⊥
 
 module _ (u : View) (core : IsCore u) (p : ℕ) (frames : ℕ → ℕ) where
   byte_found : (a : ℕ) → Finds u p (page_number a) (frames (page_number a)) → byte_at u.state.spaces p a ≡ slice_index u.bytes (kept_place frames a)
-  byte_found a f =
-      ap (λ (z : Option Cell). slice_index (unwrap_or z (fresh (slot_at p a) true)).bytes (offset_number a)) f.there
-      ∙ ap (λ b. slice_index b (offset_number a)) f.bytes ∙ byte-frame u.bytes (frames (page_number a)) (offset_number a) (omega arith)
+  byte_found a f = grind (arith, byte-frame)
 
   number_found : (addr : ℕ) (size : Size) → EachTouched addr size (λ page. Finds u p page (frames page)) → calls.loaded u.state p addr size ≡ number_at frames u.bytes addr size
   number_found addr size found = ap value_of (same_each (byte_at u.state.spaces p) (λ a. slice_index u.bytes (kept_place frames a)) addr (byte_count size)
@@ -47,9 +45,7 @@ module _ (u : View) (core : IsCore u) (p : ℕ) (frames : ℕ → ℕ) where
       ∙ goes_frameless (plan_at u p addr size Read) (walk_completes u p addr size Read (touched_user u.state p addr size core.well_formed mapped) mapped (λ w. cc))
 
   call_found : (c : Call) → FindsCall u p frames c → answer_of u.state p c ≡ reply_kept frames u.bytes c
-  call_found (call.Load addr size) found =
-      told_planned (plan_of u.state p addr size Read) (reply.Value (calls.loaded u.state p addr size)) (done_found addr size found) ∙ ap reply.Value (number_found addr size found)
-  call_found _ found = absurd found
+  call_found x0 found = grind (arith, told_planned, done_found, number_found)
 
   call_same : (c : Call) → FindsCall u p frames c → after u.state p c ≡ u.state
   call_same (call.Load addr size) found = loaded_same u.state p addr size
@@ -112,9 +108,7 @@ module _ (v : View) (before : IsCore v) (x : Ended) (keeps : Processors) (all : 
     load_finds p frames _ load lets = absurd load
 
     one_load : (a : Event) (q : Reply) → IsLoaded (keeps i) u a q → (q ≡ answer u.state a) × (next u.state a ≡ u.state)
-    one_load a q l =
-        let found = load_found u t.core l.frames a (load_finds a.pid l.frames a.call l.load l.through) in
-        (l.found ∙ sym found.0, found.1)
+    one_load a q l = grind (arith, load_found, load_finds)
 
     -- what lets a store through isn't ended
     record Stores (p page frame : ℕ) : Type 0 where
@@ -231,11 +225,7 @@ module _ (v : View) (before : IsCore v) (x : Ended) (keeps : Processors) (all : 
   all_uses (loaded {u = u} {a = a} {q = q} {events = events} {replies = replies} i l more) t =
       let here = one_load u t i a q l in
       let later = all_uses more t in
-      record {
-        replies = (λ j. here.0 j ∷ later.replies j) ∙ ap (λ (s : State). answer u.state a ∷ answers s events) (sym here.1);
-        state = later.state ∙ ap (λ (s : State). end_of s events) (sym here.1);
-        core = later.core;
-      }
+      grind arith
   all_uses (stored {u = u} {a = a} {q = q} {bytes = bytes} {events = events} {replies = replies} i l more) t =
       let later = all_uses more (store_after u t i a q bytes l) in
       record { replies = (λ j. store_told u t i a q bytes l j ∷ later.replies j); state = later.state; core = later.core }

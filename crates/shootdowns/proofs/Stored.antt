@@ -1,8 +1,9 @@
 -- Stores into the frames of pages, on cells that have these frames' bytes.
 use Rattle.shootdowns.proofs.Prelude
-use Prelude.{◌≡◌, ◌≢◌, ℕ, zero, suc, ◌+◌, ◌*◌, ◌/◌, ◌%◌, ◌<◌, ◌≤◌, Bool, true, false, cond, List, [], ◌∷◌, length, length-set, refl, ap, sym, ◌∙◌, subst, arith, inl, inr, Option, Some, None, unwrap_or, ◌⊎◌, if◌then◌else◌, slice_set, option_map, page_number, offset_number, same, same_map, same_or_not, get-insert, get-map_values, frame_bytes, IsInside, with_frame, frames-with_byte, with_frame-same, with_frame-other, length-frame, kept_place, written_at, Slot, slot_order, Cell, Spaces, at_page, cell_or_fresh, fresh, with_bytes, set_bytes, write_at, stored, all_stored, bytes_of, byte_is_write}
+use Prelude.{◌≡◌, ◌≢◌, ℕ, zero, suc, ◌+◌, ◌*◌, ◌/◌, ◌%◌, ◌<◌, ◌≤◌, Bool, true, false, cond, List, [], ◌∷◌, length, length-set, refl, ap, sym, ◌∙◌, subst, arith, inl, inr, Option, Some, ◌⊎◌, if◌then◌else◌, slice_set, option_map, page_number, offset_number, same, same_map, same_or_not, frame_bytes, IsInside, with_frame, frames-with_byte, with_frame-same, with_frame-other, length-frame, kept_place, written_at, Slot, slot_order, Cell, Spaces, at_page, with_bytes, write_at, stored, all_stored, bytes_of, byte_is_write}
 use Rattle.page_words.specs.FiniteMap as map
 use Rattle.page_words.specs.FiniteSet as set
+use Rattle.shootdowns.proofs.Cells.{get_stored, first_of, rest_of}
 use Rattle.shootdowns.proofs.Filled.{fill, filled, get_filled}
 
 -- memory keeps its length
@@ -17,13 +18,11 @@ pub frames_beside : (frames : ℕ → ℕ) (k v : ℕ) (bytes : List ℕ) (a g :
     → frame_bytes (written_at frames bytes a (bytes_of k v)) g ≡ frame_bytes bytes g
 frames_beside frames zero v bytes a g each = refl
 frames_beside frames (suc k) v bytes a g each =
-    let none : a + 0 ≡ a = omega arith in
-    let here = subst (λ n. IsInside bytes (frames (page_number n)) × (g ≢ frames (page_number n))) none (each 0 (omega arith)) in
+    let here = first_of (λ n. IsInside bytes (frames (page_number n)) × (g ≢ frames (page_number n))) k a each in
     let long = length-set bytes (kept_place frames a) (v % 256) in
     frames_beside frames k (v / 256) (slice_set bytes (kept_place frames a) (v % 256)) (a + 1) g
     (λ i l.
-    let next : a + suc i ≡ a + 1 + i = omega arith in
-    let there = subst (λ n. IsInside bytes (frames (page_number n)) × (g ≢ frames (page_number n))) next (each (suc i) (omega (arith, l))) in
+    let there = rest_of (λ n. IsInside bytes (frames (page_number n)) × (g ≢ frames (page_number n))) k a each i l in
     (subst (λ n. 4096 * frames (page_number (a + 1 + i)) + 4096 ≤ n) (sym long) there.0, there.1))
     ∙ ap (λ (m : ℕ → List ℕ). m g) (frames-with_byte bytes (frames (page_number a)) (offset_number a) (v % 256) (omega arith) here.0)
     ∙ with_frame-other (frame_bytes bytes) (frames (page_number a)) g (slice_set (frame_bytes bytes (frames (page_number a))) (offset_number a) (v % 256)) here.1
@@ -43,13 +42,9 @@ module _ (F : Slot → ℕ) (S : Spaces) (p : ℕ) (frames : ℕ → ℕ) where
   -- one byte
   put : (bytes : List ℕ) (page o v : ℕ) → o < 4096 → Held (length bytes) page
       → stored (filled F bytes S) (at_page p page) o (v % 256 ∷ []) ≡ filled F (slice_set bytes (4096 * frames page + o) (v % 256)) S
-  put bytes page o v small h =
-      ap (λ (c : Cell). map.insert (set_bytes (filled F bytes S) c.holders (write_at c.bytes o (v % 256 ∷ []))) slot (record c { bytes = write_at c.bytes o (v % 256 ∷ []); accessed = true; dirty = true })) cell_is
-      ∙ same_map _ _ (λ r.
-      get-insert (set_bytes (filled F bytes S) h.cell.holders new) slot done r
-      ∙ ap (cond (same slot_order r slot) (Some done))
-      (get-map_values slot_order (λ q (c : Cell). if set.contains h.cell.holders q then with_bytes c new else c) (filled F bytes S) r
-      ∙ ap (option_map (λ (c : Cell). if set.contains h.cell.holders r then with_bytes c new else c)) (get_filled F bytes S r))
+  put bytes page o v small h = same_map _ _ (λ r.
+      get_stored (filled F bytes S) slot (fill F bytes slot h.cell) (get_filled F bytes S slot ∙ ap (option_map (fill F bytes slot)) h.there) o (v % 256 ∷ []) r
+      ∙ ap (λ (z : Option Cell). cond (same slot_order r slot) (Some done) (option_map (λ (c : Cell). if set.contains h.cell.holders r then with_bytes c new else c) z)) (get_filled F bytes S r)
       ∙ by r (same_or_not slot_order r slot)
       ∙ sym (get_filled F two S r))
     where
@@ -61,9 +56,6 @@ module _ (F : Slot → ℕ) (S : Spaces) (p : ℕ) (frames : ℕ → ℕ) where
 
       two : List ℕ
       two = slice_set bytes (4096 * f + o) (v % 256)
-
-      cell_is : cell_or_fresh (filled F bytes S) slot ≡ fill F bytes slot h.cell
-      cell_is = ap (λ (z : Option Cell). unwrap_or z (fresh slot true)) (get_filled F bytes S slot ∙ ap (option_map (fill F bytes slot)) h.there)
 
       new : List ℕ
       new = write_at (frame_bytes bytes (F slot)) o (v % 256 ∷ [])
@@ -78,10 +70,7 @@ module _ (F : Slot → ℕ) (S : Spaces) (p : ℕ) (frames : ℕ → ℕ) where
       long = length-frame bytes f h.inside
 
       own : frame_bytes two f ≡ new
-      own =
-          ap (λ (m : ℕ → List ℕ). m f) all ∙ with_frame-same (frame_bytes bytes) f (slice_set (frame_bytes bytes f) o (v % 256))
-          ∙ byte_is_write (frame_bytes bytes f) o v (omega (arith, small, long))
-          ∙ ap (λ g. write_at (frame_bytes bytes g) o (v % 256 ∷ [])) (sym h.frame)
+      own = grind (arith, f, all, with_frame-same, byte_is_write, long)
 
       other : (g : ℕ) → g ≢ f → frame_bytes two g ≡ frame_bytes bytes g
       other g differ = ap (λ (m : ℕ → List ℕ). m g) all ∙ with_frame-other (frame_bytes bytes) f g (slice_set (frame_bytes bytes f) o (v % 256)) differ
@@ -91,18 +80,12 @@ module _ (F : Slot → ℕ) (S : Spaces) (p : ℕ) (frames : ℕ → ℕ) where
 
       in_group : (r : Slot) (z : Option Cell) → map.get S r ≡ z → (b : Bool) → set.contains h.cell.holders r ≡ b
           → option_map (λ (c : Cell). if b then with_bytes c new else c) (option_map (fill F bytes r) z) ≡ option_map (fill F two r) z
-      in_group r None is b k = refl
-      in_group r (Some d) is true k = ap (λ l. Some (with_bytes d l)) (sym own ∙ ap (frame_bytes two) (sym (h.group r d is k)))
-      in_group r (Some d) is false k = ap (λ l. Some (with_bytes d l)) (sym (other (F r) (h.apart r d is k)))
+      in_group r x1 is x3 k = grind (arith, own, two, other)
 
       by : (r : Slot) → ((r ≡ slot) × (same slot_order r slot ≡ true)) ⊎ (same slot_order r slot ≡ false)
           → cond (same slot_order r slot) (Some done) (option_map (λ (c : Cell). if set.contains h.cell.holders r then with_bytes c new else c) (option_map (fill F bytes r) (map.get S r)))
           ≡ option_map (fill F two r) (map.get S r)
-      by r (inl is) =
-          ap (λ k. cond k (Some done) (option_map (λ (c : Cell). if set.contains h.cell.holders r then with_bytes c new else c) (option_map (fill F bytes r) (map.get S r)))) is.1
-          ∙ ap (λ (c : Cell). Some c) marked
-          ∙ sym (ap (option_map (fill F two slot)) h.there)
-          ∙ (λ i. option_map (fill F two (sym is.0 i)) (map.get S (sym is.0 i)))
+      by r (inl is) = grind (arith, done, new, fill, marked, two, slot)
       by r (inr differ) =
           ap (λ k. cond k (Some done) (option_map (λ (c : Cell). if set.contains h.cell.holders r then with_bytes c new else c) (option_map (fill F bytes r) (map.get S r)))) differ
           ∙ in_group r (map.get S r) refl (set.contains h.cell.holders r) refl
@@ -112,12 +95,8 @@ module _ (F : Slot → ℕ) (S : Spaces) (p : ℕ) (frames : ℕ → ℕ) where
       → all_stored (filled F bytes S) p a (bytes_of k v) ≡ filled F (written_at frames bytes a (bytes_of k v)) S
   all_put zero v a bytes held = refl
   all_put (suc k) v a bytes held =
-      let none : a + 0 ≡ a = omega arith in
       let two = slice_set bytes (kept_place frames a) (v % 256) in
       ap (λ (T : Spaces). all_stored T p (a + 1) (bytes_of k (v / 256)))
-      (put bytes (page_number a) (offset_number a) v (omega arith) (subst (λ n. Held (length bytes) (page_number n)) none (held 0 (omega arith))))
-      ∙ all_put k (v / 256) (a + 1) two
-      (λ i l.
-      let next : a + suc i ≡ a + 1 + i = omega arith in
-      subst (λ n. Held n (page_number (a + 1 + i))) (sym (length-set bytes (kept_place frames a) (v % 256)))
-      (subst (λ n. Held (length bytes) (page_number n)) next (held (suc i) (omega (arith, l)))))
+      (put bytes (page_number a) (offset_number a) v (omega arith) (first_of (λ n. Held (length bytes) (page_number n)) k a held))
+      ∙ all_put k (v / 256) (a + 1) two (λ i l. subst (λ n. Held n (page_number (a + 1 + i))) (sym (length-set bytes (kept_place frames a) (v % 256)))
+      (rest_of (λ n. Held (length bytes) (page_number n)) k a held i l))

@@ -1,10 +1,11 @@
 -- Accesses of mapped pages, and slots that go or lose a right, in either order.
 use Rattle.shootdowns.proofs.Prelude
-use Prelude.{◌≡◌, ◌≢◌, ℕ, Bool, true, false, cond, List, refl, ap, sym, ◌∙◌, subst, inl, inr, Option, Some, None, unwrap_or, ◌⊎◌, if◌then◌else◌, option_map, same, Set, same_map, same_or_not, same_itself, get-insert, get-map_values, contains-retain, Slot, slot_order, Cell, Spaces, cell_or_fresh, fresh, with_bytes, set_bytes, write_at, stored, accessed, protected, without, get-inserted, get-inserted_other, fewer, get_gone, bytes_gone}
+use Prelude.{◌≡◌, ◌≢◌, ℕ, Bool, true, false, cond, List, refl, ap, sym, ◌∙◌, subst, inl, inr, Option, Some, None, unwrap_or, ◌⊎◌, if◌then◌else◌, option_map, same, Set, same_map, same_or_not, same_itself, get-insert, get-map_values, contains-retain, Slot, slot_order, Cell, Spaces, cell_or_fresh, fresh, with_bytes, set_bytes, write_at, stored, accessed, protected, without, get-inserted, fewer, get_gone, bytes_gone, arith}
 use Rattle.std.proofs.Common.{not, ◌&&◌}
 use Rattle.page_words.specs.FiniteMap as map
 use Rattle.page_words.specs.FiniteSet as set
 use Rattle.kernel_calls.proofs.Commuting.{two_slots}
+use Rattle.shootdowns.proofs.Cells.{written, grouped, cell_at, get_protected, get_stored}
 
 -- what stands at a slot that stays
 pub get_staying : (S : Spaces) (gone : Slot → Bool) (b : Slot) → gone b ≡ false → map.get (without S gone) b ≡ option_map (fewer gone) (map.get S b)
@@ -12,9 +13,6 @@ get_staying S gone b stays = get_gone S gone b ∙ ap (λ k. option_map (fewer g
 
 cell_staying : (S : Spaces) (gone : Slot → Bool) (b : Slot) (c : Cell) → gone b ≡ false → map.get S b ≡ Some c → cell_or_fresh (without S gone) b ≡ fewer gone c
 cell_staying S gone b c stays at = ap (λ (z : Option Cell). unwrap_or z (fresh b true)) (get_staying S gone b stays ∙ ap (option_map (fewer gone)) at)
-
-cell_at : (S : Spaces) (b : Slot) (c : Cell) → map.get S b ≡ Some c → cell_or_fresh S b ≡ c
-cell_at S b c at = ap (λ (z : Option Cell). unwrap_or z (fresh b true)) at
 
 -- a slot that stays is set
 set_gone : (S : Spaces) (gone : Slot → Bool) (b : Slot) (y : Cell) → gone b ≡ false → without (map.insert S b y) gone ≡ map.insert (without S gone) b (fewer gone y)
@@ -27,13 +25,8 @@ set_gone S gone b y stays = same_map _ _ (λ r.
     by : (r : Slot) → ((r ≡ b) × (same slot_order r b ≡ true)) ⊎ (same slot_order r b ≡ false)
         → option_map (fewer gone) (cond (not (gone r)) (cond (same slot_order r b) (Some y) (map.get S r)) None)
         ≡ cond (same slot_order r b) (Some (fewer gone y)) (option_map (fewer gone) (cond (not (gone r)) (map.get S r) None))
-    by r (inl is) =
-        let here : gone r ≡ false = ap gone is.0 ∙ stays in
-        (λ i. option_map (fewer gone) (cond (not (here i)) (cond (is.1 i) (Some y) (map.get S r)) None))
-        ∙ sym (ap (λ k. cond k (Some (fewer gone y)) (option_map (fewer gone) (cond (not (gone r)) (map.get S r) None))) is.1)
-    by r (inr other) =
-        ap (λ k. option_map (fewer gone) (cond (not (gone r)) (cond k (Some y) (map.get S r)) None)) other
-        ∙ sym (ap (λ k. cond k (Some (fewer gone y)) (option_map (fewer gone) (cond (not (gone r)) (map.get S r) None))) other)
+    by r (inl is) = grind (arith, fewer)
+    by r (inr other) = grind (arith, fewer)
 
 -- a group's bytes, where some of the group are gone
 group_gone : (S : Spaces) (gone : Slot → Bool) (h : Set slot_order) (new : List ℕ)
@@ -53,12 +46,8 @@ group_gone S gone h new = same_map _ _ (λ r.
     by : (r : Slot) (b : Bool) → gone r ≡ b
         → option_map (λ (c : Cell). if set.contains (set.retain h (λ x. not (gone x))) r then with_bytes c new else c) (map.get (without S gone) r)
         ≡ option_map (λ (c : Cell). if set.contains h r then with_bytes c new else c) (map.get (without S gone) r)
-    by r true is =
-        ap (option_map (λ (c : Cell). if set.contains (set.retain h (λ x. not (gone x))) r then with_bytes c new else c)) (none r is)
-        ∙ sym (ap (option_map (λ (c : Cell). if set.contains h r then with_bytes c new else c)) (none r is))
-    by r false is =
-        ap (λ k. option_map (λ (c : Cell). if k then with_bytes c new else c) (map.get (without S gone) r))
-        (contains-retain h (λ x. not (gone x)) r ∙ ap (λ k. set.contains h r && not k) is ∙ inside (set.contains h r))
+    by r true is = grind (arith, none)
+    by r false is = grind (arith, contains-retain, inside)
 
 -- ---- One page
 
@@ -116,53 +105,32 @@ accessed_right S a b w = by (same_or_not slot_order a b)
 pub stored_right : (S : Spaces) (a b : Slot) (c d : Cell) (w : Bool) (o : ℕ) (ys : List ℕ) → a ≢ b → map.get S b ≡ Some c → map.get S a ≡ Some d
     → protected (stored S b o ys) a w ≡ stored (protected S a w) b o ys
 stored_right S a b c d w o ys apart at there = same_map _ _ (λ r.
-    get-insert (stored S b o ys) a (record (cell_or_fresh (stored S b o ys) a) { write = w }) r
-    ∙ (λ i. cond (same slot_order r a) (Some (record (left i) { write = w })) (one r i))
+    get_protected (stored S b o ys) a (grouped c o ys a d) left w r
+    ∙ ap (cond (same slot_order r a) (Some (record (grouped c o ys a d) { write = w }))) (get_stored S b c at o ys r)
     ∙ by r (same_or_not slot_order r a) (same_or_not slot_order r b)
-    ∙ sym (ap (λ (k : Cell). map.get (map.insert (set_bytes (protected S a w) k.holders (write_at k.bytes o ys)) b (record k { bytes = write_at k.bytes o ys; accessed = true; dirty = true })) r) right
-    ∙ get-insert (set_bytes (protected S a w) c.holders (write_at c.bytes o ys)) b (record c { bytes = write_at c.bytes o ys; accessed = true; dirty = true }) r
-    ∙ ap (cond (same slot_order r b) (Some (record c { bytes = write_at c.bytes o ys; accessed = true; dirty = true })))
-    (get-map_values slot_order (λ q (k : Cell). if set.contains c.holders q then with_bytes k (write_at c.bytes o ys) else k) (protected S a w) r
-    ∙ ap (option_map (λ (k : Cell). if set.contains c.holders r then with_bytes k (write_at c.bytes o ys) else k))
-    (get-insert S a (record (cell_or_fresh S a) { write = w }) r ∙ ap (λ (k : Cell). cond (same slot_order r a) (Some (record k { write = w })) (map.get S r)) (cell_at S a d there)))))
+    ∙ sym (get_stored (protected S a w) b c right o ys r
+    ∙ ap (λ (z : Option Cell). cond (same slot_order r b) (Some (written c o ys)) (option_map (grouped c o ys r) z)) (get_protected S a d there w r)))
   where
-    one : (r : Slot) → map.get (stored S b o ys) r ≡ cond (same slot_order r b) (Some (record c { bytes = write_at c.bytes o ys; accessed = true; dirty = true })) (option_map (λ (k : Cell). if set.contains c.holders r then with_bytes k (write_at c.bytes o ys) else k) (map.get S r))
-    one r =
-        ap (λ (k : Cell). map.get (map.insert (set_bytes S k.holders (write_at k.bytes o ys)) b (record k { bytes = write_at k.bytes o ys; accessed = true; dirty = true })) r) (cell_at S b c at)
-        ∙ get-insert (set_bytes S c.holders (write_at c.bytes o ys)) b (record c { bytes = write_at c.bytes o ys; accessed = true; dirty = true }) r
-        ∙ ap (cond (same slot_order r b) (Some (record c { bytes = write_at c.bytes o ys; accessed = true; dirty = true })))
-        (get-map_values slot_order (λ q (k : Cell). if set.contains c.holders q then with_bytes k (write_at c.bytes o ys) else k) S r)
-
-    other_slot : same slot_order a b ≡ false
-    other_slot = flip (same_or_not slot_order a b)
+    other_slot : (x y : Slot) → x ≢ y → same slot_order x y ≡ false
+    other_slot x y apart = flip (same_or_not slot_order x y)
       where
-        flip : ((a ≡ b) × (same slot_order a b ≡ true)) ⊎ (same slot_order a b ≡ false) → same slot_order a b ≡ false
+        flip : ((x ≡ y) × (same slot_order x y ≡ true)) ⊎ (same slot_order x y ≡ false) → same slot_order x y ≡ false
         flip (inl is) = absurd (apart is.0)
         flip (inr is) = is
 
-    left : cell_or_fresh (stored S b o ys) a ≡ (if set.contains c.holders a then with_bytes d (write_at c.bytes o ys) else d)
-    left = ap (λ (z : Option Cell). unwrap_or z (fresh a true))
-        (one a ∙ ap (λ k. cond k (Some (record c { bytes = write_at c.bytes o ys; accessed = true; dirty = true })) (option_map (λ (k : Cell). if set.contains c.holders a then with_bytes k (write_at c.bytes o ys) else k) (map.get S a))) other_slot
-        ∙ ap (option_map (λ (k : Cell). if set.contains c.holders a then with_bytes k (write_at c.bytes o ys) else k)) there)
+    left : map.get (stored S b o ys) a ≡ Some (grouped c o ys a d)
+    left = get_stored S b c at o ys a ∙ (λ i. cond (other_slot a b apart i) (Some (written c o ys)) (option_map (grouped c o ys a) (there i)))
 
-    right : cell_or_fresh (protected S a w) b ≡ c
-    right = ap (λ (z : Option Cell). unwrap_or z (fresh b true)) (get-inserted_other S a (record (cell_or_fresh S a) { write = w }) b (λ is. apart (sym is)) ∙ at)
+    right : map.get (protected S a w) b ≡ Some c
+    right = get_protected S a d there w b ∙ ap (λ q. cond q (Some (record d { write = w })) (map.get S b)) (other_slot b a (λ is. apart (sym is))) ∙ at
 
     pick : (k : Bool) → record (if k then with_bytes d (write_at c.bytes o ys) else d) { write = w } ≡ (if k then with_bytes (record d { write = w }) (write_at c.bytes o ys) else record d { write = w })
     pick true = refl
     pick false = refl
 
     by : (r : Slot) → ((r ≡ a) × (same slot_order r a ≡ true)) ⊎ (same slot_order r a ≡ false) → ((r ≡ b) × (same slot_order r b ≡ true)) ⊎ (same slot_order r b ≡ false)
-        → cond (same slot_order r a) (Some (record (if set.contains c.holders a then with_bytes d (write_at c.bytes o ys) else d) { write = w }))
-        (cond (same slot_order r b) (Some (record c { bytes = write_at c.bytes o ys; accessed = true; dirty = true })) (option_map (λ (k : Cell). if set.contains c.holders r then with_bytes k (write_at c.bytes o ys) else k) (map.get S r)))
-        ≡ cond (same slot_order r b) (Some (record c { bytes = write_at c.bytes o ys; accessed = true; dirty = true })) (option_map (λ (k : Cell). if set.contains c.holders r then with_bytes k (write_at c.bytes o ys) else k) (cond (same slot_order r a) (Some (record d { write = w })) (map.get S r)))
+        → cond (same slot_order r a) (Some (record (grouped c o ys a d) { write = w })) (cond (same slot_order r b) (Some (written c o ys)) (option_map (grouped c o ys r) (map.get S r)))
+        ≡ cond (same slot_order r b) (Some (written c o ys)) (option_map (grouped c o ys r) (cond (same slot_order r a) (Some (record d { write = w })) (map.get S r)))
     by r (inl one) (inl two) = absurd (apart (sym one.0 ∙ two.0))
-    by r (inl one) (inr two) =
-        (λ i. cond (one.1 i) (Some (record (if set.contains c.holders (sym one.0 i) then with_bytes d (write_at c.bytes o ys) else d) { write = w }))
-        (cond (same slot_order r b) (Some (record c { bytes = write_at c.bytes o ys; accessed = true; dirty = true })) (option_map (λ (k : Cell). if set.contains c.holders r then with_bytes k (write_at c.bytes o ys) else k) (map.get S r))))
-        ∙ ap (λ (k : Cell). Some k) (pick (set.contains c.holders r))
-        ∙ sym (λ i. cond (two i) (Some (record c { bytes = write_at c.bytes o ys; accessed = true; dirty = true })) (option_map (λ (k : Cell). if set.contains c.holders r then with_bytes k (write_at c.bytes o ys) else k) (cond (one.1 i) (Some (record d { write = w })) (map.get S r))))
-    by r (inr one) two =
-        ap (λ q. cond q (Some (record (if set.contains c.holders a then with_bytes d (write_at c.bytes o ys) else d) { write = w }))
-        (cond (same slot_order r b) (Some (record c { bytes = write_at c.bytes o ys; accessed = true; dirty = true })) (option_map (λ (k : Cell). if set.contains c.holders r then with_bytes k (write_at c.bytes o ys) else k) (map.get S r)))) one
-        ∙ sym (ap (λ q. cond (same slot_order r b) (Some (record c { bytes = write_at c.bytes o ys; accessed = true; dirty = true })) (option_map (λ (k : Cell). if set.contains c.holders r then with_bytes k (write_at c.bytes o ys) else k) (cond q (Some (record d { write = w })) (map.get S r)))) one)
+    by r (inl one) (inr two) = grind (arith, grouped, written, pick)
+    by r (inr one) two = grind (arith, grouped, written)

@@ -1,6 +1,6 @@
 -- Events that only take away: which slots stay, and on which frames.
 use Rattle.shootdowns.proofs.Prelude
-use Prelude.{◌≡◌, ℕ, Bool, true, false, cond, List, [], ◌∷◌, length, refl, ap, sym, ◌∙◌, arith, inl, inr, Option, Some, None, is_some, unwrap_or, ◌<◌, ◌⊎◌, slice_get, slice_get_within, option_map, option_and_then, same, Set, some_value, same_itself, same_map, same_or_not, get-insert, frame_number, is_lazy, frame_bytes, Role, Reserved, Free, Page, directory_at, table_at, page_word, page_frame, own_frame, Slot, slot_order, Cell, Spaces, at_page, cell_or_fresh, fresh, with_bytes, without, protected, is_slot, is_of, FramesStay, LooseStay, way_parts, owned, own_is, from_map, from_then, memory_of, State, View, gone_of_call, gone_by, gives_back, answer, answer_of, after, next, completes, IsCore, Call, Event, get_gone, next-stays, next-goes, tables_map, kept-next, only_takes}
+use Prelude.{◌≡◌, ℕ, Bool, true, false, cond, List, [], ◌∷◌, length, refl, ap, sym, ◌∙◌, arith, inl, inr, Option, Some, None, is_some, unwrap_or, ◌<◌, ◌⊎◌, slice_get, slice_get_within, option_map, option_and_then, same, Set, some_value, same_itself, same_map, same_or_not, get-insert, frame_number, is_lazy, frame_bytes, Free, Page, directory_at, table_at, page_word, page_frame, own_frame, Slot, slot_order, Cell, Spaces, at_page, cell_or_fresh, fresh, with_bytes, without, protected, is_slot, is_of, FramesStay, LooseStay, way_parts, owned, own_is, from_map, from_then, memory_of, State, View, gone_of_call, gone_by, gives_back, answer, answer_of, after, next, completes, IsCore, Call, Event, get_gone, next-stays, next-goes, tables_map, kept-next, only_takes}
 use Rattle.std.specs.FinMap.Entries.{find}
 use Rattle.page_words.specs.FiniteMap as map
 use Rattle.page_words.specs.FiniteSet as set
@@ -48,38 +48,33 @@ pub cell_bytes : (v : View) → IsCore v → (slot : Slot) (c : Cell) (word : �
     → c.bytes ≡ frame_bytes v.bytes (frame_number word)
 cell_bytes v core slot c word at is = grind arith
 
--- a Protect leaves all bytes
-bytes_protected : (s : State) (p page : ℕ) (write : Bool) (slot : Slot) (c : Cell) → map.get s.spaces slot ≡ Some c
-    → (d : Cell) × (map.get (protected s.spaces (at_page p page) write) slot ≡ Some d) × (d.bytes ≡ c.bytes)
-bytes_protected s p page write slot c at = by (same_or_not slot_order slot (at_page p page))
+-- a Protect leaves all bytes, and accessed
+kept_protected : (s : State) (p page : ℕ) (write : Bool) (slot : Slot) (c : Cell) → map.get s.spaces slot ≡ Some c
+    → (d : Cell) × (map.get (protected s.spaces (at_page p page) write) slot ≡ Some d) × (d.bytes ≡ c.bytes) × (d.accessed ≡ c.accessed)
+kept_protected s p page write slot c at = by (same_or_not slot_order slot (at_page p page))
   where
     new : Cell
     new = record (cell_or_fresh s.spaces (at_page p page)) { write = write }
 
-    by : ((slot ≡ at_page p page) × (same slot_order slot (at_page p page) ≡ true)) ⊎ (same slot_order slot (at_page p page) ≡ false)
-        → (d : Cell) × (map.get (protected s.spaces (at_page p page) write) slot ≡ Some d) × (d.bytes ≡ c.bytes)
-    by (inl is) = (
-      record (cell_or_fresh s.spaces (at_page p page)) { write = write },
-      get-insert s.spaces (at_page p page) (record (cell_or_fresh s.spaces (at_page p page)) { write = write }) slot
-          ∙ ap (λ b. cond b (Some (record (cell_or_fresh s.spaces (at_page p page)) { write = write })) (map.get s.spaces slot)) is.1,
-      ap (λ (z : Option Cell). (unwrap_or z (fresh (at_page p page) true)).bytes) (sym (ap (map.get s.spaces) is.0) ∙ at),
-    )
-    by (inr other) = (
-      c,
-      get-insert s.spaces (at_page p page) (record (cell_or_fresh s.spaces (at_page p page)) { write = write }) slot
-          ∙ ap (λ b. cond b (Some (record (cell_or_fresh s.spaces (at_page p page)) { write = write })) (map.get s.spaces slot)) other ∙ at,
-      refl,
-    )
+    get : (b : Bool) → same slot_order slot (at_page p page) ≡ b → map.get (protected s.spaces (at_page p page) write) slot ≡ cond b (Some new) (map.get s.spaces slot)
+    get b is = get-insert s.spaces (at_page p page) new slot ∙ ap (λ b. cond b (Some new) (map.get s.spaces slot)) is
 
-bytes_next : (s : State) (e : Event) (page : ℕ) (write : Bool) → e.call ≡ call.Protect page write → (slot : Slot) (c : Cell) → map.get s.spaces slot ≡ Some c
-    → (d : Cell) × (map.get (next s e).spaces slot ≡ Some d) × (d.bytes ≡ c.bytes)
-bytes_next s e page write is slot c at = by (completes (answer s e)) refl
+    by : ((slot ≡ at_page p page) × (same slot_order slot (at_page p page) ≡ true)) ⊎ (same slot_order slot (at_page p page) ≡ false)
+        → (d : Cell) × (map.get (protected s.spaces (at_page p page) write) slot ≡ Some d) × (d.bytes ≡ c.bytes) × (d.accessed ≡ c.accessed)
+    by (inl is) =
+        let own : cell_or_fresh s.spaces (at_page p page) ≡ c = ap (λ (z : Option Cell). unwrap_or z (fresh (at_page p page) true)) (sym (ap (map.get s.spaces) is.0) ∙ at) in
+        (new, get true is.1, ap (λ (z : Cell). z.bytes) own, ap (λ (z : Cell). z.accessed) own)
+    by (inr other) = (c, get false other ∙ at, refl, refl)
+
+pub kept_next : (s : State) (e : Event) (page : ℕ) (write : Bool) → e.call ≡ call.Protect page write → (slot : Slot) (c : Cell) → map.get s.spaces slot ≡ Some c
+    → (d : Cell) × (map.get (next s e).spaces slot ≡ Some d) × (d.bytes ≡ c.bytes) × (d.accessed ≡ c.accessed)
+kept_next s e page write is slot c at = by (completes (answer s e)) refl
   where
-    by : (b : Bool) → completes (answer s e) ≡ b → (d : Cell) × (map.get (next s e).spaces slot ≡ Some d) × (d.bytes ≡ c.bytes)
-    by false stops = (c, ap (λ (t : State). map.get t.spaces slot) (next-stays s e stops) ∙ at, refl)
+    by : (b : Bool) → completes (answer s e) ≡ b → (d : Cell) × (map.get (next s e).spaces slot ≡ Some d) × (d.bytes ≡ c.bytes) × (d.accessed ≡ c.accessed)
+    by false stops = (c, ap (λ (t : State). map.get t.spaces slot) (next-stays s e stops) ∙ at, refl, refl)
     by true goes =
-        let d = bytes_protected s e.pid page write slot c at in
-        (d.0, ap (λ (t : State). map.get t.spaces slot) (next-goes s e goes ∙ ap (after s e.pid) is) ∙ d.1, d.2)
+        let d = kept_protected s e.pid page write slot c at in
+        (d.0, ap (λ (t : State). map.get t.spaces slot) (next-goes s e goes ∙ ap (after s e.pid) is) ∙ d.1, d.2, d.3)
 
 none_gone : (s : State) (e : Event) (page : ℕ) (write : Bool) → e.call ≡ call.Protect page write → (slot : Slot) (f : ℕ) → gone_by s e slot f ≡ false
 none_gone s e page write is slot f = grind arith
@@ -112,7 +107,7 @@ by_protect v w before later e state stay page write is = record {
         let now = way_parts (memory_of w) slot way.0 (frame_number old.0) (stay.ways slot way.0 (frame_number old.0) (none_gone v.state e page write is slot (frame_number old.0)) way.1) in
         let new = from_map frame_number (page_word (memory_of w) slot) (frame_number old.0) now.names in
         let cell = some_value (map.get v.state.spaces slot) (mapped_word v before slot old.0 old.1) in
-        let left = bytes_next v.state e page write is slot cell.0 cell.1 in
+        let left = kept_next v.state e page write is slot cell.0 cell.1 in
         let there : map.get w.state.spaces slot ≡ Some left.0 = ap (λ (t : State). map.get t.spaces slot) state ∙ left.1 in
         let same : frame_number new.0 ≡ f = new.2 ∙ own.1 in (
           ap (frame_bytes w.bytes) (sym same) ∙ sym (cell_bytes w later slot left.0 new.0 there new.1) ∙ left.2
@@ -122,12 +117,7 @@ by_protect v w before later e state stay page write is = record {
       where
         real : (word : ℕ) → page_word (memory_of w) slot ≡ Some word → (b : Bool) → is_lazy word ≡ b → frame_number word ≡ f → is_lazy word ≡ false
         real word at false k same = k
-        real word at true k same = absurd (
-            let zero = lazy_zero w later slot word at k in
-            let within = slice_get_within v.roles f (Page c) role in
-            let none : f ≡ 0 = sym same ∙ zero in
-            let k : ◌≡◌ {A = Option Role} (Some Reserved) (Some (Page c)) = sym ((before.image.memory.sound.reserved f within).1 none) ∙ role in
-            cc)
+        real word at true k same = grind (arith, lazy_zero, slice_get_within)
 
 pub pages_stand : (v w : View) → IsCore v → IsCore w → (e : Event) → w.state ≡ next v.state e → FramesStay (gone_by v.state e) (memory_of v) (memory_of w)
     → (gives_back e.call ≡ true → LooseStay (memory_of v) (memory_of w)) → only_takes e.call ≡ true → PagesStand v w
@@ -186,9 +176,7 @@ module _ (v w : View) (before : IsCore v) (later : IsCore w) (e : Event) (takes 
   bytes_stay slot word is = by (is_lazy word) refl
     where
       by : (b : Bool) → is_lazy word ≡ b → frame_bytes v.bytes (frame_number word) ≡ frame_bytes w.bytes (frame_number word)
-      by true lazy =
-          let zero = lazy_zero v before slot word is lazy in
-          ap (frame_bytes v.bytes) zero ∙ before.image.memory.sound.zero_frame ∙ sym later.image.memory.sound.zero_frame ∙ ap (frame_bytes w.bytes) (sym zero)
+      by true lazy = grind (arith, lazy_zero)
       by false real =
           let role = before.image.memory.sound.pages slot (frame_number word) (ap (option_and_then (own_frame 2)) is ∙ own_is word real) in
           sym (pages.each (frame_number word) role.0 role.1).0
@@ -198,10 +186,7 @@ module _ (v w : View) (before : IsCore v) (later : IsCore w) (e : Event) (takes 
       by slot (map.get v.state.spaces slot) refl ∙ sym (get_filled (frame_at v) w.bytes v.state.spaces slot)))
     where
       stands : (slot : Slot) (c : Cell) → map.get v.state.spaces slot ≡ Some c → c.bytes ≡ frame_bytes w.bytes (frame_at v slot)
-      stands slot c at =
-          let word = word_mapped v before slot c at in
-          cell_bytes v before slot c word.0 at word.1
-          ∙ bytes_stay slot word.0 word.1 ∙ ap (frame_bytes w.bytes) (sym (frame_is v slot word.0 word.1))
+      stands slot c at = grind (arith, word_mapped, cell_bytes, bytes_stay, frame_is)
 
       by : (slot : Slot) (z : Option Cell) → map.get v.state.spaces slot ≡ z → map.get v.state.spaces slot ≡ option_map (fill (frame_at v) w.bytes slot) (map.get v.state.spaces slot)
       by slot None is = is ∙ sym (ap (option_map (fill (frame_at v) w.bytes slot)) is)

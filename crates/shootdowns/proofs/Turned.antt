@@ -1,14 +1,12 @@
 -- An access of pages that stay mapped, and an event that only takes away, in either order.
 use Rattle.shootdowns.proofs.Prelude
-use Prelude.{◌≡◌, ◌≢◌, ℕ, zero, suc, ◌+◌, ◌/◌, ◌%◌, ◌<◌, Bool, true, false, cond, ◌==◌, List, [], ◌∷◌, refl, ap, sym, ◌∙◌, subst, arith, inl, inr, Option, Some, None, unwrap_or, is_some, ◌⊎◌, if◌then◌else◌, IfSome, option_map, page_number, offset_number, page_and, second_page, byte_count, touched, EachTouched, is_user_page, Size, same, same_or_not, get-insert, get-map_values, some_value, Slot, slot_order, Cell, Spaces, at_page, slot_at, fresh, with_bytes, set_bytes, write_at, stored, all_stored, bytes_of, accessed, all_accessed, with_pages, protected, without, is_slot, is_of, IsThere, with_touched-same, each_byte, State, is_live, Book, number_of_children, get-inserted, each_page, answer, answer_of, after, next, completes, refused_or, Call, Event, Reply, next-stays, next-goes, only_takes}
-use Rattle.std.proofs.Common.{not, nat_lt}
+use Prelude.{◌≡◌, ◌≢◌, ℕ, zero, suc, ◌+◌, ◌/◌, ◌%◌, ◌<◌, Bool, true, false, cond, List, [], ◌∷◌, refl, ap, sym, ◌∙◌, subst, arith, inl, inr, Option, Some, None, unwrap_or, is_some, ◌⊎◌, if◌then◌else◌, IfSome, option_map, page_number, offset_number, page_and, second_page, byte_count, touched, EachTouched, Size, same, same_or_not, get-insert, get-map_values, some_value, Slot, slot_order, Cell, Spaces, at_page, slot_at, fresh, with_bytes, set_bytes, write_at, stored, all_stored, bytes_of, accessed, all_accessed, with_pages, protected, without, IsThere, with_touched-same, each_byte, State, get-inserted, each_page, answer, after, next, completes, Call, Event, next-stays, next-goes, only_takes}
 use Rattle.page_words.specs.FiniteMap as map
 use Rattle.page_words.specs.FiniteSet as set
-use Rattle.process_table.specs.declared.causes.Cause.TheVariants as cause
 use Rattle.kernel_calls.specs.declared.calls.Call.TheVariants as call
-use Rattle.kernel_calls.specs.declared.calls.Reply.TheVariants as reply
 use Rattle.shootdowns.proofs.Alike.{AlikeCell, same_cell}
-use Rattle.shootdowns.proofs.Filled.{protects_mapped, completed}
+use Rattle.shootdowns.proofs.Cells.{first_of, rest_of}
+use Rattle.shootdowns.proofs.Filled.{protects_mapped, completed, same_answer}
 use Rattle.shootdowns.proofs.Swapped.{accessed_gone, stored_gone, accessed_right, stored_right}
 use Rattle.shootdowns.proofs.Taking.{left_gone}
 
@@ -127,15 +125,11 @@ all_grow S p page (Some n) one two =
 pub bytes_grow : (k v a p : ℕ) (S : Spaces) → ((i : ℕ) → i < k → Has S (slot_at p (a + i))) → Grows S (all_stored S p a (bytes_of k v))
 bytes_grow zero v a p S each = grows_same S
 bytes_grow (suc k) v a p S each =
-    let none : a + 0 ≡ a = omega arith in
     let T = stored S (slot_at p a) (offset_number a) (v % 256 ∷ []) in
-    let here = subst (λ n. Has S (slot_at p n)) none (each 0 (omega arith)) in
+    let here = first_of (λ n. Has S (slot_at p n)) k a each in
     let first = grows_stored S (slot_at p a) here.0 (offset_number a) (v % 256 ∷ []) here.1 in
     grows_then S T (all_stored T p (a + 1) (bytes_of k (v / 256))) first
-    (bytes_grow k (v / 256) (a + 1) p T
-    (λ i l.
-    let next : a + suc i ≡ a + 1 + i = omega arith in
-    has_then S T (slot_at p (a + 1 + i)) first (subst (λ n. Has S (slot_at p n)) next (each (suc i) (omega (arith, l))))))
+    (bytes_grow k (v / 256) (a + 1) p T (λ i l. has_then S T (slot_at p (a + 1 + i)) first (rest_of (λ n. Has S (slot_at p n)) k a each i l)))
 
 -- ---- In either order
 
@@ -155,14 +149,12 @@ module _ (O : Spaces → Spaces) (Good : Spaces → Slot → Type 0) where
       → O (all_stored S p a (bytes_of k v)) ≡ all_stored (O S) p a (bytes_of k v)
   stores_turn keep turn zero v a p S each = refl
   stores_turn keep turn (suc k) v a p S each =
-      let none : a + 0 ≡ a = omega arith in
       let T = stored S (slot_at p a) (offset_number a) (v % 256 ∷ []) in
-      let here = subst (λ n. Has S (slot_at p n) × Good S (slot_at p n)) none (each 0 (omega arith)) in
+      let here = first_of (λ n. Has S (slot_at p n) × Good S (slot_at p n)) k a each in
       let first = grows_stored S (slot_at p a) here.0.0 (offset_number a) (v % 256 ∷ []) here.0.1 in
       stores_turn keep turn k (v / 256) (a + 1) p T
       (λ i l.
-      let next : a + suc i ≡ a + 1 + i = omega arith in
-      let there = subst (λ n. Has S (slot_at p n) × Good S (slot_at p n)) next (each (suc i) (omega (arith, l))) in
+      let there = rest_of (λ n. Has S (slot_at p n) × Good S (slot_at p n)) k a each i l in
       (has_then S T (slot_at p (a + 1 + i)) first there.0, keep S (slot_at p a) (slot_at p (a + 1 + i)) (offset_number a) (v % 256 ∷ []) here.0 there.1))
       ∙ ap (λ (U : Spaces). all_stored U p (a + 1) (bytes_of k (v / 256))) (turn S (slot_at p a) (offset_number a) (v % 256 ∷ []) here.0 here.1)
 
@@ -184,7 +176,7 @@ pub record StaysMapped (s : State) (e : Event) (p : ℕ) (writes : Bool) (page :
   pub there : map.get (next s e).spaces (at_page p page) ≡ Some cell
   pub write : writes ≡ true → cell.write ≡ true
 
-there_is : (S : Spaces) (p page : ℕ) → Has S (at_page p page) → IsThere S p page
+pub there_is : (S : Spaces) (p page : ℕ) → Has S (at_page p page) → IsThere S p page
 there_is S p page h = ap is_some h.1
 
 module _ (s : State) (e : Event) (p : ℕ) where
@@ -252,9 +244,7 @@ Mapped s p (call.Store addr size value) = EachTouched addr size (λ page. Has s.
 Mapped s p _ = ⊥
 
 pub mapped_before : (s : State) (e : Event) (p : ℕ) (c : Call) → Pages s e p c → Mapped s p c
-mapped_before s e p (call.Load addr size) h = each_page addr size (StaysMapped s e p false) (λ page. Has s.spaces (at_page p page)) (λ page k. k.before) h
-mapped_before s e p (call.Store addr size value) h = each_page addr size (StaysMapped s e p true) (λ page. Has s.spaces (at_page p page)) (λ page k. k.before) h
-mapped_before s e p _ h = absurd h
+mapped_before s e p x3 h = grind (arith, each_page)
 
 -- it changes spaces alone, and by these alone
 pub record Spacely (s t : State) (p : ℕ) (c : Call) : Type 0 where
@@ -291,22 +281,8 @@ next_book s a done h = ap (λ (t : State). t.book) (next-goes s a done ∙ (spac
 pub keys_of : (S T : Spaces) → Grows S T → (slot : Slot) → map.contains_key T slot ≡ map.contains_key S slot
 keys_of S T grows slot = grind (arith, is_some)
 
--- is answered by what is mapped, and by who is live
-call_alike : (s t : State) (p : ℕ) (c : Call) → only_takes c ≡ true → t.book ≡ s.book → ((slot : Slot) → map.contains_key t.spaces slot ≡ map.contains_key s.spaces slot)
-    → answer_of t p c ≡ answer_of s p c
-call_alike s t p (call.Unmap page) h book keys =
-    ap (λ b. refused_or (if not (is_user_page page) then Some cause.BadPage else if not b then Some cause.NotMapped else None) reply.Done) (keys (at_page p page))
-call_alike s t p (call.Protect page false) h book keys =
-    ap (λ b. refused_or (if not (is_user_page page) then Some cause.BadPage else if not b then Some cause.NotMapped else None) reply.Done) (keys (at_page p page))
-call_alike s t p (call.Protect page true) h book keys = cc
-call_alike s t p call.Exit h book keys =
-    ap (λ (b : Book). refused_or (if p == 0 then Some cause.RootExit else if nat_lt 0 (number_of_children b p) then Some cause.HasChildren else None) reply.Done) book
-call_alike s t p _ h book keys = cc
-
 pub answer_alike : (s t : State) (e : Event) → only_takes e.call ≡ true → t.book ≡ s.book → Grows s.spaces t.spaces → answer t e ≡ answer s e
-answer_alike s t e h book grows =
-    (λ i. if map.contains_key (book i) e.pid then answer_of t e.pid e.call else reply.Refused cause.NoProcess)
-    ∙ ap (λ (r : Reply). if is_live s e.pid then r else reply.Refused cause.NoProcess) (call_alike s t e.pid e.call h book (keys_of s.spaces t.spaces grows))
+answer_alike s t e h book grows = same_answer s t e h book (keys_of s.spaces t.spaces grows)
 
 -- the pages are mapped after it
 pub mapped_after : (s : State) (e : Event) (p : ℕ) (c : Call) (X : State) → X.spaces ≡ (next s e).spaces → Pages s e p c → Mapped X p c
@@ -323,35 +299,10 @@ turned s e a takes pages done later = by (completes (answer s e)) refl
     same = answer_alike s (next s a) e takes (next_book s a done (mapped_before s e a.pid a.call pages)) (next_grows s a done (mapped_before s e a.pid a.call pages))
 
     moved : (X Y : State) → (next s e).spaces ≡ X.spaces → Y.spaces ≡ X.spaces → after X a.pid a.call ≡ record X { spaces = (after Y a.pid a.call).spaces }
-    moved X Y is alike =
-        let own = spacely X Y a.pid a.call (mapped_after s e a.pid a.call X (sym is) pages) in
-        own.rest ∙ ap (λ (T : Spaces). record X { spaces = T }) (sym (own.same alike))
+    moved X Y is alike = grind (arith, spacely, mapped_after)
 
     either : (c : Call) → e.call ≡ c → only_takes c ≡ true → completes (answer s e) ≡ true → after (after s e.pid c) a.pid a.call ≡ after (after s a.pid a.call) e.pid c
-    either (call.Unmap page) is h goes =
-        let X = after s e.pid (call.Unmap page) in
-        let g = is_slot e.pid page in
-        let there : (next s e).spaces ≡ without s.spaces g = ap (λ (t : State). t.spaces) (next-goes s e goes ∙ ap (after s e.pid) is) in
-        moved X (record s { spaces = without s.spaces g }) there refl ∙ ap (λ (T : Spaces). record X { spaces = T }) (gone_turned s e a.pid goes g there a.call pages)
-        ∙ sym (ap (λ (t : State). after t e.pid (call.Unmap page)) (spacely s s a.pid a.call (mapped_before s e a.pid a.call pages)).rest)
-    either call.Exit is h goes =
-        let X = after s e.pid call.Exit in
-        let g = is_of e.pid in
-        let there : (next s e).spaces ≡ without s.spaces g = ap (λ (t : State). t.spaces) (next-goes s e goes ∙ ap (after s e.pid) is) in
-        moved X (record s { spaces = without s.spaces g }) there refl ∙ ap (λ (T : Spaces). record X { spaces = T }) (gone_turned s e a.pid goes g there a.call pages)
-        ∙ sym (ap (λ (t : State). after t e.pid call.Exit) (spacely s s a.pid a.call (mapped_before s e a.pid a.call pages)).rest)
-    either (call.Protect page false) is h goes =
-        let X = after s e.pid (call.Protect page false) in
-        let b = at_page e.pid page in
-        let there : (next s e).spaces ≡ protected s.spaces b false = ap (λ (t : State). t.spaces) (next-goes s e goes ∙ ap (after s e.pid) is) in
-        let has = some_value (map.get s.spaces b) (protects_mapped s e.pid page (sym (ap (λ c. completes (answer_of s e.pid c)) is) ∙ completed s e goes)) in
-        moved X (record s { spaces = protected s.spaces b false }) there refl ∙ ap (λ (T : Spaces). record X { spaces = T }) (right_turned s e a.pid goes b has there a.call pages)
-        ∙ sym (ap (λ (t : State). after t e.pid (call.Protect page false)) (spacely s s a.pid a.call (mapped_before s e a.pid a.call pages)).rest)
-    either _ is h goes = cc
+    either x0 is h goes = grind (arith, next-goes, moved, gone_turned, spacely, mapped_before, some_value, protects_mapped, completed, right_turned)
 
     by : (b : Bool) → completes (answer s e) ≡ b → next (next s e) a ≡ next (next s a) e
-    by false stops = ap (λ (t : State). next t a) (next-stays s e stops) ∙ sym (next-stays (next s a) e (ap completes same ∙ stops))
-    by true goes =
-        next-goes (next s e) a later ∙ ap (λ (t : State). after t a.pid a.call) (next-goes s e goes)
-        ∙ either e.call refl takes goes
-        ∙ sym (next-goes (next s a) e (ap completes same ∙ goes) ∙ ap (λ (t : State). after t e.pid e.call) (next-goes s a done))
+    by x0 x1 = grind (arith, next-stays, same, next-goes, either)

@@ -1,10 +1,11 @@
 -- What an access leaves of the bytes of slots that it doesn't touch, and what an event that only takes away leaves.
 use Rattle.shootdowns.proofs.Prelude
-use Prelude.{◌≡◌, ◌≢◌, ℕ, zero, suc, ◌+◌, ◌/◌, ◌%◌, ◌<◌, Bool, true, false, cond, List, [], ◌∷◌, refl, ap, sym, ◌∙◌, subst, arith, inl, inr, Option, Some, None, unwrap_or, is_some, ◌⊎◌, if◌then◌else◌, IfSome, option_map, page_number, offset_number, page_and, second_page, byte_count, touched, EachTouched, same, same_or_not, get-insert, get-map_values, some_value, Slot, slot_order, Cell, Spaces, at_page, slot_at, cell_or_fresh, fresh, with_bytes, set_bytes, write_at, stored, all_stored, bytes_of, accessed, all_accessed, protected, without, is_slot, is_of, IsThere, with_touched-same, each_byte, State, each_page, answer, answer_of, after, next, completes, Call, Event, fewer, get_gone, next-stays, next-goes, only_takes}
+use Prelude.{◌≡◌, ◌≢◌, ℕ, zero, suc, ◌+◌, ◌/◌, ◌%◌, ◌<◌, Bool, true, false, cond, List, [], ◌∷◌, refl, ap, sym, ◌∙◌, subst, inl, inr, Option, Some, None, unwrap_or, is_some, ◌⊎◌, if◌then◌else◌, IfSome, option_map, page_number, offset_number, page_and, second_page, byte_count, touched, EachTouched, same, same_or_not, get-insert, some_value, Slot, slot_order, Cell, Spaces, at_page, slot_at, cell_or_fresh, fresh, with_bytes, write_at, stored, all_stored, bytes_of, accessed, all_accessed, protected, without, is_slot, is_of, IsThere, with_touched-same, each_byte, State, each_page, answer, answer_of, after, next, completes, Call, Event, fewer, get_gone, next-stays, next-goes, only_takes}
 use Rattle.std.proofs.Common.{not}
 use Rattle.page_words.specs.FiniteMap as map
 use Rattle.page_words.specs.FiniteSet as set
 use Rattle.kernel_calls.specs.declared.calls.Call.TheVariants as call
+use Rattle.shootdowns.proofs.Cells.{written, get_accessed, get_stored, first_of, rest_of}
 use Rattle.shootdowns.proofs.Filled.{protects_mapped, completed}
 use Rattle.shootdowns.proofs.Turned.{Grows, has_then, grows_accessed, grows_stored}
 
@@ -14,35 +15,27 @@ accessed_bytes : (S : Spaces) (b slot : Slot) (k c : Cell) → map.get S b ≡ S
     → (d : Cell) × (map.get (accessed S b) slot ≡ Some d) × (d.bytes ≡ c.bytes)
 accessed_bytes S b slot k c has at = by (same_or_not slot_order slot b)
   where
-    new : map.get (accessed S b) slot ≡ cond (same slot_order slot b) (Some (record k { accessed = true })) (map.get S slot)
-    new = ap (λ (q : Cell). map.get (map.insert S b (record q { accessed = true })) slot) (ap (λ (z : Option Cell). unwrap_or z (fresh b true)) has)
-        ∙ get-insert S b (record k { accessed = true }) slot
+    get : (q : Bool) → same slot_order slot b ≡ q → map.get (accessed S b) slot ≡ cond q (Some (record k { accessed = true })) (map.get S slot)
+    get q is = get_accessed S b k has slot ∙ ap (λ x. cond x (Some (record k { accessed = true })) (map.get S slot)) is
 
     by : ((slot ≡ b) × (same slot_order slot b ≡ true)) ⊎ (same slot_order slot b ≡ false) → (d : Cell) × (map.get (accessed S b) slot ≡ Some d) × (d.bytes ≡ c.bytes)
     by (inl is) =
         let e : Some k ≡ Some c = sym has ∙ sym (ap (map.get S) is.0) ∙ at in
         let q : k ≡ c = cc in
-        (record k { accessed = true }, new ∙ ap (λ x. cond x (Some (record k { accessed = true })) (map.get S slot)) is.1, ap (λ (z : Cell). z.bytes) q)
-    by (inr other) = (c, new ∙ ap (λ x. cond x (Some (record k { accessed = true })) (map.get S slot)) other ∙ at, refl)
+        (record k { accessed = true }, get true is.1, ap (λ (z : Cell). z.bytes) q)
+    by (inr other) = (c, get false other ∙ at, refl)
 
 -- a slot that is neither stored to nor in the group
 stored_beside : (S : Spaces) (b slot : Slot) (k : Cell) (o : ℕ) (ys : List ℕ) → map.get S b ≡ Some k → slot ≢ b → set.contains k.holders slot ≡ false
     → map.get (stored S b o ys) slot ≡ map.get S slot
 stored_beside S b slot k o ys has apart out =
-    ap (λ (q : Cell). map.get (map.insert (set_bytes S q.holders (write_at q.bytes o ys)) b (record q { bytes = write_at q.bytes o ys; accessed = true; dirty = true })) slot)
-    (ap (λ (z : Option Cell). unwrap_or z (fresh b true)) has)
-    ∙ get-insert (set_bytes S k.holders (write_at k.bytes o ys)) b (record k { bytes = write_at k.bytes o ys; accessed = true; dirty = true }) slot
-    ∙ ap (λ x. cond x (Some (record k { bytes = write_at k.bytes o ys; accessed = true; dirty = true })) (map.get (set_bytes S k.holders (write_at k.bytes o ys)) slot)) other
-    ∙ get-map_values slot_order (λ q (c : Cell). if set.contains k.holders q then with_bytes c (write_at k.bytes o ys) else c) S slot
-    ∙ ap (λ x. option_map (λ (c : Cell). if x then with_bytes c (write_at k.bytes o ys) else c) (map.get S slot)) out
+    get_stored S b k has o ys slot
+    ∙ (λ i. cond (other (same_or_not slot_order slot b) i) (Some (written k o ys)) (option_map (λ (c : Cell). if out i then with_bytes c (write_at k.bytes o ys) else c) (map.get S slot)))
     ∙ by (map.get S slot)
   where
-    other : same slot_order slot b ≡ false
-    other = flip (same_or_not slot_order slot b)
-      where
-        flip : ((slot ≡ b) × (same slot_order slot b ≡ true)) ⊎ (same slot_order slot b ≡ false) → same slot_order slot b ≡ false
-        flip (inl is) = absurd (apart is.0)
-        flip (inr is) = is
+    other : ((slot ≡ b) × (same slot_order slot b ≡ true)) ⊎ (same slot_order slot b ≡ false) → same slot_order slot b ≡ false
+    other (inl is) = absurd (apart is.0)
+    other (inr is) = is
 
     by : (z : Option Cell) → option_map (λ (c : Cell). if false then with_bytes c (write_at k.bytes o ys) else c) z ≡ z
     by None = refl
@@ -64,14 +57,11 @@ bytes_beside : (k v a p : ℕ) (S : Spaces) (slot : Slot) → ((i : ℕ) → i <
     → map.get (all_stored S p a (bytes_of k v)) slot ≡ map.get S slot
 bytes_beside zero v a p S slot each = refl
 bytes_beside (suc k) v a p S slot each =
-    let none : a + 0 ≡ a = omega arith in
     let T = stored S (slot_at p a) (offset_number a) (v % 256 ∷ []) in
-    let here = subst (λ n. Beside S slot (slot_at p n)) none (each 0 (omega arith)) in
+    let here = first_of (λ n. Beside S slot (slot_at p n)) k a each in
     let first = grows_stored S (slot_at p a) here.cell (offset_number a) (v % 256 ∷ []) here.there in
     bytes_beside k (v / 256) (a + 1) p T slot
-    (λ i l.
-    let next : a + suc i ≡ a + 1 + i = omega arith in
-    beside_then S T slot (slot_at p (a + 1 + i)) first (subst (λ n. Beside S slot (slot_at p n)) next (each (suc i) (omega (arith, l)))))
+    (λ i l. beside_then S T slot (slot_at p (a + 1 + i)) first (rest_of (λ n. Beside S slot (slot_at p n)) k a each i l))
     ∙ stored_beside S (slot_at p a) slot here.cell (offset_number a) (v % 256 ∷ []) here.there here.apart here.out
 
 -- each page of an access is such

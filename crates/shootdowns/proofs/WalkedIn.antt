@@ -1,6 +1,6 @@
 -- An access by a walk, while an event that only takes away isn't in the order.
 use Rattle.shootdowns.proofs.Prelude
-use Prelude.{◌≡◌, ℕ, ◌+◌, Bool, true, false, List, refl, ap, sym, ◌∙◌, subst, Option, Some, unwrap_or, is_some, ◌&&◌, not, if◌then◌else◌, slice_index, page_number, offset_number, byte_count, Size, some_value, Access, Read, Write, finds_at, finds, directory_at, is_lazy_at, takes_stores, Slot, Cell, at_page, slot_at, byte_at, value_of, cell_or_fresh, fresh, each_byte, same_each, memory_of, State, is_live, is_mapped, View, IsWellFormed, touched_user, plan_of, plan_at, takes_no_frame, each_page, walk_completes, answer, answer_of, next, completes, IsCore, finds_call, finds_event, reply_found, Call, Event, goes-call, next-goes, kept-next, answered, each_found, page_mapped, page_takes, only_takes, goes_frameless, told_planned}
+use Prelude.{◌≡◌, ℕ, ◌+◌, Bool, true, false, refl, ap, sym, ◌∙◌, subst, Option, Some, unwrap_or, is_some, ◌&&◌, not, if◌then◌else◌, page_number, byte_count, Size, some_value, Access, Read, Write, finds_at, finds, directory_at, is_lazy_at, takes_stores, Slot, Cell, at_page, slot_at, byte_at, value_of, cell_or_fresh, fresh, each_byte, same_each, memory_of, State, is_live, is_mapped, View, IsWellFormed, touched_user, plan_of, plan_at, takes_no_frame, each_page, walk_completes, answer, answer_of, next, completes, IsCore, finds_call, finds_event, reply_found, Call, Event, goes-call, next-goes, kept-next, answered, each_found, page_mapped, page_takes, only_takes, goes_frameless, told_planned, arith}
 use Rattle.page_words.specs.FiniteMap as map
 use Rattle.page_words.specs.FiniteSet as set
 use Rattle.process_table.specs.Calls.{loaded}
@@ -67,9 +67,7 @@ module _ (s : State) (well : IsWellFormed s) (e : Event) (takes : only_takes e.c
   byte_same : (a : ℕ) → StaysMapped s e p false (page_number a) → byte_at (next s e).spaces p a ≡ byte_at s.spaces p a
   byte_same a k =
       let old = was s e (slot_at p a) k.cell takes k.there in
-      ap (λ (z : Option Cell). slice_index (unwrap_or z (fresh (slot_at p a) true)).bytes (offset_number a)) k.there
-      ∙ ap (λ (b : List ℕ). slice_index b (offset_number a)) old.bytes
-      ∙ sym (ap (λ (z : Option Cell). slice_index (unwrap_or z (fresh (slot_at p a) true)).bytes (offset_number a)) old.there)
+      grind arith
 
   -- what it is answered after the event it is answered before
   same_call : (c : Call) → finds_call w p c ≡ true → completes (answer_of (next s e) p c) ≡ true → answer_of (next s e) p c ≡ answer_of s p c

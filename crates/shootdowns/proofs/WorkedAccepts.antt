@@ -1,6 +1,6 @@
 -- The load of the worked Accept.
 use Rattle.shootdowns.proofs.Prelude
-use Prelude.{◌≡◌, ◌==◌, ℕ, Bool, true, false, [], ◌∷◌, refl, ap, sym, ◌∙◌, subst, arith, Some, is_some, if◌then◌else◌, option_map, some_value, Read, is_lazy_at, Cell, at_page, FramesStay, memory_of, State, open_with, View, gone_by, gone_of_call, reply_kept, LeavesLazy, answer, completes, next, AllAreRead, IsCore, IsLoaded, Processors, with_kept, AreRead, IsRead, Kept, translation, Ends, ended_by, is_invalidated, Event, Reply, Ended, ways_of, mapped_way, Uses, Begins, accept_it, load_it, map_it, none_kept, offer_it, spawn_it, WorkedZeros}
+use Prelude.{◌≡◌, ℕ, Bool, true, false, [], ◌∷◌, refl, ap, sym, ◌∙◌, subst, arith, Some, is_some, if◌then◌else◌, option_map, some_value, Read, is_lazy_at, Cell, at_page, FramesStay, memory_of, State, open_with, View, gone_by, gone_of_call, reply_kept, LeavesLazy, answer, completes, next, AllAreRead, IsCore, IsLoaded, Processors, with_kept, IsRead, Kept, translation, ended_by, is_invalidated, Event, Reply, ways_of, mapped_way, Uses, Begins, accept_it, load_it, map_it, none_kept, offer_it, spawn_it, WorkedZeros}
 use Rattle.page_words.specs.FiniteMap as map
 use Rattle.kernel_calls.specs.declared.calls.Reply.TheVariants as reply
 use Rattle.shootdowns.specs.Shadows.{loaded, none}
@@ -22,8 +22,8 @@ was_accessed = let e : Some cell_there.0.accessed ≡ Some true = sym (ap (optio
 first_told : (q : Reply) (s : State) (e : Event) → (q ∷ []) ≡ (answer s e ∷ []) → q ≡ answer s e
 first_told q s e h = cc
 
-module _ (v w : View) (r : Reply) (core : IsCore v) (state : v.state ≡ offered_state) (lazy : is_lazy_at (memory_of v) (at_page 0 0x40000) ≡ true)
-    (b : Begins v accept_it r w) where
+module _ (v w : View) (core : IsCore v) (state : v.state ≡ offered_state) (lazy : is_lazy_at (memory_of v) (at_page 0 0x40000) ≡ true)
+    (b : Begins v accept_it reply.Done w) where
   there : map.get v.state.spaces (at_page 0 0x40000) ≡ Some cell_there.0
   there = ap (λ (s : State). map.get s.spaces (at_page 0 0x40000)) state ∙ cell_there.1
 
@@ -50,11 +50,7 @@ module _ (v w : View) (r : Reply) (core : IsCore v) (state : v.state ≡ offered
   }
 
   read : AllAreRead v keeps
-  read i = by (i == 0)
-    where
-      by : (is : Bool) → AreRead v (if is then kept ∷ [] else [])
-      by true = (is_given, tt)
-      by false = tt
+  read i = grind (arith, is_given)
 
   abbrev q : Reply
   q = reply_kept (λ _. frame) w.bytes load_it.call
@@ -70,12 +66,9 @@ module _ (v w : View) (r : Reply) (core : IsCore v) (state : v.state ≡ offered
   uses : Uses keeps w (load_it ∷ []) (q ∷ []) w
   uses = loaded 0 loads none
 
-  replied : r ≡ reply.Done
-  replied = b.carried.reply ∙ ap (λ (s : State). answer s accept_it) state
-
   value : q ≡ reply.Value 0
   value =
-      let came = uses_come_after_zeros v w w keeps accept_it r (load_it ∷ []) (q ∷ []) core read b lazy uses in
+      let came = uses_come_after_zeros v w w keeps accept_it reply.Done (load_it ∷ []) (q ∷ []) core read b lazy uses in
       first_told q w.state load_it came.replies
       ∙ ap (λ (s : State). answer s load_it) (b.carried.state ∙ ap (λ (s : State). next s accept_it) state)
 
@@ -92,10 +85,10 @@ module _ (v w : View) (r : Reply) (core : IsCore v) (state : v.state ≡ offered
     keeps = keeps;
     one = refl;
     read = read;
-    begins = subst (λ (y : Reply). Begins v accept_it y w) replied b;
+    begins = b;
     zeros = lazy;
     stale = stale;
-    uses = subst (λ (y : Reply). Uses keeps w (load_it ∷ []) (y ∷ []) w) value uses;
+    uses = rw value at uses;
   }
 
 -- ---- From the calls
@@ -114,45 +107,27 @@ stays_lazy v w e core later mapped spares stay =
     by true f = spares f
     by false f = refl
 
--- what the calls of a core that boots ensure, with these events
-pub record Made (e1 e2 e3 e4 e5 : Event) (o a l c v w : View) (map_reply r : Reply) (y : Ended) : Type 0 where
+-- what the calls of a core that boots ensure
+pub record Called (o a l c v w : View) (map_reply : Reply) : Type 0 where
   pub opening : o.state ≡ open_with 16
-  pub mapped : a.state ≡ next o.state e1
-  pub map_told : map_reply ≡ answer o.state e1
-  pub lazy : LeavesLazy o e1 map_reply a
+  pub mapped : a.state ≡ next o.state map_it
+  pub map_told : map_reply ≡ answer o.state map_it
+  pub lazy : LeavesLazy o map_it map_reply a
   pub core_mapped : IsCore a
-  pub loaded : l.state ≡ next a.state e2
-  pub load_stay : FramesStay (gone_by a.state e2) (memory_of a) (memory_of l)
+  pub loaded : l.state ≡ next a.state load_it
+  pub load_stay : FramesStay (gone_by a.state load_it) (memory_of a) (memory_of l)
   pub core_loaded : IsCore l
-  pub spawned : c.state ≡ next l.state e3
-  pub spawn_stay : FramesStay (gone_by l.state e3) (memory_of l) (memory_of c)
+  pub spawned : c.state ≡ next l.state spawn_it
+  pub spawn_stay : FramesStay (gone_by l.state spawn_it) (memory_of l) (memory_of c)
   pub core_spawned : IsCore c
-  pub offered : v.state ≡ next c.state e4
-  pub offer_stay : FramesStay (gone_by c.state e4) (memory_of c) (memory_of v)
+  pub offered : v.state ≡ next c.state offer_it
+  pub offer_stay : FramesStay (gone_by c.state offer_it) (memory_of c) (memory_of v)
   pub before : IsCore v
-  pub reply : r ≡ answer v.state e5
-  pub ended : y ≡ ended_by v e5
-  pub state : w.state ≡ next v.state e5
-  pub ends : Ends y v w
-  pub stay : FramesStay (gone_by v.state e5) (memory_of v) (memory_of w)
-  pub later : IsCore w
+  pub begins : Begins v accept_it (answer v.state accept_it) w
 
--- which are those of the worked Accept
-abbrev pub Called : View → View → View → View → View → View → Reply → Reply → Ended → Type 0
-Called = Made map_it load_it spawn_it offer_it accept_it
-
-pub called : (e1 e2 e3 e4 e5 : Event) (o a l c v w : View) (map_reply r : Reply) (y : Ended) → e1 ≡ map_it → e2 ≡ load_it → e3 ≡ spawn_it
-    → e4 ≡ offer_it → e5 ≡ accept_it → Made e1 e2 e3 e4 e5 o a l c v w map_reply r y → Called o a l c v w map_reply r y
-called e1 e2 e3 e4 e5 o a l c v w map_reply r y one two three four five =
-    subst (λ (t : Type 0). t) (λ i. Made (one i) (two i) (three i) (four i) (five i) o a l c v w map_reply r y)
-
-pub worked_by : (o a l c v w : View) (map_reply r : Reply) (y : Ended) → Called o a l c v w map_reply r y → WorkedZeros w
-worked_by o a l c v w map_reply r y k = worked v w r k.before opened lazy_here
-    (record {
-      carried = record { reply = k.reply; state = k.state; ends = subst (λ (z : Ended). Ends z v w) k.ended k.ends; core = k.later };
-      stay = k.stay;
-      loose = λ no. cc;
-    })
+pub worked_by : (o a l c v w : View) (map_reply : Reply) → Called o a l c v w map_reply → WorkedZeros w
+worked_by o a l c v w map_reply k =
+    worked v w k.before opened lazy_here (subst (λ (r : Reply). Begins v accept_it r w) (ap (λ (s : State). answer s accept_it) opened) k.begins)
   where
     mapped : a.state ≡ mapped_state
     mapped = k.mapped ∙ ap (λ (z : State). next z map_it) k.opening

@@ -1,6 +1,6 @@
 -- The steps of the worked Protect.
 use Rattle.shootdowns.proofs.Prelude
-use Prelude.{◌≡◌, ◌≢◌, ◌==◌, ℕ, ◌≤◌, ◌^◌, Bool, true, false, List, [], ◌∷◌, refl, ap, sym, ◌∙◌, subst, inr, zero, suc, arith, Some, is_some, length, unwrap_or, ◌⊎◌, if◌then◌else◌, slice_get, nat_lt, option_map, some_value, Read, walk_of, finds_at, is_lazy_at, Cell, at_page, FramesStay, none_goes, memory_of, State, open_with, View, gone_by, gone_of_call, bytes_kept, LeavesLazy, answer, completes, next, AllAreRead, IsCore, IsWalked, Processors, with_kept, AreRead, IsRead, Kept, translation, directory_entry, Ends, ended_by, is_invalidated, left_by, bytes_accessed, reply_found, Event, Reply, Ended, ways_of, next-stays, next-goes, nothing_ends, walks_leave_cores, mapped_way, Begins, IsStaleClean, KeepsNone, Steps, begun, walked, stored_clean, ordered, refilled, forgotten, invalidated, told, none, first, nobody, with_one, settled, under_way, all_dirty, first_store, fork_it, load_copy, store_copy, protect_it, ask_it, none_kept, WorkedProtect}
+use Prelude.{◌≡◌, ◌≢◌, ℕ, ◌≤◌, ◌^◌, Bool, true, false, List, [], ◌∷◌, refl, ap, sym, ◌∙◌, subst, inr, zero, suc, arith, Some, is_some, length, unwrap_or, ◌⊎◌, slice_get, nat_lt, option_map, some_value, Read, walk_of, finds_at, is_lazy_at, Cell, at_page, FramesStay, none_goes, memory_of, State, open_with, View, gone_by, bytes_kept, LeavesLazy, answer, next, AllAreRead, IsCore, IsWalked, Processors, with_kept, IsRead, Kept, translation, directory_entry, Ends, ended_by, is_invalidated, left_by, bytes_accessed, reply_found, Reply, Ended, ways_of, next-stays, next-goes, nothing_ends, walks_leave_cores, mapped_way, Begins, IsStaleClean, KeepsNone, Steps, begun, walked, stored_clean, ordered, refilled, forgotten, invalidated, told, none, first, nobody, with_one, settled, under_way, all_dirty, first_store, fork_it, load_copy, store_copy, protect_it, ask_it, none_kept, WorkedProtect, if◌then◌else◌, gone_of_call, completes}
 use Rattle.std.proofs.Common.{◌&&◌}
 use Rattle.std.specs.Result.{is_ok}
 use Rattle.page_words.specs.FiniteMap as map
@@ -33,8 +33,8 @@ none_invalidated : (k : Kept) → is_invalidated end.Nothing k ≡ false
 none_invalidated (translation k) = refl
 none_invalidated (directory_entry k) = refl
 
-module _ (v w : View) (r : Reply) (core : IsCore v) (state : v.state ≡ loaded_state) (real : is_lazy_at (memory_of v) (at_page 1 0x40000) ≡ false)
-    (b : Begins v protect_it r w) where
+module _ (v w : View) (core : IsCore v) (state : v.state ≡ loaded_state) (real : is_lazy_at (memory_of v) (at_page 1 0x40000) ≡ false)
+    (b : Begins v protect_it reply.Done w) where
   there : map.get v.state.spaces (at_page 1 0x40000) ≡ Some cell_there.0
   there = ap (λ (s : State). map.get s.spaces (at_page 1 0x40000)) state ∙ cell_there.1
 
@@ -61,11 +61,7 @@ module _ (v w : View) (r : Reply) (core : IsCore v) (state : v.state ≡ loaded_
       (dirty_real v core (at_page 0 0x40000) root_there.0 root_at (root_flag (λ c. c.dirty) refl)) (λ _. root_flag (λ c. c.dirty) refl)
 
   read : AllAreRead v keeps
-  read i = by (i == 0)
-    where
-      by : (is : Bool) → AreRead v (if is then kept ∷ other ∷ [] else (if is then other ∷ [] else []))
-      by true = (kept_given, (other_given, tt))
-      by false = tt
+  read i = grind (arith, kept_given, other_given)
 
   -- ---- The walk
 
@@ -128,69 +124,52 @@ module _ (v w : View) (r : Reply) (core : IsCore v) (state : v.state ≡ loaded_
   abbrev after : View
   after = record u { state = next (next (next v.state load_copy) store_copy) protect_it; bytes = bytes }
 
-  opens : Steps (settled end.Nothing nobody v) none_kept [] [] (under_way x_ended nobody protect_it r v.state w) keeps
+  opens : Steps (settled end.Nothing nobody v) none_kept [] [] (under_way x_ended nobody protect_it reply.Done v.state w) keeps
   opens = first (refilled 0 other other_given) (first (refilled 0 kept kept_given) (first (begun b) none))
 
-  window : Steps (under_way x_ended nobody protect_it r v.state w) keeps (load_copy ∷ store_copy ∷ protect_it ∷ []) (q ∷ reply.Done ∷ r ∷ [])
-      (settled end.Nothing nobody after) kept_then
-  window = first (walked refl walks) (first (stored_clean 0 refl stores) (first (invalidated 0) (first ordered (first (told all) none))))
-
-  whole : Steps (settled end.Nothing nobody v) none_kept (load_copy ∷ store_copy ∷ protect_it ∷ []) (q ∷ reply.Done ∷ r ∷ [])
-      (settled end.Nothing nobody after) kept_then
-  whole = first (refilled 0 other other_given) (first (refilled 0 kept kept_given) (first (begun b) window))
+  window : (a : Reply) → IsWalked w load_copy a u → Steps (under_way x_ended nobody protect_it reply.Done v.state w) keeps (load_copy ∷ store_copy ∷ protect_it ∷ [])
+      (a ∷ reply.Done ∷ reply.Done ∷ []) (settled end.Nothing nobody after) kept_then
+  window a walk = first (walked refl walk) (first (stored_clean 0 refl stores) (first (invalidated 0) (first ordered (first (told all) none))))
 
   -- a Protect ends nothing of the root's
   other_spared : is_invalidated x_ended other ≡ false
   other_spared = grind arith
 
   some_left : kept_then 0 ≢ []
-  some_left empty = by (is_invalidated x_ended kept) refl
-    where
-      by : (c : Bool) → is_invalidated x_ended kept ≡ c → ⊥
-      by true is =
-          let k : kept_then 0 ≡ (other ∷ []) = ap (λ c. if c then left_by x_ended (other ∷ []) else kept ∷ left_by x_ended (other ∷ [])) is
-          ∙ ap (λ c. if c then [] else other ∷ []) other_spared in
-          let m : ◌≡◌ {A = List Kept} (other ∷ []) [] = sym k ∙ empty in cc
-      by false is =
-          let k : kept_then 0 ≡ (kept ∷ left_by x_ended (other ∷ [])) = ap (λ c. if c then left_by x_ended (other ∷ []) else kept ∷ left_by x_ended (other ∷ [])) is in
-          let m : ◌≡◌ {A = List Kept} (kept ∷ left_by x_ended (other ∷ [])) [] = sym k ∙ empty in cc
+  some_left empty = grind (arith, other_spared)
 
   core_after : IsCore after
-  core_after = (shootdowns_make_events v (settled end.Nothing nobody after) none_kept kept_then (load_copy ∷ store_copy ∷ protect_it ∷ []) (q ∷ reply.Done ∷ r ∷ []) core (λ i. tt) whole).stands.0
+  core_after = (shootdowns_make_events v (settled end.Nothing nobody after) none_kept kept_then (load_copy ∷ store_copy ∷ protect_it ∷ []) (q ∷ reply.Done ∷ reply.Done ∷ []) core (λ i. tt)
+      (first (refilled 0 other other_given) (first (refilled 0 kept kept_given) (first (begun b) (window q walks))))).stands.0
 
   -- ---- The next window
 
-  abbrev p : Reply
-  p = answer after.state ask_it
+  quota : answer after.state ask_it ≡ reply.Quota 8 3 0
+  quota = ap (λ (s : State). answer (next (next (next s load_copy) store_copy) protect_it) ask_it) state
 
   asks_none : ended_by after ask_it ≡ end.Nothing
   asks_none = grind arith
 
-  asked : Begins after ask_it p after
+  still : FramesStay none_goes (memory_of after) (memory_of after)
+  still = record { directories = λ p d some live. live; tables = λ slot d f t stays way table. table; ways = λ slot d f stays way. way }
+
+  asked : Begins after ask_it (reply.Quota 8 3 0) after
   asked = record {
     carried = record {
-      reply = refl;
-      state = same;
+      reply = sym quota;
+      state = sym (ask_stays after.state);
       ends = subst (λ (x : Ended). Ends x after after) (sym asks_none) (nothing_ends after after core_after core_after refl still);
       core = core_after;
     };
     stay = record { directories = λ p d some live. live; tables = λ slot d f t stays way table. table; ways = λ slot d f stays way. way };
     loose = λ no. cc;
   }
-    where
-      same : after.state ≡ next after.state ask_it
-      same = sym (ask_stays after.state)
-
-      still : FramesStay none_goes (memory_of after) (memory_of after)
-      still = record { directories = λ p d some live. live; tables = λ slot d f t stays way table. table; ways = λ slot d f stays way. way }
 
   abbrev last : Processors
   last = with_kept kept_then 0 []
 
-  asks : Steps (settled end.Nothing nobody after) kept_then [] [] (under_way (ended_by after ask_it) nobody ask_it p after.state after) kept_then
-  asks = first (begun asked) none
-
-  forgets : Steps (under_way (ended_by after ask_it) nobody ask_it p after.state after) kept_then (ask_it ∷ []) (p ∷ []) (settled end.Nothing nobody after) last
+  forgets : Steps (under_way (ended_by after ask_it) nobody ask_it (reply.Quota 8 3 0) after.state after) kept_then (ask_it ∷ []) (reply.Quota 8 3 0 ∷ [])
+      (settled end.Nothing nobody after) last
   forgets = first (forgotten 0 [] (λ m k h. absurd (none_there m k h))) (first ordered (first (told (λ i. inr (keeps_none i))) none))
     where
       none_there : (n : ℕ) (k : Kept) → slice_get {X = Kept} [] n ≡ Some k → ⊥
@@ -202,28 +181,8 @@ module _ (v w : View) (r : Reply) (core : IsCore v) (state : v.state ≡ loaded_
 
   -- ---- The replies
 
-  replied : r ≡ reply.Done
-  replied = b.carried.reply ∙ ap (λ (s : State). answer s protect_it) state
-
   value : q ≡ reply.Value 7
   value = (walks_leave_cores w u load_copy q later walks).0 ∙ ap (λ (s : State). answer s load_copy) (b.carried.state ∙ ap (λ (s : State). next s protect_it) state)
-
-  quota : p ≡ reply.Quota 8 3 0
-  quota = ap (λ (s : State). answer (next (next (next s load_copy) store_copy) protect_it) ask_it) state
-
-  abbrev Opens : Reply → Type 0
-  Opens done = Steps (settled end.Nothing nobody v) none_kept [] [] (under_way x_ended nobody protect_it done v.state w) keeps
-
-  abbrev Window : Reply → Reply → Type 0
-  Window value done = Steps (under_way x_ended nobody protect_it done v.state w) keeps (load_copy ∷ store_copy ∷ protect_it ∷ [])
-      (value ∷ reply.Done ∷ done ∷ []) (settled end.Nothing nobody after) kept_then
-
-  abbrev Asks : Reply → Type 0
-  Asks answered = Steps (settled end.Nothing nobody after) kept_then [] [] (under_way (ended_by after ask_it) nobody ask_it answered after.state after) kept_then
-
-  abbrev Forgets : Reply → Type 0
-  Forgets answered = Steps (under_way (ended_by after ask_it) nobody ask_it answered after.state after) kept_then (ask_it ∷ []) (answered ∷ [])
-      (settled end.Nothing nobody after) last
 
   pub worked : WorkedProtect w
   worked = record {
@@ -231,9 +190,9 @@ module _ (v w : View) (r : Reply) (core : IsCore v) (state : v.state ≡ loaded_
     opened = state;
     keeps = keeps;
     read = read;
-    begins = subst (λ (y : Reply). Begins v protect_it y w) replied b;
+    begins = b;
     walked_to = u;
-    walked = subst (λ (y : Reply). IsWalked w load_copy y u) value walks;
+    walked = rw value at walks;
     bytes = bytes;
     clean = stores;
     after = after;
@@ -241,47 +200,29 @@ module _ (v w : View) (r : Reply) (core : IsCore v) (state : v.state ≡ loaded_
     some_left = some_left;
     last = last;
     none_left = refl;
-    opens = subst Opens replied opens;
-    window = subst (λ (y : Reply). Window y reply.Done) value (subst (λ (y : Reply). Window q y) replied window);
-    asks = subst Asks quota asks;
-    forgets = subst Forgets quota forgets;
+    opens = opens;
+    window = window (reply.Value 7) (rw value at walks);
+    asks = first (begun asked) none;
+    forgets = forgets;
   }
 
--- what the calls of a core that boots ensure, with these events
-pub record Made (e1 e2 e3 e4 : Event) (o s f v w : View) (r fork_reply : Reply) (y : Ended) : Type 0 where
+-- what the calls of a core that boots ensure
+pub record Called (o s f v w : View) (fork_reply : Reply) : Type 0 where
   pub opening : o.state ≡ open_with 16
-  pub stored : s.state ≡ next o.state e1
+  pub stored : s.state ≡ next o.state first_store
   pub core_stored : IsCore s
-  pub forked : f.state ≡ next s.state e2
-  pub fork_told : fork_reply ≡ answer s.state e2
-  pub lazy : LeavesLazy s e2 fork_reply f
+  pub forked : f.state ≡ next s.state fork_it
+  pub fork_told : fork_reply ≡ answer s.state fork_it
+  pub lazy : LeavesLazy s fork_it fork_reply f
   pub core_forked : IsCore f
-  pub loaded : v.state ≡ next f.state e3
-  pub load_stay : FramesStay (gone_by f.state e3) (memory_of f) (memory_of v)
+  pub loaded : v.state ≡ next f.state load_copy
+  pub load_stay : FramesStay (gone_by f.state load_copy) (memory_of f) (memory_of v)
   pub before : IsCore v
-  pub reply : r ≡ answer v.state e4
-  pub ended : y ≡ ended_by v e4
-  pub state : w.state ≡ next v.state e4
-  pub ends : Ends y v w
-  pub stay : FramesStay (gone_by v.state e4) (memory_of v) (memory_of w)
-  pub later : IsCore w
+  pub begins : Begins v protect_it (answer v.state protect_it) w
 
--- which are those of the worked Protect
-abbrev pub Called : View → View → View → View → View → Reply → Reply → Ended → Type 0
-Called = Made first_store fork_it load_copy protect_it
-
-pub called : (e1 e2 e3 e4 : Event) (o s f v w : View) (r fork_reply : Reply) (y : Ended) → e1 ≡ first_store → e2 ≡ fork_it → e3 ≡ load_copy → e4 ≡ protect_it
-    → Made e1 e2 e3 e4 o s f v w r fork_reply y → Called o s f v w r fork_reply y
-called e1 e2 e3 e4 o s f v w r fork_reply y one two three four =
-    subst (λ (t : Type 0). t) (λ i. Made (one i) (two i) (three i) (four i) o s f v w r fork_reply y)
-
-pub worked_by : (o s f v w : View) (r fork_reply : Reply) (y : Ended) → Called o s f v w r fork_reply y → WorkedProtect w
-worked_by o s f v w r fork_reply y k = worked v w r k.before opened real_here
-    (record {
-      carried = record { reply = k.reply; state = k.state; ends = subst (λ (z : Ended). Ends z v w) k.ended k.ends; core = k.later };
-      stay = k.stay;
-      loose = λ no. cc;
-    })
+pub worked_by : (o s f v w : View) (fork_reply : Reply) → Called o s f v w fork_reply → WorkedProtect w
+worked_by o s f v w fork_reply k =
+    worked v w k.before opened real_here (subst (λ (r : Reply). Begins v protect_it r w) (ap (λ (s : State). answer s protect_it) opened) k.begins)
   where
     stored : s.state ≡ next (open_with 16) first_store
     stored = k.stored ∙ ap (λ (z : State). next z first_store) k.opening

@@ -1,7 +1,6 @@
 -- The steps of the worked window.
 use Rattle.shootdowns.proofs.Prelude
-use Prelude.{◌≡◌, ◌≢◌, ℕ, ◌+◌, ◌<◌, ◌≤◌, ◌^◌, Bool, true, false, List, [], ◌∷◌, length, refl, ap, sym, ◌∙◌, subst, arith, Some, None, is_some, ◌⊎◌, ◌&&◌, if◌then◌else◌, option_and_then, option_map, slice_get_within, Directory, Table, index_number, slot_number, flag, frame_number, is_present, with_flag, flag-with_flag_other, flag-with_flag_same, is_some-map, some_value, word_at, word_place, with_word, word_in-frame, length-with_word, word_at-with_word_same, Access, Read, Write, with_walked, directory_at, is_user_slot, named_by, present_word, table_at, word_of, Cell, at_page, FramesStay, LooseStay, from_then, memory_of, State, is_live, open_with, View, gone_by, reply_kept, bytes_kept, answer, answers, next, AllAreRead, IsCore, Processors, with_kept, LetsThrough, IsLoaded, IsMarked, AreRead, Kept, translation, Ends, ended_by, left_by, Event, Reply, Ended, Begins, IsStale, KeepsNone, Steps, begun, loaded, marked, ordered, refilled, invalidated, told, none, first, nobody, with_one, settled, under_way, first_store, second_store, unmap_it, load_it, store_it, none_kept, WorkedWindow}
-use Rattle.std.specs.Prelude.{◌==◌}
+use Prelude.{◌≡◌, ◌≢◌, ℕ, ◌+◌, ◌<◌, ◌≤◌, ◌^◌, Bool, true, false, List, [], ◌∷◌, length, refl, ap, sym, ◌∙◌, subst, arith, Some, None, is_some, ◌⊎◌, ◌&&◌, if◌then◌else◌, option_and_then, option_map, slice_get_within, Directory, Table, index_number, slot_number, flag, frame_number, is_present, with_flag, flag-with_flag_other, flag-with_flag_same, is_some-map, some_value, word_at, word_place, with_word, word_in-frame, length-with_word, word_at-with_word_same, Access, Read, Write, with_walked, directory_at, is_user_slot, named_by, present_word, table_at, word_of, Cell, at_page, from_then, memory_of, State, is_live, open_with, View, reply_kept, bytes_kept, answer, answers, next, AllAreRead, IsCore, Processors, with_kept, LetsThrough, IsLoaded, IsMarked, AreRead, Kept, translation, ended_by, left_by, Event, Reply, Ended, Begins, IsStale, KeepsNone, Steps, begun, loaded, marked, ordered, refilled, invalidated, told, none, first, nobody, with_one, settled, under_way, first_store, second_store, unmap_it, load_it, store_it, none_kept, WorkedWindow}
 use Rattle.page_words.specs.FiniteMap as map
 use Rattle.address_space.proofs.Prelude.{with_flag_lt}
 use Rattle.kernel_calls.specs.declared.calls.Reply.TheVariants as reply
@@ -33,9 +32,7 @@ pub record LeadsOn (v : View) (d page : ℕ) : Type 0 where
 
 -- what names a table is present, and names its frame
 names_table : (a b : Bool) (x t : ℕ) → (if a && b then Some x else None) ≡ Some t → (b ≡ true) × (x ≡ t)
-names_table true true x t h = (refl, cc)
-names_table true false x t h = cc
-names_table false b x t h = cc
+names_table x0 x1 x t h = grind arith
 
 leads_on : (v : View) → IsCore v → (p d page : ℕ) (c : Cell) → directory_at (memory_of v) p ≡ Some d
     → map.get v.state.spaces (at_page p page) ≡ Some c → slot_number page < 1024 → LeadsOn v d page
@@ -53,11 +50,7 @@ leads_on v core p d page c live there low =
     let size = core.image.memory.sound.size in
     let few = core.sized.few in
     let number : frame_number (word_at v.bytes (word_place d slot)) ≡ t.0 = ap frame_number same ∙ names.1 in
-    record {
-      inside = omega (arith, frame, size, low);
-      present = ap is_present same ∙ names.0;
-      small = omega (arith, table, few, number);
-    }
+    grind arith
 
 -- it is another once accessed is cleared and set
 set_again : (bytes : List ℕ) (d page : ℕ) → word_place d (slot_number page) + 4 ≤ length bytes
@@ -99,7 +92,7 @@ set_again bytes d page inside present small same =
         (with_flag_lt (word_at later place) 5 true later_small (omega arith)))
         ∙ flag-with_flag_same (word_at later place) 5 true (omega arith)
 
-module _ (v w y x : View) (r : Reply) (core : IsCore v) (state : v.state ≡ stored_state) (b : Begins v unmap_it r w)
+module _ (v w y x : View) (core : IsCore v) (state : v.state ≡ stored_state) (b : Begins v unmap_it reply.Done w)
     (clears : IsMarked w y) (marks : IsMarked y x) (changed : x.bytes ≢ y.bytes) where
   there : map.get v.state.spaces (at_page 0 0x40000) ≡ Some cell_there.0
   there = ap (λ (s : State). map.get s.spaces (at_page 0 0x40000)) state ∙ cell_there.1
@@ -114,18 +107,10 @@ module _ (v w y x : View) (r : Reply) (core : IsCore v) (state : v.state ≡ sto
   keeps = with_kept none_kept 0 (kept ∷ [])
 
   is_given : AreRead v (kept ∷ [])
-  is_given = (
-    given v core 0 0x40000 cell_there.0 there true (flag_there (λ c. c.write) refl) (flag_there (λ c. c.accessed) refl)
-        (dirty_real v core (at_page 0 0x40000) cell_there.0 there (flag_there (λ c. c.dirty) refl)) (λ _. flag_there (λ c. c.dirty) refl),
-    tt,
-  )
+  is_given = grind (arith, given, there, flag_there, dirty_real)
 
   read : AllAreRead v keeps
-  read i = by (i == 0)
-    where
-      by : (is : Bool) → AreRead v (if is then kept ∷ [] else [])
-      by true = is_given
-      by false = tt
+  read i = grind (arith, is_given)
 
   through : (access : Access) → LetsThrough (kept ∷ []) 0 0x40000 frame access
   through access = record { place = 0; write = true; dirty = true; there = refl; right = λ _. (refl, refl) }
@@ -154,31 +139,17 @@ module _ (v w y x : View) (r : Reply) (core : IsCore v) (state : v.state ≡ sto
   abbrev after : View
   after = record x { state = next (next v.state store_it) unmap_it; bytes = bytes }
 
-  opens : Steps (settled end.Nothing nobody v) none_kept [] [] (under_way x_ended nobody unmap_it r v.state w) keeps
-  opens = first (refilled 0 kept is_given.0) (first (begun b) none)
-
-  window : Steps (under_way x_ended nobody unmap_it r v.state w) keeps (load_it ∷ store_it ∷ unmap_it ∷ []) (q ∷ reply.Done ∷ r ∷ [])
-      (settled end.Nothing nobody after) last
-  window =
-      first (marked refl clears) (first (marked refl marks) (first (loaded 0 refl loads) (first (stored 0 refl stores)
+  window : (a : Reply) → IsLoaded (keeps 0) x load_it a → Steps (under_way x_ended nobody unmap_it reply.Done v.state w) keeps (load_it ∷ store_it ∷ unmap_it ∷ [])
+      (a ∷ reply.Done ∷ reply.Done ∷ []) (settled end.Nothing nobody after) last
+  window a load =
+      first (marked refl clears) (first (marked refl marks) (first (loaded 0 refl load) (first (stored 0 refl stores)
       (first (invalidated 0) (first ordered (first (told all) none))))))
-
-  whole : Steps (settled end.Nothing nobody v) none_kept (load_it ∷ store_it ∷ unmap_it ∷ []) (q ∷ reply.Done ∷ r ∷ [])
-      (settled end.Nothing nobody after) last
-  whole = first (refilled 0 kept is_given.0) (first (begun b) window)
-
-  replied : r ≡ reply.Done
-  replied = b.carried.reply ∙ ap (λ (s : State). answer s unmap_it) state
 
   value : q ≡ reply.Value 7
   value =
       let came = shootdowns_make_events v (settled end.Nothing nobody after) none_kept last
-      (load_it ∷ store_it ∷ unmap_it ∷ []) (q ∷ reply.Done ∷ r ∷ []) core (λ i. tt) whole in
-      first_told q (reply.Done ∷ r ∷ []) v.state (store_it ∷ unmap_it ∷ []) load_it came.replies ∙ ap (λ (s : State). answer s load_it) state
-
-  abbrev Window : Reply → Reply → Type 0
-  Window value done = Steps (under_way x_ended nobody unmap_it done v.state w) keeps (load_it ∷ store_it ∷ unmap_it ∷ [])
-      (value ∷ reply.Done ∷ done ∷ []) (settled end.Nothing nobody after) last
+      (load_it ∷ store_it ∷ unmap_it ∷ []) (q ∷ reply.Done ∷ reply.Done ∷ []) core (λ i. tt) (first (refilled 0 kept is_given.0) (first (begun b) (window q loads))) in
+      first_told q (reply.Done ∷ reply.Done ∷ []) v.state (store_it ∷ unmap_it ∷ []) load_it came.replies ∙ ap (λ (s : State). answer s load_it) state
 
   pub worked : WorkedWindow x
   worked = record {
@@ -187,61 +158,41 @@ module _ (v w y x : View) (r : Reply) (core : IsCore v) (state : v.state ≡ sto
     keeps = keeps;
     read = read;
     left = w;
-    begins = subst (λ (z : Reply). Begins v unmap_it z w) replied b;
+    begins = b;
     cleared = y;
     clears = clears;
     marked = marks;
     changed = changed;
-    loaded = subst (λ (z : Reply). IsLoaded (keeps 0) x load_it z) value loads;
+    loaded = rw value at loads;
     bytes = bytes;
     stale = stores;
     last = last;
-    opens = subst (λ (z : Reply). Steps (settled end.Nothing nobody v) none_kept [] [] (under_way x_ended nobody unmap_it z v.state w) keeps) replied opens;
-    window = subst (λ (z : Reply). Window z reply.Done) value (subst (λ (z : Reply). Window q z) replied window);
+    opens = first (refilled 0 kept is_given.0) (first (begun b) none);
+    window = window (reply.Value 7) (rw value at loads);
   }
 
--- what the calls of a core that boots ensure, with these events, and the number of its root
-pub record Made (e1 e2 e3 : Event) (p : ℕ) (o s v w y x : View) (r : Reply) (z : Ended) : Type 0 where
+-- what the calls of a core that boots ensure
+pub record Called (o s v w y x : View) : Type 0 where
   pub opening : o.state ≡ open_with 16
-  pub stored : s.state ≡ next o.state e1
-  pub more : v.state ≡ next s.state e2
+  pub stored : s.state ≡ next o.state first_store
+  pub more : v.state ≡ next s.state second_store
   pub before : IsCore v
-  pub reply : r ≡ answer v.state e3
-  pub ended : z ≡ ended_by v e3
-  pub state : w.state ≡ next v.state e3
-  pub ends : Ends z v w
-  pub stay : FramesStay (gone_by v.state e3) (memory_of v) (memory_of w)
-  pub loose : LooseStay (memory_of v) (memory_of w)
-  pub later : IsCore w
+  pub begins : Begins v unmap_it (answer v.state unmap_it) w
   pub clear_state : y.state ≡ w.state
   pub clear_directories : y.directories ≡ w.directories
   pub clear_roles : y.roles ≡ w.roles
-  pub clear_bytes : (directory : ℕ) → directory_at (memory_of w) p ≡ Some directory → y.bytes ≡ with_walked w.bytes directory 0x40000 false
+  pub clear_bytes : (directory : ℕ) → directory_at (memory_of w) 0 ≡ Some directory → y.bytes ≡ with_walked w.bytes directory 0x40000 false
   pub same : x.state ≡ y.state
   pub directories : x.directories ≡ y.directories
   pub roles : x.roles ≡ y.roles
-  pub bytes : (directory : ℕ) → directory_at (memory_of y) p ≡ Some directory → x.bytes ≡ with_walked y.bytes directory 0x40000 true
-
--- which are those of the worked window
-abbrev pub Called : View → View → View → View → View → View → Reply → Ended → Type 0
-Called = Made first_store second_store unmap_it 0
-
-pub called : (e1 e2 e3 : Event) (p : ℕ) (o s v w y x : View) (r : Reply) (z : Ended) → e1 ≡ first_store → e2 ≡ second_store → e3 ≡ unmap_it
-    → p ≡ 0 → Made e1 e2 e3 p o s v w y x r z → Called o s v w y x r z
-called e1 e2 e3 p o s v w y x r z one two three root =
-    subst (λ (t : Type 0). t) (λ i. Made (one i) (two i) (three i) (root i) o s v w y x r z)
+  pub bytes : (directory : ℕ) → directory_at (memory_of y) 0 ≡ Some directory → x.bytes ≡ with_walked y.bytes directory 0x40000 true
 
 -- a live process has a directory
 home_live : (v : View) → IsCore v → (p : ℕ) → is_live v.state p ≡ true → (d : ℕ) × (directory_at (memory_of v) p ≡ Some d)
 home_live v core p live = grind (arith, some_value, is_some-map)
 
-pub worked_by : (o s v w y x : View) (r : Reply) (z : Ended) → Called o s v w y x r z → WorkedWindow x
-worked_by o s v w y x r z k = worked v w y x r k.before opened
-    (record {
-      carried = record { reply = k.reply; state = k.state; ends = subst (λ (e : Ended). Ends e v w) k.ended k.ends; core = k.later };
-      stay = k.stay;
-      loose = λ _. k.loose;
-    })
+pub worked_by : (o s v w y x : View) → Called o s v w y x → WorkedWindow x
+worked_by o s v w y x k = worked v w y x k.before opened (subst (λ (r : Reply). Begins v unmap_it r w) (ap (λ (s : State). answer s unmap_it) opened) k.begins)
     (record {
       pid = 0;
       page = 0x40000;
@@ -267,10 +218,10 @@ worked_by o s v w y x r z k = worked v w y x r k.before opened
     opened = k.more ∙ ap (λ (s : State). next s second_store) (k.stored ∙ ap (λ (s : State). next s first_store) k.opening)
 
     taken : w.state ≡ next stored_state unmap_it
-    taken = k.state ∙ ap (λ (s : State). next s unmap_it) opened
+    taken = k.begins.carried.state ∙ ap (λ (s : State). next s unmap_it) opened
 
     home : (d : ℕ) × (directory_at (memory_of w) 0 ≡ Some d)
-    home = home_live w k.later 0 (ap (λ (s : State). is_live s 0) taken)
+    home = home_live w k.begins.carried.core 0 (ap (λ (s : State). is_live s 0) taken)
 
     home_still : directory_at (memory_of y) 0 ≡ Some home.0
     home_still = (λ i. directory_at (memory_of (record w { directories = k.clear_directories i })) 0) ∙ home.1
@@ -287,5 +238,5 @@ worked_by o s v w y x r z k = worked v w y x r k.before opened
 
     leads : LeadsOn w home.0 0x40000
     leads =
-        let k = leads_on w k.later 0 home.0 0x40001 beside.0 home.1 beside.1 (omega arith) in
+        let k = leads_on w k.begins.carried.core 0 home.0 0x40001 beside.0 home.1 beside.1 (omega arith) in
         record { inside = k.inside; present = k.present; small = k.small }

@@ -1,6 +1,6 @@
 -- A lazy page that an event gives a frame has zeros afterwards, as before.
 use Rattle.shootdowns.proofs.Prelude
-use Prelude.{◌≡◌, ◌≢◌, ℕ, zero, suc, ◌+◌, ◌<◌, Bool, true, false, cond, ◌||◌, List, [], ◌∷◌, refl, ap, sym, ◌∙◌, subst, arith, inl, inr, Option, Some, None, unwrap_or, is_some, ◌⊎◌, if◌then◌else◌, IfSome, slice_set, option_map, option_and_then, page_number, offset_number, byte_count, second_page, EachTouched, Size, same, is_lazy, get-insert, get-map_values, contains-insert, same_or_not, some_value, frame_bytes, page_word, is_lazy_at, takes_stores, Slot, slot_order, Cell, Spaces, at_page, slot_at, zeros, fresh, with_bytes, with_holders, set_bytes, write_at, stored, all_stored, bytes_of, joined, is_slot, IsThere, with_touched-same, each_byte, byte_is_write, accept_refusal, after_store, offered, memory_of, State, View, each_page, answer, answer_of, after, next, completes, IsCore, ended_by, if_lazy, is_ended, of_call, of_pages, Call, Event, Reply, next-goes, not-refused, Begins, LeavesZeros}
+use Prelude.{◌≡◌, ◌≢◌, ℕ, zero, suc, ◌+◌, ◌<◌, Bool, true, false, cond, ◌||◌, List, [], ◌∷◌, refl, ap, sym, ◌∙◌, subst, arith, inl, inr, Option, Some, None, unwrap_or, is_some, ◌⊎◌, if◌then◌else◌, IfSome, slice_set, option_map, option_and_then, offset_number, byte_count, EachTouched, Size, same, is_lazy, contains-insert, same_or_not, some_value, frame_bytes, page_word, is_lazy_at, takes_stores, Slot, slot_order, Cell, Spaces, at_page, slot_at, zeros, with_bytes, with_holders, write_at, stored, all_stored, bytes_of, joined, is_slot, IsThere, with_touched-same, each_byte, byte_is_write, after_store, memory_of, State, View, each_page, answer, answer_of, after, completes, IsCore, ended_by, if_lazy, is_ended, of_call, of_pages, Call, Event, Reply, next-goes, not-refused, Begins, LeavesZeros, accept_refusal, offered}
 use Rattle.std.proofs.lemmas.List.{set-get_or, get_or-replicate}
 use Rattle.page_words.specs.FiniteMap as map
 use Rattle.page_words.specs.FiniteSet as set
@@ -10,6 +10,7 @@ use Rattle.kernel_calls.specs.declared.calls.Reply.TheVariants as reply
 use Rattle.kernel_calls.specs.declared.translations.Ended.TheVariants as end
 use Rattle.kernel_calls.proofs.Untouched.{wider, widen, get_joined}
 use Rattle.shootdowns.proofs.Accesses.{lazy_zero}
+use Rattle.shootdowns.proofs.Cells.{written, grouped, get_stored, first_of, rest_of}
 use Rattle.shootdowns.proofs.Filled.{completed}
 use Rattle.shootdowns.proofs.Onward.{stands_at}
 use Rattle.shootdowns.proofs.Taking.{mapped_word, cell_bytes}
@@ -30,43 +31,26 @@ HasZeros S b = (c : Cell) × (map.get S b ≡ Some c) × (c.bytes ≡ zeros)
 zero_byte : (S : Spaces) (b r : Slot) (o : ℕ) → o < 4096 → HasZeros S b → HasZeros S r → HasZeros (stored S b o (0 ∷ [])) r
 zero_byte S b r o l h k = by (same slot_order r b) refl
   where
-    done : Cell
-    done = record h.0 { bytes = write_at h.0.bytes o (0 ∷ []); accessed = true; dirty = true }
-
     new : write_at h.0.bytes o (0 ∷ []) ≡ zeros
     new = ap (λ (l : List ℕ). write_at l o (0 ∷ [])) h.2 ∙ same_zeros o l
 
-    get : map.get (stored S b o (0 ∷ [])) r ≡ cond (same slot_order r b) (Some done) (option_map (λ (c : Cell). if set.contains h.0.holders r then with_bytes c (write_at h.0.bytes o (0 ∷ [])) else c) (map.get S r))
-    get =
-        ap (λ (c : Cell). map.get (map.insert (set_bytes S c.holders (write_at c.bytes o (0 ∷ []))) b (record c { bytes = write_at c.bytes o (0 ∷ []); accessed = true; dirty = true })) r) (ap (λ (z : Option Cell). unwrap_or z (fresh b true)) h.1)
-        ∙ get-insert (set_bytes S h.0.holders (write_at h.0.bytes o (0 ∷ []))) b done r
-        ∙ ap (cond (same slot_order r b) (Some done)) (get-map_values slot_order (λ q (c : Cell). if set.contains h.0.holders q then with_bytes c (write_at h.0.bytes o (0 ∷ [])) else c) S r)
-
-    put : Cell
-    put = if set.contains h.0.holders r then with_bytes k.0 (write_at h.0.bytes o (0 ∷ [])) else k.0
+    get : (q : Bool) → same slot_order r b ≡ q → map.get (stored S b o (0 ∷ [])) r ≡ cond q (Some (written h.0 o (0 ∷ []))) (Some (grouped h.0 o (0 ∷ []) r k.0))
+    get q is = get_stored S b h.0 h.1 o (0 ∷ []) r ∙ (λ i. cond (is i) (Some (written h.0 o (0 ∷ []))) (option_map (grouped h.0 o (0 ∷ []) r) (k.1 i)))
 
     put_zeros : (m : Bool) → (if m then with_bytes k.0 (write_at h.0.bytes o (0 ∷ [])) else k.0).bytes ≡ zeros
     put_zeros true = new
     put_zeros false = k.2
 
     by : (q : Bool) → same slot_order r b ≡ q → HasZeros (stored S b o (0 ∷ [])) r
-    by true is = (done, get ∙ ap (λ x. cond x (Some done) (option_map (λ (c : Cell). if set.contains h.0.holders r then with_bytes c (write_at h.0.bytes o (0 ∷ [])) else c) (map.get S r))) is, new)
-    by false is = (
-      put,
-      get ∙ ap (λ x. cond x (Some done) (option_map (λ (c : Cell). if set.contains h.0.holders r then with_bytes c (write_at h.0.bytes o (0 ∷ [])) else c) (map.get S r))) is
-          ∙ ap (option_map (λ (c : Cell). if set.contains h.0.holders r then with_bytes c (write_at h.0.bytes o (0 ∷ [])) else c)) k.1,
-      put_zeros (set.contains h.0.holders r),
-    )
+    by true is = (written h.0 o (0 ∷ []), get true is, new)
+    by false is = (grouped h.0 o (0 ∷ []) r k.0, get false is, put_zeros (set.contains h.0.holders r))
 
 zero_bytes : (k a p : ℕ) (S : Spaces) (r : Slot) → ((i : ℕ) → i < k → HasZeros S (slot_at p (a + i))) → HasZeros S r → HasZeros (all_stored S p a (bytes_of k 0)) r
 zero_bytes zero a p S r each here = here
 zero_bytes (suc k) a p S r each here =
-    let none : a + 0 ≡ a = omega arith in
-    let first = subst (λ n. HasZeros S (slot_at p n)) none (each 0 (omega arith)) in
+    let first = first_of (λ n. HasZeros S (slot_at p n)) k a each in
     zero_bytes k (a + 1) p (stored S (slot_at p a) (offset_number a) (0 ∷ [])) r
-    (λ i l.
-    let next : a + suc i ≡ a + 1 + i = omega arith in
-    zero_byte S (slot_at p a) (slot_at p (a + 1 + i)) (offset_number a) (omega arith) first (subst (λ n. HasZeros S (slot_at p n)) next (each (suc i) (omega (arith, l)))))
+    (λ i l. zero_byte S (slot_at p a) (slot_at p (a + 1 + i)) (offset_number a) (omega arith) first (rest_of (λ n. HasZeros S (slot_at p n)) k a each i l))
     (zero_byte S (slot_at p a) r (offset_number a) (omega arith) first here)
 
 -- ---- The event
@@ -104,23 +88,10 @@ ended_lazy v e leaves slot = by (completes (answer v.state e))
 
     pages : (p : ℕ) (x y : Option ℕ) → IfSome x (λ n. is_lazy_at (memory_of v) (at_page p n) ≡ true) → IfSome y (λ n. is_lazy_at (memory_of v) (at_page p n) ≡ true)
         → is_ended (of_pages p x y) slot ≡ true → is_lazy_at (memory_of v) slot ≡ true
-    pages p None None a b h = cc
-    pages p (Some page) None a b h = one p page a h
-    pages p None (Some page) a b h = one p page b h
-    pages p (Some page) (Some other) a b h = either (is_slot p page slot) (is_slot p other slot) refl refl h
-      where
-        either : (i j : Bool) → is_slot p page slot ≡ i → is_slot p other slot ≡ j → (i || j) ≡ true → is_lazy_at (memory_of v) slot ≡ true
-        either true j first next k = one p page a first
-        either false true first next k = one p other b next
-        either false false first next k = cc
+    pages p x1 x2 a b h = grind (arith, one)
 
     of_kind : (c : Call) → LeavesZeros v e.pid c → is_ended (of_call v e.pid c) slot ≡ true → is_lazy_at (memory_of v) slot ≡ true
-    of_kind (call.Store addr size value) leaves h =
-        pages e.pid (if_lazy (memory_of v) e.pid (page_number addr)) (option_and_then (if_lazy (memory_of v) e.pid) (second_page addr size))
-        (if_is e.pid (page_number addr) (is_lazy_at (memory_of v) (at_page e.pid (page_number addr))) refl) (second e.pid (second_page addr size)) h
-    of_kind (call.Accept giver giver_page page) leaves h =
-        pages giver (if_lazy (memory_of v) giver giver_page) None (if_is giver giver_page (is_lazy_at (memory_of v) (at_page giver giver_page)) refl) tt h
-    of_kind _ leaves h = absurd leaves
+    of_kind x0 leaves h = grind (arith, pages, if_is, second)
 
     by : (q : Bool) → is_ended (if q then of_call v e.pid e.call else end.Nothing) slot ≡ true → is_lazy_at (memory_of v) slot ≡ true
     by true h = of_kind e.call leaves h

@@ -10,5 +10,5 @@ returns-clause-bytes c = λ _.
     let page = c.page_of-page.ensures.value in
     c.copy_part.ensures
     ∙ (λ i. bytes_at (frame_bytes (c.memory.ensures i) c.in-Some.frame) (c.offset_of.ensures.value i) n)
-    ∙ ap (λ (xs : List ℕ). bytes_at xs (offset_number c.args.address) n) (c.in-Some.ensures.bytes ∙ ap (λ k. (cell_or_fresh s.spaces (at_page c.args.pid k)).bytes) page)
-    ∙ part_peeked s c.args.pid c.args.address n c.stands.ensures.well_formed (sym (ap (λ k. is_mapped s (at_page c.args.pid k)) page) ∙ c.in-Some.ensures.mapped) c.requires.within
+    ∙ ap (λ (xs : List ℕ). bytes_at xs (offset_number c.args.address) n) (c.in-Some.ensures.leads.bytes ∙ ap (λ k. (cell_or_fresh s.spaces (at_page c.args.pid k)).bytes) page)
+    ∙ part_peeked s c.args.pid c.args.address n c.stands.ensures.well_formed (sym (ap (λ k. is_mapped s (at_page c.args.pid k)) page) ∙ c.in-Some.ensures.leads.mapped) c.requires.within

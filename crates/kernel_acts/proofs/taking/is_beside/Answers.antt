@@ -9,8 +9,8 @@ returns-in_default-frame_at c =
 
 pub returns : goal.returns
 returns c =
-    let one = c.in-Some.ensures.way in
-    let two = c.in-Some-frame_at.ensures.way in
+    let one = c.in-Some.ensures.leads.way in
+    let two = c.in-Some-frame_at.ensures.leads.way in
     c.are_one.ensures
     ∙ sym (beside_ways c.args.core.now c.stands.ensures.core (at_page c.args.pid c.args.page) (at_page c.args.other c.args.other_page)
     one.0 c.in-Some.frame two.0 c.in-Some-frame_at.found (sym c.is_slot.ensures ∙ c.if-is_slot.false) one.1 two.1)

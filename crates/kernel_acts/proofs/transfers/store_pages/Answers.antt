@@ -1,11 +1,11 @@
 use Rattle.kernel_acts.proofs.Prelude
-use Prelude.{◌≡◌, ◌+◌, ◌-◌, ◌≤◌, ◌∙◌, ap, arith, length, take, drop, refl, slice_index, page_number, stays_then, stays_more, View, answer, store_byte, Transfer}
+use Prelude.{◌≡◌, ◌+◌, ◌-◌, ◌≤◌, ◌∙◌, ap, arith, length, take, drop, refl, slice_index, page_number, stays_then, stays_more, View, answer, store_byte}
 use Rattle.kernel_acts.proofs.TransferSteps.{part_goes, more_goes}
 use Rattle.kernel_acts.proofs.TransferLemmas.{written_whole, written_stopped, written_on}
 use Rattle.kernel_acts.proofs.transfers.store_pages.Goals as goal
 
-pub returns-in-Some-clause-count : goal.returns-in-Some-clause-count
-returns-in-Some-clause-count c =
+pub returns-in-Some-clause-written : goal.returns-in-Some-clause-written
+returns-in-Some-clause-written c =
     let t = c.loop-done.core.state in
     let p = c.args.pid in
     let bytes = c.args.bytes.now in
@@ -13,35 +13,9 @@ returns-in-Some-clause-count c =
     let done = c.loop-done.done in
     let count = c.count_in_page-count.result in
     let same : done + count - done ≡ count = omega arith in
-    ap (λ (x : Transfer). x.count) c.stopped_at.ensures
-    ∙ (written_stopped c.args.core.now.state t p c.args.address done count bytes c.in-Some.reply i.stored c.loop-done-test.true c.count_in_page-count.ensures.some
-    (c.in-Some.ensures.told ∙ (λ k. answer t (store_byte p (i.place k) (slice_index (take (same k) (drop done bytes)) 0)))) c.in-Some.ensures.stops).count
-
-pub returns-in-Some-clause-stop : goal.returns-in-Some-clause-stop
-returns-in-Some-clause-stop c =
-    let t = c.loop-done.core.state in
-    let p = c.args.pid in
-    let bytes = c.args.bytes.now in
-    let i = c.loop-done.invariant in
-    let done = c.loop-done.done in
-    let count = c.count_in_page-count.result in
-    let same : done + count - done ≡ count = omega arith in
-    ap (λ (x : Transfer). x.stop) c.stopped_at.ensures
-    ∙ (written_stopped c.args.core.now.state t p c.args.address done count bytes c.in-Some.reply i.stored c.loop-done-test.true c.count_in_page-count.ensures.some
-    (c.in-Some.ensures.told ∙ (λ k. answer t (store_byte p (i.place k) (slice_index (take (same k) (drop done bytes)) 0)))) c.in-Some.ensures.stops).stop
-
-pub returns-in-Some-clause-state : goal.returns-in-Some-clause-state
-returns-in-Some-clause-state c =
-    let t = c.loop-done.core.state in
-    let p = c.args.pid in
-    let bytes = c.args.bytes.now in
-    let i = c.loop-done.invariant in
-    let done = c.loop-done.done in
-    let count = c.count_in_page-count.result in
-    let same : done + count - done ≡ count = omega arith in
-    ap (λ (v : View). v.state) (c.in-Some.ensures.kept refl)
-    ∙ (written_stopped c.args.core.now.state t p c.args.address done count bytes c.in-Some.reply i.stored c.loop-done-test.true c.count_in_page-count.ensures.some
-    (c.in-Some.ensures.told ∙ (λ k. answer t (store_byte p (i.place k) (slice_index (take (same k) (drop done bytes)) 0)))) c.in-Some.ensures.stops).state
+    let w = written_stopped c.args.core.now.state t p c.args.address done count bytes c.in-Some.reply i.stored c.loop-done-test.true c.count_in_page-count.ensures.some
+    (c.in-Some.ensures.told ∙ (λ k. answer t (store_byte p (i.place k) (slice_index (take (same k) (drop done bytes)) 0)))) c.in-Some.ensures.stops in
+    rw c.stopped_at.ensures (record { count = w.count; stop = w.stop; state = ap (λ (v : View). v.state) (c.in-Some.ensures.kept refl) ∙ w.state })
 
 pub loop-done-preserved : goal.loop-done-preserved
 loop-done-preserved c =
@@ -64,18 +38,9 @@ loop-done-preserved c =
       still = λ none. absurd (omega (arith, none, some));
     }
 
-pub returns-clause-count : goal.returns-clause-count
-returns-clause-count c =
+pub returns-clause-written : goal.returns-clause-written
+returns-clause-written c =
     let i = c.loop-done.invariant in
     let within = i.within in
     let ended = c.loop-done-test.false in
-    ap (λ (x : Transfer). x.count) c.all_of.ensures
-    ∙ (written_whole c.args.core.now.state c.loop-done.core.state c.args.pid c.args.address c.loop-done.done c.args.bytes.now i.stored (omega (arith, within, ended))).count
-
-pub returns-clause-stop : goal.returns-clause-stop
-returns-clause-stop c =
-    let i = c.loop-done.invariant in
-    let within = i.within in
-    let ended = c.loop-done-test.false in
-    ap (λ (x : Transfer). x.stop) c.all_of.ensures
-    ∙ (written_whole c.args.core.now.state c.loop-done.core.state c.args.pid c.args.address c.loop-done.done c.args.bytes.now i.stored (omega (arith, within, ended))).stop
+    written_whole c.args.core.now.state c.loop-done.core.state c.args.pid c.args.address c.loop-done.done c.args.bytes.now i.stored (omega (arith, within, ended))

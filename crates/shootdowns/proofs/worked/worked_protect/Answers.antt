@@ -1,6 +1,6 @@
 use Rattle.shootdowns.proofs.Prelude
-use Prelude.{rules, ◌≡◌, ◌∙◌, first_store, fork_it, load_copy, protect_it}
-use Rattle.shootdowns.proofs.WorkedProtects.{called, worked_by}
+use Prelude.{rules, ◌≡◌, ◌∙◌, first_store, fork_it, load_copy, protect_it, refl}
+use Rattle.shootdowns.proofs.WorkedProtects.{worked_by}
 use Rattle.shootdowns.proofs.worked.worked_protect.Goals as goal
 
 pub returns : goal.returns
@@ -12,24 +12,21 @@ returns c =
     let load : c.event-3.result ≡ load_copy = c.event-3.ensures ∙ (λ i. record load_copy { pid = child i }) in
     let protect : c.event-4.result ≡ protect_it = c.event-4.ensures ∙ (λ i. record protect_it { pid = child i }) in
     let begun = c.step_ending.ensures in
-    worked_by c.in_ok-core.core c.step.new.self c.step-2.new.self c.step-3.new.self c.step_ending.new.self c.step_ending.result.0 c.step-2.result c.step_ending.result.1
-    (called c.event.result c.event-2.result c.event-3.result c.event-4.result c.in_ok-core.core c.step.new.self c.step-2.new.self c.step-3.new.self c.step_ending.new.self
-    c.step_ending.result.0 c.step-2.result c.step_ending.result.1 store fork load protect
+    worked_by c.in_ok-core.core c.step.new.self c.step-2.new.self c.step-3.new.self c.step_ending.new.self c.step-2.result
     (record {
       opening = c.in_ok-core.ensures.opening;
-      stored = c.step.ensures.state;
+      stored = rw store at c.step.ensures.state;
       core_stored = c.stands.ensures.core;
-      forked = c.step-2.ensures.state;
-      fork_told = c.step-2.ensures.reply;
-      lazy = c.step-2.ensures.lazy;
+      forked = rw fork at c.step-2.ensures.state;
+      fork_told = rw fork at c.step-2.ensures.reply;
+      lazy = rw fork at c.step-2.ensures.lazy;
       core_forked = c.stands-2.ensures.core;
-      loaded = c.step-3.ensures.state;
-      load_stay = c.step-3.ensures.stay;
+      loaded = rw load at c.step-3.ensures.state;
+      load_stay = rw load at c.step-3.ensures.stay;
       before = c.stands-3.ensures.core;
-      reply = begun.reply;
-      ended = begun.ended;
-      state = begun.state;
-      ends = begun.ends;
-      stay = begun.stay;
-      later = c.stands-4.ensures.core;
-    }))
+      begins = record {
+        carried = record { reply = refl; state = rw protect at begun.state; ends = rw (begun.ended, protect) at begun.ends; core = c.stands-4.ensures.core };
+        stay = rw protect at begun.stay;
+        loose = λ no. cc;
+      };
+    })

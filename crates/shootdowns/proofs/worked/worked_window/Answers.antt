@@ -1,6 +1,6 @@
 use Rattle.shootdowns.proofs.Prelude
-use Prelude.{rules, ◌≡◌, ◌∙◌, ap, gives_back, Event, first_store, second_store, unmap_it}
-use Rattle.shootdowns.proofs.WorkedSteps.{called, worked_by}
+use Prelude.{rules, ◌≡◌, ◌∙◌, first_store, second_store, unmap_it, refl}
+use Rattle.shootdowns.proofs.WorkedSteps.{worked_by}
 use Rattle.shootdowns.proofs.worked.worked_window.Goals as goal
 
 pub returns : goal.returns
@@ -15,27 +15,22 @@ returns c =
     let cleared = c.set_walked.ensures in
     let marked = c.set_walked-2.ensures in
     worked_by c.in_ok-core.core c.step.new.self c.step-2.new.self c.step_ending.new.self c.set_walked.new.self c.set_walked-2.new.self
-    c.step_ending.result.0 c.step_ending.result.1
-    (called c.event.result c.event-2.result c.event-3.result c.unwrap-root.result c.in_ok-core.core c.step.new.self c.step-2.new.self
-    c.step_ending.new.self c.set_walked.new.self c.set_walked-2.new.self c.step_ending.result.0 c.step_ending.result.1 store more unmap root
     (record {
       opening = c.in_ok-core.ensures.opening;
-      stored = c.step.ensures.state;
-      more = c.step-2.ensures.state;
+      stored = rw store at c.step.ensures.state;
+      more = rw more at c.step-2.ensures.state;
       before = c.stands.ensures.core;
-      reply = begun.reply;
-      ended = begun.ended;
-      state = begun.state;
-      ends = begun.ends;
-      stay = begun.stay;
-      loose = begun.loose (ap (λ (e : Event). gives_back e.call) unmap);
-      later = c.stands-2.ensures.core;
+      begins = record {
+        carried = record { reply = refl; state = rw unmap at begun.state; ends = rw (begun.ended, unmap) at begun.ends; core = c.stands-2.ensures.core };
+        stay = rw unmap at begun.stay;
+        loose = rw unmap at begun.loose;
+      };
       clear_state = cleared.state;
       clear_directories = cleared.directories;
       clear_roles = cleared.roles;
-      clear_bytes = cleared.bytes;
+      clear_bytes = rw root at cleared.bytes;
       same = marked.state;
       directories = marked.directories;
       roles = marked.roles;
-      bytes = marked.bytes;
-    }))
+      bytes = rw root at marked.bytes;
+    })

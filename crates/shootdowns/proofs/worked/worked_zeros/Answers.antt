@@ -1,7 +1,7 @@
 use Rattle.shootdowns.proofs.Prelude
-use Prelude.{rules, ◌≡◌, ◌∙◌, true, accept_it, load_it, map_it, offer_it, spawn_it}
+use Prelude.{rules, ◌≡◌, ◌∙◌, true, accept_it, load_it, map_it, offer_it, spawn_it, refl}
 use Rattle.kernel_calls.specs.declared.calls.Call.TheVariants as call
-use Rattle.shootdowns.proofs.WorkedAccepts.{called, worked_by}
+use Rattle.shootdowns.proofs.WorkedAccepts.{worked_by}
 use Rattle.shootdowns.proofs.worked.worked_zeros.Goals as goal
 
 pub returns : goal.returns
@@ -16,28 +16,25 @@ returns c =
     c.event-5.ensures ∙ (λ i. record accept_it { pid = child i; call = c.accept_of.ensures i }) ∙ (λ i. record accept_it { call = call.Accept (root i) 0x40000 0x50000 }) in
     let begun = c.step_ending.ensures in
     worked_by c.in_ok-core.core c.step.new.self c.step-2.new.self c.step-3.new.self c.step-4.new.self c.step_ending.new.self
-    c.step.result c.step_ending.result.0 c.step_ending.result.1
-    (called c.event.result c.event-2.result c.event-3.result c.event-4.result c.event-5.result c.in_ok-core.core c.step.new.self c.step-2.new.self
-    c.step-3.new.self c.step-4.new.self c.step_ending.new.self c.step.result c.step_ending.result.0 c.step_ending.result.1 maps loads spawns offers accepts
+    c.step.result
     (record {
       opening = c.in_ok-core.ensures.opening;
-      mapped = c.step.ensures.state;
-      map_told = c.step.ensures.reply;
-      lazy = c.step.ensures.lazy;
+      mapped = rw maps at c.step.ensures.state;
+      map_told = rw maps at c.step.ensures.reply;
+      lazy = rw maps at c.step.ensures.lazy;
       core_mapped = c.stands.ensures.core;
-      loaded = c.step-2.ensures.state;
-      load_stay = c.step-2.ensures.stay;
+      loaded = rw loads at c.step-2.ensures.state;
+      load_stay = rw loads at c.step-2.ensures.stay;
       core_loaded = c.stands-2.ensures.core;
-      spawned = c.step-3.ensures.state;
-      spawn_stay = c.step-3.ensures.stay;
+      spawned = rw spawns at c.step-3.ensures.state;
+      spawn_stay = rw spawns at c.step-3.ensures.stay;
       core_spawned = c.stands-3.ensures.core;
-      offered = c.step-4.ensures.state;
-      offer_stay = c.step-4.ensures.stay;
+      offered = rw offers at c.step-4.ensures.state;
+      offer_stay = rw offers at c.step-4.ensures.stay;
       before = c.stands-4.ensures.core;
-      reply = begun.reply;
-      ended = begun.ended;
-      state = begun.state;
-      ends = begun.ends;
-      stay = begun.stay;
-      later = c.stands-5.ensures.core;
-    }))
+      begins = record {
+        carried = record { reply = refl; state = rw accepts at begun.state; ends = rw (begun.ended, accepts) at begun.ends; core = c.stands-5.ensures.core };
+        stay = rw accepts at begun.stay;
+        loose = λ no. cc;
+      };
+    })
