@@ -61,7 +61,9 @@ def type_named(crate, name):
 
 
 def declared(module, name):
-    """The type that a path of what a type declares is about."""
+    """The type that a path of what a type declares is about. A module may only pass it on."""
+    while name in tree().names.get(module, {}):
+        module, name = tree().names[module][name]
     _, crate, *rest = module.split(".")
     named = next((part for part in rest if part[0].isupper() and part != "TheVariants"), name)
     return type_named(crate, named) if "declared" in rest and (CRATES / crate).is_dir() else None

@@ -1,13 +1,4 @@
 -- The definitions of other crates that this crate names, passed on from one place. Declares nothing.
-pub use Rattle.std.specs.Cmp.{IsTotalOrder, nat_cmp_total, on_total, then_total}
-pub use Rattle.std.specs.Coded.{Coded, code_by, coded_bool, coded_list, coded_option, coded_ℕ, coded×}
-pub use Rattle.std.specs.FinMap.{IsAntisymmetric, nat_cmp-IsAntisymmetric}
-pub use Rattle.std.specs.List.{range_with_len}
-pub use Rattle.std.specs.Ordering.{nat_cmp, on, ordering_then, then_cmp}
-pub use Rattle.std.specs.Prelude.{Bool, IfErr, IfNone, IfOk, IfSome, IsErrOf, IsTrue, List, MatchBool, None, Ok, Option, Some, [], drop, false, if◌then◌else◌, is_some, length, map, nat_le, nat_lt, not, option_and_then, option_map, refl, replicate, slice_get, slice_index, slice_set, suc, sum_by, take, true, unwrap_or, zero, ℕ, ◌%◌, ◌&&◌, ◌*◌, ◌++◌, ◌+◌, ◌-◌, ◌/◌, ◌<◌, ◌==◌, ◌^◌, ◌↔◌, ◌∷◌, ◌≡◌, ◌≢◌, ◌≤◌, ◌⊎◌}
-pub use Rattle.std.specs.Result.{is_ok}
-pub use Rattle.std.specs.declared.cmp.Ordering.{Ordering}
-pub use Rattle.std.specs.declared.cmp.Ordering.TheVariants.{Equal, Greater, Less}
 pub use Rattle.alloc_table.specs.Roles.{CanBeTaken, IsInUse, IsPageBelow, IsReleased, IsTaken, frames_in_use, frames_weight, free_frames, opening_roles}
 pub use Rattle.alloc_table.specs.declared.Role.{Role}
 pub use Rattle.alloc_table.specs.declared.Role.TheVariants.{Directory, Free, Page, Reserved, Table}

@@ -1,5 +1,7 @@
 -- Accesses that a processor makes by its walk: which walks find a frame, and what such an access leaves in memory.
-use Rattle.address_space.specs.Below.{ℕ, ◌+◌, ◌*◌, Bool, true, false, ◌&&◌, nat_lt, if◌then◌else◌, List, [], ◌∷◌, map, Option, slice_index, slice_set, option_map, unwrap_or, is_ok, slot_number, offset_number, start_number, covered, second_page, Size, with_flag, frame_number, is_present, word_at, word_place, with_word, Access, Read, Write, walk_of, table_word, marked}
+use Rattle.std.specs.Prelude.{ℕ, ◌+◌, ◌*◌, Bool, true, false, ◌&&◌, nat_lt, if◌then◌else◌, List, [], ◌∷◌, map, Option, slice_index, slice_set, option_map, unwrap_or}
+use Rattle.std.specs.Result.{is_ok}
+use Rattle.address_space.specs.Below.{slot_number, offset_number, start_number, covered, second_page, Size, with_flag, frame_number, is_present, word_at, word_place, with_word, Access, Read, Write, walk_of, table_word, marked}
 use Rattle.address_space.specs.Spaces.{value_of}
 use Rattle.address_space.specs.Image.{Image, directory_at}
 

@@ -1,5 +1,6 @@
 -- The spaces that a finite map from slots to page entries represents, given bytes for each frame.
-use Rattle.address_space.specs.Below.{ℕ, Bool, false, ◌==◌, List, Option, Some, None, Order, Map, Set, if◌then◌else◌, PageEntry}
+use Rattle.std.specs.Prelude.{ℕ, Bool, false, ◌==◌, List, Option, Some, None, if◌then◌else◌}
+use Rattle.address_space.specs.Below.{Order, Map, Set, PageEntry}
 use Rattle.address_space.specs.Spaces.{Slot, slot_order, Cell, Spaces}
 use Rattle.page_words.specs.FiniteMap as map
 use Rattle.page_words.specs.FiniteSet as set

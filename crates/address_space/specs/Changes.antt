@@ -1,5 +1,6 @@
 -- What each change of directories, memory and roles leaves.
-use Rattle.address_space.specs.Below.{option_map, ◌≡◌, ◌≢◌, ◌⊎◌, ℕ, ◌+◌, ◌-◌, ◌*◌, ◌<◌, ◌≤◌, Bool, true, false, not, ◌&&◌, List, length, Option, Some, None, is_some, slot_number, index_number, frame_number, is_present, frame_bytes, word_in, Role, IsReleased, PageEntry, count_range, Frames, dir_word, table_of, with_entry, is_lazy_entry}
+use Rattle.std.specs.Prelude.{option_map, ◌≡◌, ◌≢◌, ◌⊎◌, ℕ, ◌+◌, ◌-◌, ◌*◌, ◌<◌, ◌≤◌, Bool, true, false, not, ◌&&◌, List, length, Option, Some, None, is_some}
+use Rattle.address_space.specs.Below.{slot_number, index_number, frame_number, is_present, frame_bytes, word_in, Role, IsReleased, PageEntry, count_range, Frames, dir_word, table_of, with_entry, is_lazy_entry}
 use Rattle.address_space.specs.Spaces.{cell_or_fresh, Slot, Spaces, cost, need, fresh, joined, without, is_slot, is_of, at_page, copy_of, copied}
 use Rattle.address_space.specs.Cells.{holders_of}
 use Rattle.address_space.specs.Stays.{FramesStay, LooseStay, PlacesStay, none_goes, of_page, of_lazy, of_process}

@@ -1,5 +1,7 @@
 -- Codes of cells and spaces, so that a model's `Value` may hold them.
-use Rattle.address_space.specs.Below.{ℕ, Bool, List, refl, Coded, code_by, coded×, coded_list, coded_ℕ, coded_bool, map_code, set_code, Set}
+use Rattle.std.specs.Prelude.{ℕ, Bool, List, refl}
+use Rattle.std.specs.Coded.{Coded, code_by, coded×, coded_list, coded_ℕ, coded_bool}
+use Rattle.address_space.specs.Below.{map_code, set_code, Set}
 use Rattle.address_space.specs.Spaces.{Slot, Cell, Spaces, slot_order}
 
 -- the code of slots

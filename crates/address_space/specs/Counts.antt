@@ -1,5 +1,6 @@
 -- How many pages each table maps, counted.
-use Rattle.address_space.specs.Below.{◌≡◌, ◌≢◌, ℕ, ◌*◌, true, false, List, Option, slice_get, option_map, Role, Reserved, Free, Directory, Table, Page, count_range}
+use Rattle.std.specs.Prelude.{◌≡◌, ◌≢◌, ℕ, ◌*◌, true, false, List, Option, slice_get, option_map}
+use Rattle.address_space.specs.Below.{Role, Reserved, Free, Directory, Table, Page, count_range}
 use Rattle.address_space.specs.Spaces.{Slot, Spaces, at_page}
 use Rattle.address_space.specs.View.{spaces_in}
 use Rattle.address_space.specs.Sound.{IsSpaces}

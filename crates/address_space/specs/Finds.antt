@@ -1,5 +1,6 @@
 -- Where a page is, as directories and memory say, and what is written there.
-use Rattle.address_space.specs.Below.{◌≡◌, ◌⊎◌, ℕ, ◌+◌, ◌*◌, ◌≤◌, Bool, true, false, List, length, replicate, Option, Some, None, is_some, slice_get, slice_set, option_and_then, option_map, slot_number, index_number, IsUserPage, frame_bytes, word_in, with_frame, with_frame_bytes, Role, Page, Table, IsTaken, Frames, table_of, word_entry, with_entry, with_table, PageEntry}
+use Rattle.std.specs.Prelude.{◌≡◌, ◌⊎◌, ℕ, ◌+◌, ◌*◌, ◌≤◌, Bool, true, false, List, length, replicate, Option, Some, None, is_some, slice_get, slice_set, option_and_then, option_map}
+use Rattle.address_space.specs.Below.{slot_number, index_number, IsUserPage, frame_bytes, word_in, with_frame, with_frame_bytes, Role, Page, Table, IsTaken, Frames, table_of, word_entry, with_entry, with_table, PageEntry}
 use Rattle.address_space.specs.declared.place.Found.{Found}
 use Rattle.address_space.specs.Spaces.{need, write_at}
 use Rattle.address_space.specs.View.{Directories, directory_of, spaces_in, table_in, total_cost}

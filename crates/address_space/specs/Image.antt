@@ -1,6 +1,7 @@
 -- What memory's own words say: the tables and pages that directories name, when directories, roles and words agree, and
 -- which spaces they represent.
-use Rattle.address_space.specs.Below.{◌≡◌, ℕ, ◌+◌, ◌*◌, ◌<◌, ◌≤◌, ◌↔◌, Bool, true, false, not, ◌&&◌, nat_lt, nat_le, if◌then◌else◌, IsTrue, MatchBool, List, length, Option, Some, None, slice_get, option_and_then, option_map, unwrap_or, slot_number, index_number, frame_number, is_present, is_accessed, is_dirty, has_may, IsKernelDirWord, frames_in_use, Order, Set, frame_bytes, word_in, Role, Reserved, Directory, Table, Page}
+use Rattle.std.specs.Prelude.{◌≡◌, ℕ, ◌+◌, ◌*◌, ◌<◌, ◌≤◌, ◌↔◌, Bool, true, false, not, ◌&&◌, nat_lt, nat_le, if◌then◌else◌, IsTrue, MatchBool, List, length, Option, Some, None, slice_get, option_and_then, option_map, unwrap_or}
+use Rattle.address_space.specs.Below.{slot_number, index_number, frame_number, is_present, is_accessed, is_dirty, has_may, IsKernelDirWord, frames_in_use, Order, Set, frame_bytes, word_in, Role, Reserved, Directory, Table, Page}
 use Rattle.address_space.specs.Spaces.{Slot, slot_order, Cell, Spaces, cell_or_fresh, zeros}
 use Rattle.address_space.specs.View.{View, Directories, directory_of}
 use Rattle.address_space.specs.ImageWords.{is_lazy_word, lets_write, own_frame, IsTableWord}

@@ -1,5 +1,6 @@
 -- What a table word says in an image of each version.
-use Rattle.address_space.specs.Below.{◌≡◌, ℕ, ◌≤◌, ◌⊎◌, Bool, true, false, ◌&&◌, ◌==◌, if◌then◌else◌, MatchBool, Option, Some, None, flag, frame_number, is_present, is_writable, is_user, is_accessed, is_dirty, has_may, is_lazy, is_granted, NamesPage}
+use Rattle.std.specs.Prelude.{◌≡◌, ℕ, ◌≤◌, ◌⊎◌, Bool, true, false, ◌&&◌, ◌==◌, if◌then◌else◌, MatchBool, Option, Some, None}
+use Rattle.address_space.specs.Below.{flag, frame_number, is_present, is_writable, is_user, is_accessed, is_dirty, has_may, is_lazy, is_granted, NamesPage}
 
 -- whether the word's page is lazy: in version 1 none is
 abbrev pub is_lazy_word : ℕ → ℕ → Bool

@@ -1,5 +1,6 @@
 -- Accesses that a processor makes by translations that it kept: it reads and marks no word of the way.
-use Rattle.address_space.specs.Below.{◌≡◌, ℕ, ◌+◌, ◌*◌, ◌<◌, Bool, ◌&&◌, List, [], ◌∷◌, map, Ok, slice_index, slice_set, page_number, offset_number, byte_count, covered, Size, Access, walk_of}
+use Rattle.std.specs.Prelude.{◌≡◌, ℕ, ◌+◌, ◌*◌, ◌<◌, Bool, ◌&&◌, List, [], ◌∷◌, map, Ok, slice_index, slice_set}
+use Rattle.address_space.specs.Below.{page_number, offset_number, byte_count, covered, Size, Access, walk_of}
 use Rattle.address_space.specs.Spaces.{Slot, Spaces, cell_or_fresh, value_of}
 
 -- whether accessed and dirty of a slot are set already

@@ -1,5 +1,6 @@
 -- The place of a page of a process, found by one lookup.
-use Rattle.address_space.specs.Below.{◌≡◌, ℕ, Bool, List, Option, Some, None, is_some, option_map, slot_number, IsUserPage, frame_bytes, Frames, PageEntry}
+use Rattle.std.specs.Prelude.{◌≡◌, ℕ, Bool, List, Option, Some, None, is_some, option_map}
+use Rattle.address_space.specs.Below.{slot_number, IsUserPage, frame_bytes, Frames, PageEntry}
 use Rattle.address_space.specs.declared.place.Found.{Found}
 use Rattle.address_space.specs.declared.place.Place.{Place}
 use Rattle.address_space.specs.declared.place.Place.TheVariants.{Bare, Open, Mapped}

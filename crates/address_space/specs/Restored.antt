@@ -1,5 +1,6 @@
 -- Address spaces from directories, bytes and roles.
-use Rattle.address_space.specs.Below.{ℕ, ◌+◌, ◌≤◌, List, length, Option, Some, None, slice_get, is_present, frame_bytes, word_in, count_range, Role, Reserved, Free, Directory, Table, Page}
+use Rattle.std.specs.Prelude.{ℕ, ◌+◌, ◌≤◌, List, length, Option, Some, None, slice_get}
+use Rattle.address_space.specs.Below.{is_present, frame_bytes, word_in, count_range, Role, Reserved, Free, Directory, Table, Page}
 use Rattle.address_space.specs.View.{View, spaces_in, total_cost}
 
 -- how many words of a frame are present, where it is a table

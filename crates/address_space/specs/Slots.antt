@@ -1,5 +1,6 @@
 -- Every slot of the user range.
-use Rattle.address_space.specs.Below.{ℕ, zero, suc, List, [], ◌++◌, map, range_with_len}
+use Rattle.std.specs.Prelude.{ℕ, zero, suc, List, [], ◌++◌, map}
+use Rattle.std.specs.List.{range_with_len}
 use Rattle.address_space.specs.Spaces.{Slot, at_page}
 
 -- the slots of the processes below n at these pages

@@ -1,5 +1,6 @@
 -- When directories, memory and roles agree.
-use Rattle.address_space.specs.Below.{◌≡◌, ◌≢◌, ℕ, ◌+◌, ◌*◌, ◌^◌, ◌<◌, ◌≤◌, true, List, length, replicate, Option, Some, None, is_some, slice_get, ◌⊎◌, slot_number, IsKernelDirWord, IsKernelTableWord, is_present, frame_bytes, word_in, Role, Reserved, Directory, Table, Page, frames_weight, PageEntry, Frames, dir_word, entry_at}
+use Rattle.std.specs.Prelude.{◌≡◌, ◌≢◌, ℕ, ◌+◌, ◌*◌, ◌^◌, ◌<◌, ◌≤◌, true, List, length, replicate, Option, Some, None, is_some, slice_get, ◌⊎◌}
+use Rattle.address_space.specs.Below.{slot_number, IsKernelDirWord, IsKernelTableWord, is_present, frame_bytes, word_in, Role, Reserved, Directory, Table, Page, frames_weight, PageEntry, Frames, dir_word, entry_at}
 use Rattle.address_space.specs.Spaces.{Slot}
 use Rattle.address_space.specs.Cells.{Entries, holders_of, lazy_count}
 use Rattle.address_space.specs.View.{table_in, total_cost, Roles, Directories, spaces_in, entries_in, directory_of}

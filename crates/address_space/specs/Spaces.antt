@@ -1,5 +1,11 @@
 -- Address spaces: a finite map from slots to cells, and what they cost. No frame, word or count is in it.
-use Rattle.address_space.specs.Below.{◌≡◌, ℕ, zero, suc, ◌+◌, ◌*◌, ◌/◌, ◌%◌, Bool, true, false, not, if◌then◌else◌, ◌==◌, List, [], ◌∷◌, ◌++◌, map, length, take, drop, replicate, refl, Option, unwrap_or, Ordering, Less, Equal, Greater, nat_cmp, then_cmp, on, ordering_then, IsTotalOrder, nat_cmp_total, on_total, then_total, option_map, IsAntisymmetric, nat_cmp-IsAntisymmetric, slice_index, slot_number, page_number, offset_number, touched, Size, Order, Map, nat_order, same, Set}
+use Rattle.std.specs.Prelude.{◌≡◌, ℕ, zero, suc, ◌+◌, ◌*◌, ◌/◌, ◌%◌, Bool, true, false, not, if◌then◌else◌, ◌==◌, List, [], ◌∷◌, ◌++◌, map, length, take, drop, replicate, refl, Option, unwrap_or, option_map, slice_index}
+use Rattle.std.specs.declared.cmp.Ordering.{Ordering}
+use Rattle.std.specs.declared.cmp.Ordering.TheVariants.{Less, Equal, Greater}
+use Rattle.std.specs.Ordering.{nat_cmp, then_cmp, on, ordering_then}
+use Rattle.std.specs.Cmp.{IsTotalOrder, nat_cmp_total, on_total, then_total}
+use Rattle.std.specs.FinMap.{IsAntisymmetric, nat_cmp-IsAntisymmetric}
+use Rattle.address_space.specs.Below.{slot_number, page_number, offset_number, touched, Size, Order, Map, nat_order, same, Set}
 use Rattle.page_words.specs.FiniteMap as map
 use Rattle.page_words.specs.FiniteSet as set
 

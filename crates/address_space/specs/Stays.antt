@@ -1,5 +1,6 @@
 -- Where each slot's walk leads, and when it leads to the same frame after a change.
-use Rattle.address_space.specs.Below.{◌≡◌, ◌⊎◌, ◌<◌, ◌^◌, ℕ, Bool, true, false, ◌&&◌, ◌==◌, Option, Some, Ok, slice_get, option_map, option_and_then, frame_number, is_lazy, is_dirty, frame_bytes, Free, Page, PageEntry, Frames, slot_number, Access, walk_of}
+use Rattle.std.specs.Prelude.{◌≡◌, ◌⊎◌, ◌<◌, ◌^◌, ℕ, Bool, true, false, ◌&&◌, ◌==◌, Option, Some, Ok, slice_get, option_map, option_and_then}
+use Rattle.address_space.specs.Below.{frame_number, is_lazy, is_dirty, frame_bytes, Free, Page, PageEntry, Frames, slot_number, Access, walk_of}
 use Rattle.address_space.specs.Spaces.{Slot, at_page, slot_at, is_slot, is_of}
 use Rattle.address_space.specs.Cells.{Entries}
 use Rattle.address_space.specs.Image.{Image, directory_at, table_at, page_word, is_lazy_at}

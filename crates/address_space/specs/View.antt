@@ -1,5 +1,8 @@
 -- The model of address spaces: the spaces that directories and memory represent, and their cost.
-use Rattle.address_space.specs.Below.{◌≡◌, ℕ, zero, suc, if◌then◌else◌, List, Option, None, is_some, slice_get, sum_by, refl, Coded, code_by, coded×, coded_list, coded_ℕ, coded_option, option_and_then, unwrap_or, range_with_len, frame_bytes, Role, Reserved, Free, Directory, Table, Page, PageEntry, Frames, table_of, entry_at, collect}
+use Rattle.std.specs.Prelude.{◌≡◌, ℕ, zero, suc, if◌then◌else◌, List, Option, None, is_some, slice_get, sum_by, refl, option_and_then, unwrap_or}
+use Rattle.std.specs.Coded.{Coded, code_by, coded×, coded_list, coded_ℕ, coded_option}
+use Rattle.std.specs.List.{range_with_len}
+use Rattle.address_space.specs.Below.{frame_bytes, Role, Reserved, Free, Directory, Table, Page, PageEntry, Frames, table_of, entry_at, collect}
 use Rattle.address_space.specs.Codes.{spaces_code}
 use Rattle.address_space.specs.Spaces.{Slot, Spaces, cost}
 use Rattle.address_space.specs.Slots.{user_slots}

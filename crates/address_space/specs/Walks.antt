@@ -1,5 +1,6 @@
 -- How the processor's walk ends at an address of a process, by what the process has mapped there.
-use Rattle.address_space.specs.Below.{◌≡◌, ℕ, ◌^◌, ◌<◌, Bool, not, ◌&&◌, List, Option, Some, None, Ok, MatchBool, frame_bytes, Access, walk_of, is_write, not_present, not_allowed}
+use Rattle.std.specs.Prelude.{◌≡◌, ℕ, ◌^◌, ◌<◌, Bool, not, ◌&&◌, List, Option, Some, None, Ok, MatchBool}
+use Rattle.address_space.specs.Below.{frame_bytes, Access, walk_of, is_write, not_present, not_allowed}
 use Rattle.address_space.specs.Spaces.{Cell, Spaces, slot_at}
 use Rattle.address_space.specs.Image.{Image, directory_at, is_lazy_at}
 use Rattle.page_words.specs.FiniteMap as map

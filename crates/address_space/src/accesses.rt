@@ -1,6 +1,7 @@
 //! Loads and stores through pages that were found, one page or two.
 
-ghost use Rattle.address_space.specs.Below.{Some, [], false, is_some, length, slice_index, true, ◌*◌, ◌++◌, ◌+◌, ◌-◌, ◌<◌, ◌^◌, ◌∷◌, ◌≡◌, ◌≤◌, EachTouched, IsUserPage, byte_count, covered, frame_bytes, option_map, page_number, second_page, touched, with_frame};
+ghost use Rattle.std.specs.Prelude.{Some, [], false, is_some, length, slice_index, true, ◌*◌, ◌++◌, ◌+◌, ◌-◌, ◌<◌, ◌^◌, ◌∷◌, ◌≡◌, ◌≤◌, option_map};
+ghost use Rattle.address_space.specs.Below.{EachTouched, IsUserPage, byte_count, covered, frame_bytes, page_number, second_page, touched, with_frame};
 ghost use Rattle.address_space.specs.Words.{BytesStored, EntryIs, FramesStay, Inside, LiesIn, all_accessed, all_stored, at_page, bytes_at, bytes_of, cell_or_fresh, image_of, is_lazy_at, none_goes, number_of, place_in, value_of, write_at};
 ghost use Rattle.page_words.specs.FiniteMap as map;
 

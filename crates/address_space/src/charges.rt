@@ -1,6 +1,7 @@
 //! What a process is charged for, and what its charge falls by when a page goes.
 
-ghost use Rattle.address_space.specs.Below.{List, Option, Some, if◌then◌else◌, is_some, true, ℕ, ◌+◌, ◌==◌, ◌≡◌, ◌≤◌, IsPageMap, IsUserPage};
+ghost use Rattle.std.specs.Prelude.{List, Option, Some, if◌then◌else◌, is_some, true, ℕ, ◌+◌, ◌==◌, ◌≡◌, ◌≤◌};
+ghost use Rattle.address_space.specs.Below.{IsPageMap, IsUserPage};
 ghost use Rattle.address_space.specs.Words.{IsSpaces, at_page, cost, directory_of, is_slot, pages_of, place_in, regions_of, spaces_in, without};
 ghost use Rattle.alloc_table.specs.declared.Role.{Role as RoleValue};
 ghost use Rattle.page_words.specs.FiniteMap as map;

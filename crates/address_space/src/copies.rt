@@ -1,6 +1,7 @@
 //! All pages of a process are copied to another process.
 
-ghost use Rattle.address_space.specs.Below.{IfNone, IfSome, List, None, Some, false, is_some, length, true, ℕ, ◌*◌, ◌+◌, ◌<◌, ◌^◌, ◌≡◌, ◌≤◌, frame_bytes, free_frames, word_entry, word_in};
+ghost use Rattle.std.specs.Prelude.{IfNone, IfSome, List, None, Some, false, is_some, length, true, ℕ, ◌*◌, ◌+◌, ◌<◌, ◌^◌, ◌≡◌, ◌≤◌};
+ghost use Rattle.address_space.specs.Below.{frame_bytes, free_frames, word_entry, word_in};
 ghost use Rattle.address_space.specs.Words.{CopyIn, EntryCopied, FramesStay, Inside, IsCopying, at_page, copied, cost, directory_of, image_of, is_lazy_at, none_goes, spaces_in, total_cost, words_left};
 ghost use Rattle.alloc_table.specs.declared.Role.{Role as RoleValue};
 ghost use Rattle.page_words.specs.FiniteMap as map;

@@ -6,7 +6,8 @@
 //! costs allows.
 #![tactic(auto)]
 
-ghost use Rattle.address_space.specs.Below.{◌≡◌, ◌↔◌, IfOk, IsErrOf, replicate, ℕ, ◌+◌, ◌*◌, ◌<◌, ◌≤◌, Some, None, length, slice_get, is_some, true, blank_bytes, free_frames, CanBeTaken, IsTaken, opening_roles};
+ghost use Rattle.std.specs.Prelude.{◌≡◌, ◌↔◌, IfOk, IsErrOf, replicate, ℕ, ◌+◌, ◌*◌, ◌<◌, ◌≤◌, Some, None, length, slice_get, is_some, true};
+ghost use Rattle.address_space.specs.Below.{blank_bytes, free_frames, CanBeTaken, IsTaken, opening_roles};
 ghost use Rattle.address_space.specs.Words.{accessed, cost, StandsFor, StandsForOne, LeavesRoom, image_of, WaysAgree, PlacesTell, WalksAgree, directory_of, spaces_in, total_cost};
 ghost use Rattle.page_words.specs.FiniteMap as map;
 

@@ -1,6 +1,7 @@
 //! Pages that come: of zeros, on the frame of another, and lazy ones that get their frame.
 
-ghost use Rattle.address_space.specs.Below.{None, Option, Some, false, is_some, length, slice_get, slice_set, true, ℕ, ◌*◌, ◌+◌, ◌-◌, ◌<◌, ◌≡◌, ◌≢◌, ◌≤◌, IsUserPage, frame_bytes, free_frames, slot_number};
+ghost use Rattle.std.specs.Prelude.{None, Option, Some, false, is_some, length, slice_get, slice_set, true, ℕ, ◌*◌, ◌+◌, ◌-◌, ◌<◌, ◌≡◌, ◌≢◌, ◌≤◌};
+ghost use Rattle.address_space.specs.Below.{IsUserPage, frame_bytes, free_frames, slot_number};
 ghost use Rattle.address_space.specs.Words.{CountedUp, FrameGiven, FramesStay, LiesIn, TableGot, TakesPage, at_page, directory_of, found_of, fresh, image_of, is_lazy_at, joined, need, none_goes, place_in, table_in, total_cost};
 ghost use Rattle.page_words.specs.FiniteMap as map;
 

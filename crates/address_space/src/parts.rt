@@ -1,6 +1,8 @@
 //! Parts of a page: bytes that are read or written as one slice, as a load or a store of each would do it.
 
-ghost use Rattle.address_space.specs.Below.{false, is_some, length, map, true, ℕ, ◌+◌, ◌<◌, ◌≡◌, ◌≢◌, ◌≤◌, IsUserPage, frame_bytes, offset_number, page_number, range_with_len, with_frame};
+ghost use Rattle.std.specs.Prelude.{false, is_some, length, map, true, ℕ, ◌+◌, ◌<◌, ◌≡◌, ◌≢◌, ◌≤◌};
+ghost use Rattle.std.specs.List.{range_with_len};
+ghost use Rattle.address_space.specs.Below.{IsUserPage, frame_bytes, offset_number, page_number, with_frame};
 ghost use Rattle.address_space.specs.Words.{BytesStored, FramesStay, Inside, LiesIn, Slot, accessed, byte_at, bytes_at, image_of, is_lazy_at, none_goes, place_in, slot_at, stored, takes_stores, write_at};
 ghost use Rattle.page_words.specs.FiniteMap as finite_map;
 

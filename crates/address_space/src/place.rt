@@ -1,6 +1,7 @@
 //! The result of one lookup of a page, which is passed on, and what it says about the page.
 
-ghost use Rattle.address_space.specs.Below.{◌≡◌, ◌≤◌, ◌==◌, ◌&&◌, not, Some, is_some, if◌then◌else◌, ◌≢◌, ℕ, ◌+◌, ◌*◌, ◌<◌, length, slice_get, IfSome, true, false, IfNone, slot_number, page_number, offset_number, byte_count, covered, second_page, EachTouched, IsUserPage, option_map, frame_bytes, IsPageBelow};
+ghost use Rattle.std.specs.Prelude.{◌≡◌, ◌≤◌, ◌==◌, ◌&&◌, not, Some, is_some, if◌then◌else◌, ◌≢◌, ℕ, ◌+◌, ◌*◌, ◌<◌, length, slice_get, IfSome, true, false, IfNone, option_map};
+ghost use Rattle.address_space.specs.Below.{slot_number, page_number, offset_number, byte_count, covered, second_page, EachTouched, IsUserPage, frame_bytes, IsPageBelow};
 ghost use Rattle.address_space.specs.Words.{takes_stores_through, found_of, table_of_place, lazy_place, need_of, takes_place, place_by, place_in, shown, Slot, need, access_need, stored, bytes_of, byte_at, number_of, cell_or_fresh, accessed, protected, at_page, slot_at, image_of, is_lazy_at, takes_stores, FramesStay, none_goes, of_lazy, directory_of};
 ghost use Rattle.page_words.specs.FiniteMap as map;
 

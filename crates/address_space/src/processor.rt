@@ -1,6 +1,7 @@
 //! What a processor does to a directory word by itself. Its accesses are definitions (specs/ByWalk.antt, specs/Kept.antt).
 
-ghost use Rattle.address_space.specs.Below.{Some, is_some, length, true, ℕ, ◌*◌, ◌+◌, ◌≡◌, ◌≤◌, IsUserPage};
+ghost use Rattle.std.specs.Prelude.{Some, is_some, length, true, ℕ, ◌*◌, ◌+◌, ◌≡◌, ◌≤◌};
+ghost use Rattle.address_space.specs.Below.{IsUserPage};
 ghost use Rattle.address_space.specs.Words.{FramesStay, directory_of, image_of, none_goes, walked_word, with_walked};
 
 use crate::{Spaces, home};

@@ -1,6 +1,7 @@
 //! Address spaces from what an image has of memory: directories, bytes and roles.
 
-ghost use Rattle.address_space.specs.Below.{IfErr, IfOk, IfSome, Some, length, map, ◌*◌, ◌+◌, ◌<◌, ◌≡◌, ◌≤◌, range_with_len};
+ghost use Rattle.std.specs.Prelude.{IfErr, IfOk, IfSome, Some, length, map, ◌*◌, ◌+◌, ◌<◌, ◌≡◌, ◌≤◌};
+ghost use Rattle.std.specs.List.{range_with_len};
 ghost use Rattle.address_space.specs.Words.{HasRoom, IsSoundImage, StandsFor, counted_at, image_from, view_from, words_by};
 
 use crate::{Directories, Spaces};

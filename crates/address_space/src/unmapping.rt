@@ -1,6 +1,7 @@
 //! Pages and whole spaces that go, and the blank directory that a process begins with.
 
-ghost use Rattle.address_space.specs.Below.{IfNone, IfSome, None, Some, false, is_some, length, true, ℕ, ◌*◌, ◌+◌, ◌<◌, ◌≡◌, ◌≢◌, ◌≤◌, ◌⊎◌, IsInUse, IsPageMap, IsUserPage, frame_bytes, table_of};
+ghost use Rattle.std.specs.Prelude.{IfNone, IfSome, None, Some, false, is_some, length, true, ℕ, ◌*◌, ◌+◌, ◌<◌, ◌≡◌, ◌≢◌, ◌≤◌, ◌⊎◌};
+ghost use Rattle.address_space.specs.Below.{IsInUse, IsPageMap, IsUserPage, frame_bytes, table_of};
 ghost use Rattle.address_space.specs.Words.{DroppedBelow, EntryGone, EntryLeft, FramesStay, IsEmptySpace, LooseStay, Slot, TableFreed, View, at_page, cost, directory_of, found_in, image_of, is_lazy_at, is_of, is_slot, none_goes, of_page, of_process, place_in, total_cost, without};
 ghost use Rattle.page_words.specs.FiniteMap as map;
 

@@ -1,5 +1,4 @@
 -- The definitions of other crates that this crate names, passed on from one place. Declares nothing.
-pub use Rattle.std.specs.Prelude.{Bool, Err, IfSome, IsErr, IsNone, IsOk, IsSome, None, Ok, Option, Result, Some, [], false, find, if◌then◌else◌, is_some, nat_lt, not, option_and_then, option_map, true, ℕ, ◌&&◌, ◌+◌, ◌-◌, ◌<◌, ◌==◌, ◌||◌, ◌↔◌, ◌∷◌, ◌≡◌, ◌≢◌, ◌≤◌}
 pub use Rattle.address_space.specs.Image.{is_lazy_at, takes_stores}
 pub use Rattle.address_space.specs.Places.{found_of, place_in}
 pub use Rattle.address_space.specs.Spaces.{Slot, at_page, cell_or_fresh, cost, page_need, slot_at, with_page}

@@ -1,5 +1,6 @@
 -- Which slots' ways go where an access is carried out: those of the lazy pages that a write touches.
-use Rattle.fault_handler.specs.Below.{ℕ, ◌||◌, false, Option, Some, None, page_number, second_page, Size, Access, Read, Write, Gone, of_lazy}
+use Rattle.std.specs.Prelude.{ℕ, ◌||◌, false, Option, Some, None}
+use Rattle.fault_handler.specs.Below.{page_number, second_page, Size, Access, Read, Write, Gone, of_lazy}
 
 -- the lazy second page of an access, if it has one
 abbrev pub lazy_second : ℕ → Option ℕ → Gone

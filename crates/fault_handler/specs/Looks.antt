@@ -1,5 +1,6 @@
 -- What one lookup of each page of an access gives, and the plan that follows from it.
-use Rattle.fault_handler.specs.Below.{ℕ, ◌+◌, ◌-◌, ◌==◌, nat_lt, Bool, true, ◌&&◌, if◌then◌else◌, Option, Some, None, Result, Ok, Err, option_map, page_number, slot_number, start_number, touched, Size, cost, page_need, slot_at, Container, Access, is_write, page_fault, extra_cost, View, Quota}
+use Rattle.std.specs.Prelude.{ℕ, ◌+◌, ◌-◌, ◌==◌, nat_lt, Bool, true, ◌&&◌, if◌then◌else◌, Option, Some, None, Result, Ok, Err, option_map}
+use Rattle.fault_handler.specs.Below.{page_number, slot_number, start_number, touched, Size, cost, page_need, slot_at, Container, Access, is_write, page_fault, extra_cost, View, Quota}
 use Rattle.fault_handler.specs.declared.plans.Look.{Look}
 use Rattle.fault_handler.specs.declared.plans.Plan.{Plan}
 use Rattle.fault_handler.specs.declared.plans.Planned.{Planned}

@@ -1,5 +1,6 @@
 -- The plan of an access of a live process.
-use Rattle.fault_handler.specs.Below.{ℕ, Bool, true, false, not, ◌&&◌, if◌then◌else◌, Option, Some, None, Result, Ok, Err, find, option_map, page_number, covered, touched, second_page, is_user_page, Size, Slot, cell_or_fresh, at_page, slot_at, Access, is_write, page_fault, is_lazy_at, takes_stores, access_value, State, is_live, is_mapped, overdrawn, View, memory_of, NoProcess, Quota}
+use Rattle.std.specs.Prelude.{ℕ, Bool, true, false, not, ◌&&◌, if◌then◌else◌, Option, Some, None, Result, Ok, Err, find, option_map}
+use Rattle.fault_handler.specs.Below.{page_number, covered, touched, second_page, is_user_page, Size, Slot, cell_or_fresh, at_page, slot_at, Access, is_write, page_fault, is_lazy_at, takes_stores, access_value, State, is_live, is_mapped, overdrawn, View, memory_of, NoProcess, Quota}
 use Rattle.fault_handler.specs.declared.plans.PageStep.{PageStep}
 use Rattle.fault_handler.specs.declared.plans.Plan.{Plan}
 use Rattle.fault_handler.specs.declared.plans.Stop.{Stop}

@@ -1,6 +1,7 @@
 //! Accesses, each by one call: what completes as memory stands, in one page or in two, and any other by its plan.
 
-ghost use Rattle.fault_handler.specs.Below.{◌≡◌, ◌↔◌, true, false, Some, None, IfSome, IsSome, IsNone, IsOk, IsErr, page_number, second_page, IsUserPage, is_lazy_at, place_in, at_page, cell_or_fresh, slot_at, FramesStay, none_goes, access_value, after_access, after_load, after_store, loaded, memory_of, access_places, is_live, is_mapped};
+ghost use Rattle.std.specs.Prelude.{◌≡◌, ◌↔◌, true, false, Some, None, IfSome, IsSome, IsNone, IsOk, IsErr};
+ghost use Rattle.fault_handler.specs.Below.{page_number, second_page, IsUserPage, is_lazy_at, place_in, at_page, cell_or_fresh, slot_at, FramesStay, none_goes, access_value, after_access, after_load, after_store, loaded, memory_of, access_places, is_live, is_mapped};
 ghost use Rattle.fault_handler.specs.Fills.{lazy_written};
 ghost use Rattle.fault_handler.specs.Plans.{access_result, at_once, goes_on, outside, plan_at, takes_at, takes_no_frame};
 

@@ -5,7 +5,8 @@
 //! mapped or filled.
 #![tactic(auto)]
 
-ghost use Rattle.fault_handler.specs.Below.{◌≡◌, ◌≢◌, ℕ, true, false, not, [], ◌∷◌, Some, is_some, second_page, IsUserPage, at_page, with_page, is_mapped, overdrawn, access_value, after_access, FramesStay, none_goes, found_of, place_in, access_places, memory_of};
+ghost use Rattle.std.specs.Prelude.{◌≡◌, ◌≢◌, ℕ, true, false, not, [], ◌∷◌, Some, is_some};
+ghost use Rattle.fault_handler.specs.Below.{second_page, IsUserPage, at_page, with_page, is_mapped, overdrawn, access_value, after_access, FramesStay, none_goes, found_of, place_in, access_places, memory_of};
 ghost use Rattle.fault_handler.specs.Fills.{lazy_written};
 ghost use Rattle.fault_handler.specs.Plans.{maps_page, plan_at};
 ghost use Rattle.fault_handler.specs.declared.plans.Plan.TheVariants as plan;

@@ -1,6 +1,7 @@
 //! What the places of an access's pages say.
 
-ghost use Rattle.fault_handler.specs.Below.{◌≡◌, ◌≤◌, IfSome, true, option_and_then, page_number, IsUserPage, place_in, place_at, is_live};
+ghost use Rattle.std.specs.Prelude.{◌≡◌, ◌≤◌, IfSome, true, option_and_then};
+ghost use Rattle.fault_handler.specs.Below.{page_number, IsUserPage, place_in, place_at, is_live};
 ghost use Rattle.fault_handler.specs.Looks.{look_of, look_behind, barred, open_one_region, need_by};
 
 use crate::plans::{Look, PageStep};

@@ -1,6 +1,7 @@
 //! Plans accesses, and computes the charge after each plan.
 
-ghost use Rattle.fault_handler.specs.Below.{◌≡◌, ◌<◌, ◌≤◌, ℕ, true, false, IfSome, Some, option_and_then, page_number, second_page, IsUserPage, Size, place_in, cost, after_load, after_store, access_places, place_at, container_of, is_live};
+ghost use Rattle.std.specs.Prelude.{◌≡◌, ◌<◌, ◌≤◌, ℕ, true, false, IfSome, Some, option_and_then};
+ghost use Rattle.fault_handler.specs.Below.{page_number, second_page, IsUserPage, Size, place_in, cost, after_load, after_store, access_places, place_at, container_of, is_live};
 ghost use Rattle.fault_handler.specs.Plans.{outside, plan_at, goes_on};
 ghost use Rattle.fault_handler.specs.Looks.{planned_at, planned_by_looks, reach_by, ready_by, roomy_by};
 

@@ -1,5 +1,6 @@
 -- Runs of events that a core carries out: what each leaves, one after another.
-use Rattle.kernel_calls.specs.Below.{◌≡◌, List, [], ◌∷◌, View}
+use Rattle.std.specs.Prelude.{◌≡◌, List, [], ◌∷◌}
+use Rattle.kernel_calls.specs.Below.{View}
 use Rattle.kernel_calls.specs.Machine.{next}
 use Rattle.kernel_calls.specs.Processors.{IsCore}
 use Rattle.kernel_calls.specs.Translations.{Kept, AreRead, Ends, ended_by, left_by_all}

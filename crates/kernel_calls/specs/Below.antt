@@ -1,6 +1,4 @@
 -- The definitions of other crates that this crate names, passed on from one place. Declares nothing.
-pub use Rattle.std.specs.List.{range_with_len, zip}
-pub use Rattle.std.specs.Prelude.{All, Bool, Err, IfErr, IfNone, IfOk, IfSome, IsErrOf, IsTrue, List, None, Ok, Option, Result, Some, [], drop, false, filter, if◌then◌else◌, length, map, not, option_and_then, option_map, slice_get, slice_index, true, unwrap_or, ℕ, ◌&&◌, ◌*◌, ◌++◌, ◌+◌, ◌-◌, ◌<◌, ◌==◌, ◌^◌, ◌||◌, ◌↔◌, ◌∷◌, ◌≡◌, ◌≢◌, ◌≤◌, ◌⊎◌}
 pub use Rattle.address_space.specs.ByWalk.{after_walked_load, after_walked_store, finds, number_found, with_walked}
 pub use Rattle.address_space.specs.Image.{LeavesRoom, directory_at, is_lazy_at, page_frame, table_at, takes_stores, word_of}
 pub use Rattle.address_space.specs.Kept.{is_marked, number_at, written_at}

@@ -1,5 +1,6 @@
 -- Dirty and accessed of a slot: which slots have them, and what clearing them would change.
-use Rattle.kernel_calls.specs.Below.{◌≡◌, ℕ, Bool, true, false, Some, unwrap_or, option_map, Slot, Cell, cell_or_fresh, memory_of, State, View}
+use Rattle.std.specs.Prelude.{◌≡◌, ℕ, Bool, true, false, Some, unwrap_or, option_map}
+use Rattle.kernel_calls.specs.Below.{Slot, Cell, cell_or_fresh, memory_of, State, View}
 use Rattle.kernel_calls.specs.Translations.{TranslationsStay, SlotsStay, DirectoriesStay, TablesStay, TablesMap, Ends, is_ended}
 use Rattle.kernel_calls.specs.declared.calls.Event.{Event}
 use Rattle.kernel_calls.specs.declared.translations.Ended.{Ended}

@@ -1,5 +1,6 @@
 -- What is decided of an event before anything changes: its plan, its reply, and the charge of its process afterwards.
-use Rattle.kernel_calls.specs.Below.{ℕ, false, if◌then◌else◌, Option, Some, None, Result, Ok, Err, Pid, Size, cost, Container, State, is_live, View, map_refusal, unmap_refusal, protect_refusal, offer_refusal, withdraw_refusal, accept_refusal, spawn_refusal, fork_refusal, exit_refusal, Cause, plan_at, at_once, Plan, Access, Read, Write}
+use Rattle.std.specs.Prelude.{ℕ, false, if◌then◌else◌, Option, Some, None, Result, Ok, Err}
+use Rattle.kernel_calls.specs.Below.{Pid, Size, cost, Container, State, is_live, View, map_refusal, unmap_refusal, protect_refusal, offer_refusal, withdraw_refusal, accept_refusal, spawn_refusal, fork_refusal, exit_refusal, Cause, plan_at, at_once, Plan, Access, Read, Write}
 use Rattle.kernel_calls.specs.Machine.{answer, next}
 use Rattle.kernel_calls.specs.declared.decisions.Judgement.{Judgement}
 use Rattle.kernel_calls.specs.declared.calls.Call.{Call}

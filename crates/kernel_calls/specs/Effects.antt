@@ -1,5 +1,6 @@
 -- The reply and the effects of each call that completes, and the calls that events of others can refuse.
-use Rattle.kernel_calls.specs.Below.{◌≡◌, ℕ, ◌+◌, ◌<◌, ◌≤◌, true, false, map, Some, ◌⊎◌, page_number, offset_number, byte_count, covered, Size, Slot, at_page, slot_at, value_of, Container, State, is_mapped, container_of}
+use Rattle.std.specs.Prelude.{◌≡◌, ℕ, ◌+◌, ◌<◌, ◌≤◌, true, false, map, Some, ◌⊎◌}
+use Rattle.kernel_calls.specs.Below.{page_number, offset_number, byte_count, covered, Size, Slot, at_page, slot_at, value_of, Container, State, is_mapped, container_of}
 use Rattle.kernel_calls.specs.Integrity.{Flags, flags_at, byte_in, shares, Shown, shown_at}
 use Rattle.kernel_calls.specs.Machine.{answer, next, completes}
 use Rattle.kernel_calls.specs.declared.calls.Call.{Call}

@@ -1,5 +1,6 @@
 -- Which slots' ways go with an event, whatever was kept of them.
-use Rattle.kernel_calls.specs.Below.{ℕ, Bool, true, false, if◌then◌else◌, Gone, of_page, of_process, of_lazy, lazy_touched, State}
+use Rattle.std.specs.Prelude.{ℕ, Bool, true, false, if◌then◌else◌}
+use Rattle.kernel_calls.specs.Below.{Gone, of_page, of_process, of_lazy, lazy_touched, State}
 use Rattle.kernel_calls.specs.Machine.{answer, completes}
 use Rattle.kernel_calls.specs.declared.calls.Call.{Call}
 use Rattle.kernel_calls.specs.declared.calls.Event.{Event}

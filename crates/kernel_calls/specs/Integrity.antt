@@ -1,5 +1,6 @@
 -- What an event leaves of the slots that are mapped, and of other processes.
-use Rattle.kernel_calls.specs.Below.{◌≡◌, ◌≢◌, ℕ, ◌+◌, ◌-◌, ◌<◌, ◌≤◌, Bool, true, false, IsTrue, List, Option, Some, unwrap_or, ◌⊎◌, slice_index, option_map, offset_number, byte_count, Size, Slot, Cell, cell_or_fresh, at_page, slot_at, bytes_of, Member, is_child, given, number_of_children, State, is_live, IsWellFormed}
+use Rattle.std.specs.Prelude.{◌≡◌, ◌≢◌, ℕ, ◌+◌, ◌-◌, ◌<◌, ◌≤◌, Bool, true, false, IsTrue, List, Option, Some, unwrap_or, ◌⊎◌, slice_index, option_map}
+use Rattle.kernel_calls.specs.Below.{offset_number, byte_count, Size, Slot, Cell, cell_or_fresh, at_page, slot_at, bytes_of, Member, is_child, given, number_of_children, State, is_live, IsWellFormed}
 use Rattle.kernel_calls.specs.Machine.{next}
 use Rattle.kernel_calls.specs.declared.calls.Event.{Event}
 use Rattle.page_words.specs.FiniteMap as map

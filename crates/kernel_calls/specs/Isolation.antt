@@ -1,5 +1,7 @@
 -- The replies that a process gets in a run, and what they depend on.
-use Rattle.kernel_calls.specs.Below.{◌≡◌, ℕ, ◌+◌, Bool, true, false, if◌then◌else◌, ◌==◌, List, [], ◌∷◌, ◌++◌, length, map, filter, drop, All, zip, Map, nat_order, FirstPage, pages_held, alone_with, State, IsWellFormed}
+use Rattle.std.specs.Prelude.{◌≡◌, ℕ, ◌+◌, Bool, true, false, if◌then◌else◌, ◌==◌, List, [], ◌∷◌, ◌++◌, length, map, filter, drop, All}
+use Rattle.std.specs.List.{zip}
+use Rattle.kernel_calls.specs.Below.{Map, nat_order, FirstPage, pages_held, alone_with, State, IsWellFormed}
 use Rattle.kernel_calls.specs.Machine.{answer, answers, end_of}
 use Rattle.kernel_calls.specs.declared.calls.Call.{Call}
 use Rattle.kernel_calls.specs.declared.calls.Event.{Event}

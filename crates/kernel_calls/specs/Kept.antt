@@ -1,5 +1,6 @@
 -- Accesses that a processor makes by translations that it kept.
-use Rattle.kernel_calls.specs.Below.{◌≡◌, ℕ, true, List, Some, byte_count, EachTouched, Access, Read, Write, directory_at, is_marked, number_at, written_at, at_page, bytes_of, memory_of, State, View}
+use Rattle.std.specs.Prelude.{◌≡◌, ℕ, true, List, Some}
+use Rattle.kernel_calls.specs.Below.{byte_count, EachTouched, Access, Read, Write, directory_at, is_marked, number_at, written_at, at_page, bytes_of, memory_of, State, View}
 use Rattle.kernel_calls.specs.Machine.{next}
 use Rattle.kernel_calls.specs.Translations.{Translation, IsGiven}
 use Rattle.kernel_calls.specs.Walked.{finds_event, reply_found}

@@ -1,5 +1,6 @@
 -- Laws on runs: every state of one is well formed, and its processes cost no more than there are frames.
-use Rattle.kernel_calls.specs.Below.{ℕ, ◌+◌, ◌≤◌, List, open_with, IsWellFormed, total}
+use Rattle.std.specs.Prelude.{ℕ, ◌+◌, ◌≤◌, List}
+use Rattle.kernel_calls.specs.Below.{open_with, IsWellFormed, total}
 use Rattle.kernel_calls.specs.Machine.{end_of}
 use Rattle.kernel_calls.specs.declared.calls.Event.{Event}
 

@@ -1,5 +1,6 @@
 -- Which pages an event leaves lazy.
-use Rattle.kernel_calls.specs.Below.{◌≡◌, ℕ, Bool, true, is_lazy_at, at_page, memory_of, View}
+use Rattle.std.specs.Prelude.{◌≡◌, ℕ, Bool, true}
+use Rattle.kernel_calls.specs.Below.{is_lazy_at, at_page, memory_of, View}
 use Rattle.kernel_calls.specs.declared.calls.Event.{Event}
 use Rattle.kernel_calls.specs.declared.calls.Reply.{Reply}
 use Rattle.kernel_calls.specs.declared.calls.Call.TheVariants as call

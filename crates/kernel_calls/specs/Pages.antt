@@ -1,5 +1,6 @@
 -- What stands at a page of a process.
-use Rattle.kernel_calls.specs.Below.{ℕ, Option, option_map, at_page, shown, is_lazy_at, View, memory_of}
+use Rattle.std.specs.Prelude.{ℕ, Option, option_map}
+use Rattle.kernel_calls.specs.Below.{at_page, shown, is_lazy_at, View, memory_of}
 use Rattle.kernel_calls.specs.declared.pages.PageState.{PageState}
 use Rattle.page_words.specs.FiniteMap as map
 

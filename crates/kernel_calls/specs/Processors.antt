@@ -1,5 +1,6 @@
 -- What a core and any number of processors do with one memory, one step after another, and which events that is.
-use Rattle.kernel_calls.specs.Below.{◌≡◌, ℕ, ◌==◌, ◌≤◌, length, Bool, true, not, ◌&&◌, if◌then◌else◌, List, [], ◌∷◌, ◌++◌, Some, Result, Ok, Err, slice_get, IsUserPage, EachTouched, page_number, slot_number, index_number, frame_number, is_present, is_writable, is_user, word_at, word_place, Access, Read, Write, WalkEnd, Outside, walk_of, first_that_applies, is_outside, is_write, not_present, not_allowed, with_walked, directory_at, at_page, WaysAgree, WalksAgree, StandsFor, image_of, memory_of, State, container_of, View, IsWellFormed, takes_no_frame}
+use Rattle.std.specs.Prelude.{◌≡◌, ℕ, ◌==◌, ◌≤◌, length, Bool, true, not, ◌&&◌, if◌then◌else◌, List, [], ◌∷◌, ◌++◌, Some, Result, Ok, Err, slice_get}
+use Rattle.kernel_calls.specs.Below.{IsUserPage, EachTouched, page_number, slot_number, index_number, frame_number, is_present, is_writable, is_user, word_at, word_place, Access, Read, Write, WalkEnd, Outside, walk_of, first_that_applies, is_outside, is_write, not_present, not_allowed, with_walked, directory_at, at_page, WaysAgree, WalksAgree, StandsFor, image_of, memory_of, State, container_of, View, IsWellFormed, takes_no_frame}
 use Rattle.kernel_calls.specs.Decisions.{plan_of_event}
 use Rattle.kernel_calls.specs.Kept.{reply_kept, bytes_kept, ServesEvent, IsLoad, IsStore}
 use Rattle.kernel_calls.specs.Machine.{answer, answers, next, end_of}

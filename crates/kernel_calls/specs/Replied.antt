@@ -1,5 +1,6 @@
 -- What the function of each call shows (`reply_map` and the others).
-use Rattle.kernel_calls.specs.Below.{◌≡◌, false, FramesStay, memory_of, View}
+use Rattle.std.specs.Prelude.{◌≡◌, false}
+use Rattle.kernel_calls.specs.Below.{FramesStay, memory_of, View}
 use Rattle.kernel_calls.specs.Gone.{gone_by}
 use Rattle.kernel_calls.specs.Machine.{answer, next, completes}
 use Rattle.kernel_calls.specs.declared.calls.Event.{Event}

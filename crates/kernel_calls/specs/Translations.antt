@@ -1,7 +1,8 @@
 -- The translations that an event ends: those that a walk gave before it and gives no longer, so that a processor that
 -- keeps them has to invalidate them. A translation is what a walk gives for a page of a process: a frame, and whether
 -- it allows writes.
-use Rattle.kernel_calls.specs.Below.{◌⊎◌, ◌≡◌, ◌==◌, ◌<◌, ◌^◌, ℕ, Bool, true, false, not, ◌&&◌, ◌||◌, if◌then◌else◌, List, [], ◌∷◌, Option, Some, None, Ok, option_and_then, page_number, slot_number, second_page, Size, Access, Read, Write, walk_of, directory_at, table_at, is_lazy_at, takes_stores, Slot, Cell, at_page, slot_at, is_slot, is_of, memory_of, image_of, StandsFor, State, View}
+use Rattle.std.specs.Prelude.{◌⊎◌, ◌≡◌, ◌==◌, ◌<◌, ◌^◌, ℕ, Bool, true, false, not, ◌&&◌, ◌||◌, if◌then◌else◌, List, [], ◌∷◌, Option, Some, None, Ok, option_and_then}
+use Rattle.kernel_calls.specs.Below.{page_number, slot_number, second_page, Size, Access, Read, Write, walk_of, directory_at, table_at, is_lazy_at, takes_stores, Slot, Cell, at_page, slot_at, is_slot, is_of, memory_of, image_of, StandsFor, State, View}
 use Rattle.kernel_calls.specs.Machine.{answer, next, completes}
 use Rattle.kernel_calls.specs.declared.calls.Call.{Call}
 use Rattle.kernel_calls.specs.declared.calls.Event.{Event}

@@ -1,5 +1,6 @@
 -- Events that a processor carries out by itself: its walks find a frame for each page of a load or a store.
-use Rattle.kernel_calls.specs.Below.{ℕ, Bool, false, List, second_page, byte_count, finds, number_found, after_walked_load, after_walked_store, bytes_of, memory_of, View, Read, Write}
+use Rattle.std.specs.Prelude.{ℕ, Bool, false, List}
+use Rattle.kernel_calls.specs.Below.{second_page, byte_count, finds, number_found, after_walked_load, after_walked_store, bytes_of, memory_of, View, Read, Write}
 use Rattle.kernel_calls.specs.declared.calls.Call.{Call}
 use Rattle.kernel_calls.specs.declared.calls.Event.{Event}
 use Rattle.kernel_calls.specs.declared.calls.Reply.{Reply}

@@ -1,5 +1,6 @@
 -- What an event leaves of memory to every process but its own: what it may write.
-use Rattle.kernel_calls.specs.Below.{◌≡◌, ◌≢◌, ◌⊎◌, ℕ, ◌<◌, true, Option, Some, None, slice_get, slot_number, frame_number, is_present, frame_bytes, Role, Reserved, Free, Directory, Table, Page, directory_at, table_at, word_of, page_frame, is_lazy_at, at_page, memory_of, View}
+use Rattle.std.specs.Prelude.{◌≡◌, ◌≢◌, ◌⊎◌, ℕ, ◌<◌, true, Option, Some, None, slice_get}
+use Rattle.kernel_calls.specs.Below.{slot_number, frame_number, is_present, frame_bytes, Role, Reserved, Free, Directory, Table, Page, directory_at, table_at, word_of, page_frame, is_lazy_at, at_page, memory_of, View}
 use Rattle.kernel_calls.specs.Machine.{next}
 use Rattle.kernel_calls.specs.Processors.{IsCore}
 use Rattle.kernel_calls.specs.Translations.{Ends, ended_by}

@@ -1,6 +1,8 @@
 //! The kernel's core: one machine's memory and its processes.
 
-ghost use Rattle.kernel_calls.specs.Below.{◌≡◌, ◌↔◌, ℕ, ◌+◌, ◌*◌, ◌<◌, ◌≤◌, true, false, Some, IfOk, IfErr, IfSome, IfNone, IsErrOf, length, map, slice_get, slice_index, range_with_len, directory_of, page_number, offset_number, IsUserPage, FramesStay, LooseStay, WaysAgree, none_goes, WalksAgree, with_walked, open_with, container_of, is_live, is_mapped, after_loads, after_stores, offer_key, offer_number, image_in, RootIsItsParent, StandsFor, IsSoundImage, image_of, memory_of, IsWellFormed, total, LeavesRoom, takes_stores, zeros, need, at_page, slot_at, byte_at, frame_bytes};
+ghost use Rattle.std.specs.Prelude.{◌≡◌, ◌↔◌, ℕ, ◌+◌, ◌*◌, ◌<◌, ◌≤◌, true, false, Some, IfOk, IfErr, IfSome, IfNone, IsErrOf, length, map, slice_get, slice_index};
+ghost use Rattle.std.specs.List.{range_with_len};
+ghost use Rattle.kernel_calls.specs.Below.{directory_of, page_number, offset_number, IsUserPage, FramesStay, LooseStay, WaysAgree, none_goes, WalksAgree, with_walked, open_with, container_of, is_live, is_mapped, after_loads, after_stores, offer_key, offer_number, image_in, RootIsItsParent, StandsFor, IsSoundImage, image_of, memory_of, IsWellFormed, total, LeavesRoom, takes_stores, zeros, need, at_page, slot_at, byte_at, frame_bytes};
 ghost use Rattle.kernel_calls.specs.Cleaned.{is_dirty_at, cleaned, EndsMarks};
 ghost use Rattle.kernel_calls.specs.Isolation.{IsIsolated};
 ghost use Rattle.kernel_calls.specs.Lazy.{LeavesLazy};

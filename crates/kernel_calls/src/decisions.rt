@@ -1,6 +1,7 @@
 //! What is decided of an event: its plan, its reply and the charge of its process afterwards.
 
-ghost use Rattle.kernel_calls.specs.Below.{◌≡◌, true, Some, cost, is_live, container_of, loaded, plan_at, goes_on, access_places};
+ghost use Rattle.std.specs.Prelude.{◌≡◌, true, Some};
+ghost use Rattle.kernel_calls.specs.Below.{cost, is_live, container_of, loaded, plan_at, goes_on, access_places};
 ghost use Rattle.kernel_calls.specs.Decisions.{judged_of, refusal_of, reply_of, reply_to, tested, spawned, planned, quota_told};
 ghost use Rattle.table_walk.specs.declared.Access.TheVariants as access;
 ghost use Rattle.kernel_calls.specs.declared.calls.Call.TheVariants as call;

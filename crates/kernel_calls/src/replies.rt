@@ -1,6 +1,7 @@
 //! The reply to an event, which is carried out: each call is tested and made by one function.
 
-ghost use Rattle.kernel_calls.specs.Below.{◌≡◌, false, true, LooseStay, memory_of};
+ghost use Rattle.std.specs.Prelude.{◌≡◌, false, true};
+ghost use Rattle.kernel_calls.specs.Below.{LooseStay, memory_of};
 ghost use Rattle.kernel_calls.specs.Decisions.{call_of, done_told, child_told};
 ghost use Rattle.kernel_calls.specs.Lazy.{LeavesLazy};
 ghost use Rattle.kernel_calls.specs.Gone.{gives_back};

@@ -1,6 +1,7 @@
 //! Which cached translations an event ends.
 
-ghost use Rattle.kernel_calls.specs.Below.{◌≡◌, if◌then◌else◌, option_and_then, second_page, at_page, takes_stores, memory_of, IsWellFormed};
+ghost use Rattle.std.specs.Prelude.{◌≡◌, if◌then◌else◌, option_and_then};
+ghost use Rattle.kernel_calls.specs.Below.{second_page, at_page, takes_stores, memory_of, IsWellFormed};
 ghost use Rattle.kernel_calls.specs.Machine.{completes};
 ghost use Rattle.kernel_calls.specs.Translations.{if_lazy, of_pages, of_call};
 ghost use Rattle.kernel_calls.specs.declared.translations.Ended.TheVariants as end;

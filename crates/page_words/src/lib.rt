@@ -20,5 +20,6 @@ pub use maps::{
     keys_are_told_apart, maps_are_their_answers, sets_are_their_members, values_change_by_key,
 };
 pub use words::{
-    DirWord, OfDirectory, OfTable, TableWord, Word, fields_stand_alone, kernel_words_by_fields,
+    DirWord, OfDirectory, OfTable, PagingWord, TableWord, fields_stand_alone,
+    kernel_words_by_fields,
 };

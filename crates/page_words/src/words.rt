@@ -71,18 +71,18 @@ pub struct OfTable;
 /// Source of the bits: Intel SDM, volume 3, 32-bit paging, formats of a page-directory entry that references a page
 /// table, and of a page-table entry that maps a 4-KByte page. Of the latter the processor ignores bits 11 to 9.
 #[derive(Clone, Copy, Debug, PartialEq, Eq)]
-pub struct Word<K> {
+pub struct PagingWord<K> {
     word: u32,
     kind: PhantomData<K>,
 }
 
 /// A word of a page directory.
-pub type DirWord = Word<OfDirectory>;
+pub type DirWord = PagingWord<OfDirectory>;
 
 /// A word of a page table.
-pub type TableWord = Word<OfTable>;
+pub type TableWord = PagingWord<OfTable>;
 
-impl<K> Model for Word<K> {
+impl<K> Model for PagingWord<K> {
     ghost use Rattle.std.specs.Prelude.{ℕ};
 
     ghost Value = { ℕ };
@@ -92,12 +92,12 @@ impl<K> Model for Word<K> {
     ghost inverse = { λ n. record { word = n; kind = record {} } };
 }
 
-impl<K> Word<K> {
+impl<K> PagingWord<K> {
     /// The word with these 32 bits; every number is one.
-    pub fn read(word: u32) -> Word<K>
+    pub fn read(word: u32) -> PagingWord<K>
         ensures { result ≡ word }
     {
-        Word {
+        PagingWord {
             word,
             kind: PhantomData,
         }
@@ -183,7 +183,7 @@ impl<K> Word<K> {
     }
 }
 
-impl Word<OfTable> {
+impl PagingWord<OfTable> {
     /// Whether a write has gone to its page (bit 6, D).
     pub fn dirty(self) -> bool
         ensures { result ≡ is_dirty self }

@@ -1,5 +1,6 @@
 -- Processes that have nothing to do with the others, and when two such have the same.
-use Rattle.process_table.specs.Below.{◌≡◌, ◌≢◌, ℕ, Bool, false, IsTrue, List, map, Option, Some, option_map, Map, nat_order, Set, Slot, slot_order, Cell, pages_of, at_page, number_of_children, quota_of, OfferKey}
+use Rattle.std.specs.Prelude.{◌≡◌, ◌≢◌, ℕ, Bool, false, IsTrue, List, map, Option, Some, option_map}
+use Rattle.process_table.specs.Below.{Map, nat_order, Set, Slot, slot_order, Cell, pages_of, at_page, number_of_children, quota_of, OfferKey}
 use Rattle.process_table.specs.State.{State, is_live}
 use Rattle.page_words.specs.FiniteMap as map
 use Rattle.page_words.specs.FiniteSet as set

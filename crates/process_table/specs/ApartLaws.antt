@@ -1,6 +1,7 @@
 -- Laws on processes apart: a process's replies and the effects of its calls depend on what it has alone, and the calls
 -- of others leave it as it was.
-use Rattle.process_table.specs.Below.{◌≡◌, ◌≢◌, ℕ, Bool, true, [], ◌∷◌, Option, None, touched, Size, given, cost, at_page, cell_or_fresh}
+use Rattle.std.specs.Prelude.{◌≡◌, ◌≢◌, ℕ, Bool, true, [], ◌∷◌, Option, None}
+use Rattle.process_table.specs.Below.{touched, Size, given, cost, at_page, cell_or_fresh}
 use Rattle.process_table.specs.State.{State, is_live, is_mapped, overdrawn, child_of}
 use Rattle.process_table.specs.Calls.{map_refusal, unmap_refusal, protect_refusal, withdraw_refusal, accept_refusal, spawn_refusal, fork_refusal, exit_refusal, loaded, after_map, after_unmap, after_protect, after_offer, after_withdraw, after_accept, after_spawn, after_fork, after_exit, after_load, after_store}
 use Rattle.process_table.specs.WellFormed.{IsWellFormed}

@@ -1,7 +1,4 @@
 -- The definitions of other crates that this crate names, passed on from one place. Declares nothing.
-pub use Rattle.std.specs.Coded.{Coded, code_by, coded_list, coded_option, coded_ℕ, coded×}
-pub use Rattle.std.specs.List.{range_with_len}
-pub use Rattle.std.specs.Prelude.{All, Bool, Err, IfErr, IfOk, IfSome, IsErr, IsErrOf, IsOk, IsTrue, List, None, Ok, Option, Result, Some, [], false, if◌then◌else◌, is_none, is_some, length, map, nat_le, nat_lt, not, option_and_then, option_map, refl, replicate, slice_index, sum_by, true, unwrap_or, ℕ, ◌&&◌, ◌+◌, ◌-◌, ◌<◌, ◌==◌, ◌↔◌, ◌∷◌, ◌≡◌, ◌≢◌, ◌≤◌}
 pub use Rattle.address_space.specs.ByWalk.{with_walked}
 pub use Rattle.address_space.specs.Codes.{spaces_code}
 pub use Rattle.address_space.specs.Image.{IsCount, LeavesRoom, directory_at, image_from, is_lazy_at, page_word, table_at, takes_stores}

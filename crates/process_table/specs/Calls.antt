@@ -1,5 +1,6 @@
 -- What each call of a live process does, and what each but Load and Store (Plans of fault_handler) is refused for, in order.
-use Rattle.process_table.specs.Below.{ℕ, Bool, false, not, ◌&&◌, if◌then◌else◌, ◌==◌, nat_lt, nat_le, [], ◌∷◌, Option, Some, None, is_none, unwrap_or, byte_count, covered, touched, is_user_page, Size, cell_or_fresh, fresh, without, is_slot, is_of, protected, joined, number_of, with_pages, all_accessed, all_stored, bytes_of, at_page, cost, copied, next_number, number_of_children, offer_key, pending, without_page, without_process, Access, Read, Write}
+use Rattle.std.specs.Prelude.{ℕ, Bool, false, not, ◌&&◌, if◌then◌else◌, ◌==◌, nat_lt, nat_le, [], ◌∷◌, Option, Some, None, is_none, unwrap_or}
+use Rattle.process_table.specs.Below.{byte_count, covered, touched, is_user_page, Size, cell_or_fresh, fresh, without, is_slot, is_of, protected, joined, number_of, with_pages, all_accessed, all_stored, bytes_of, at_page, cost, copied, next_number, number_of_children, offer_key, pending, without_page, without_process, Access, Read, Write}
 use Rattle.process_table.specs.State.{State, is_live, is_mapped, overdrawn, room, child_of}
 use Rattle.process_table.specs.declared.causes.Cause.{Cause}
 use Rattle.process_table.specs.declared.causes.Cause.TheVariants.{BadPage, NotMapped, Mapped, Quota, Rights, SelfOffer, NoTarget, OfferPending, TooManyOffers, NoOffer, TableFull, BadQuota, HasChildren, RootExit, TooSmall}

@@ -1,5 +1,7 @@
 -- What a machine shows outside, when that is sound, and which state it represents.
-use Rattle.process_table.specs.Below.{◌≡◌, ℕ, ◌+◌, ◌≤◌, ◌&&◌, ◌==◌, not, true, if◌then◌else◌, IsTrue, length, Option, Some, None, is_some, sum_by, option_map, range_with_len, nat_order, directory_at, table_at, page_word, IsCount, Member, given, cost, at_page}
+use Rattle.std.specs.Prelude.{◌≡◌, ℕ, ◌+◌, ◌≤◌, ◌&&◌, ◌==◌, not, true, if◌then◌else◌, IsTrue, length, Option, Some, None, is_some, sum_by, option_map}
+use Rattle.std.specs.List.{range_with_len}
+use Rattle.process_table.specs.Below.{nat_order, directory_at, table_at, page_word, IsCount, Member, given, cost, at_page}
 use Rattle.process_table.specs.State.{State}
 use Rattle.process_table.specs.View.{View}
 use Rattle.page_words.specs.FiniteMap as map

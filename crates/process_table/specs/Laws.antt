@@ -1,6 +1,7 @@
 -- Laws on the calls: each that is not refused keeps states well formed, and such states cost no more than the root's
 -- quota.
-use Rattle.process_table.specs.Below.{◌≡◌, ◌≤◌, ℕ, Bool, true, false, None, touched, IsUserPage, EachTouched, Size, quota_of}
+use Rattle.std.specs.Prelude.{◌≡◌, ◌≤◌, ℕ, Bool, true, false, None}
+use Rattle.process_table.specs.Below.{touched, IsUserPage, EachTouched, Size, quota_of}
 use Rattle.process_table.specs.State.{State, open_with, is_live, overdrawn}
 use Rattle.process_table.specs.Calls.{map_refusal, protect_refusal, offer_refusal, accept_refusal, spawn_refusal, exit_refusal, after_map, after_unmap, after_protect, after_offer, after_withdraw, after_accept, after_spawn, after_exit, after_load, after_store, fork_refusal, after_fork}
 use Rattle.process_table.specs.WellFormed.{IsWellFormed, total}

@@ -1,5 +1,6 @@
 -- The state after accesses to bytes in a row, of one mapped page.
-use Rattle.process_table.specs.Below.{ℕ, List, offset_number, accessed, stored, slot_at}
+use Rattle.std.specs.Prelude.{ℕ, List}
+use Rattle.process_table.specs.Below.{offset_number, accessed, stored, slot_at}
 use Rattle.process_table.specs.State.{State}
 
 -- after loads of bytes from an address on

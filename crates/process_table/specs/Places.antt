@@ -1,5 +1,6 @@
 -- The places of the pages of a call, each found by one lookup.
-use Rattle.process_table.specs.Below.{ℕ, if◌then◌else◌, Option, Some, None, option_and_then, page_number, second_page, is_user_page, Size, Place, place_in}
+use Rattle.std.specs.Prelude.{ℕ, if◌then◌else◌, Option, Some, None, option_and_then}
+use Rattle.process_table.specs.Below.{page_number, second_page, is_user_page, Size, Place, place_in}
 use Rattle.process_table.specs.View.{View}
 use Rattle.process_table.specs.declared.places.Places.{Places}
 

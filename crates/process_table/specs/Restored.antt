@@ -1,5 +1,6 @@
 -- An image by the fields that a machine is made of.
-use Rattle.process_table.specs.Below.{◌≡◌, ℕ, List, Option, Some, option_map, Role, image_from, account_at}
+use Rattle.std.specs.Prelude.{◌≡◌, ℕ, List, Option, Some, option_map}
+use Rattle.process_table.specs.Below.{Role, image_from, account_at}
 use Rattle.process_table.specs.Image.{Account, Image}
 use Rattle.quota_tree.specs.declared.accounts.Account as quota_tree
 

@@ -1,5 +1,6 @@
 -- The machine's state: spaces, book and offers, what a process has room for, and what is known of it.
-use Rattle.process_table.specs.Below.{ℕ, ◌-◌, Bool, nat_lt, List, Option, option_map, unwrap_or, Slot, Spaces, cost, with_pages, Book, Member, given, quota_of, number_of_children, next_number, Container, Offers}
+use Rattle.std.specs.Prelude.{ℕ, ◌-◌, Bool, nat_lt, List, Option, option_map, unwrap_or}
+use Rattle.process_table.specs.Below.{Slot, Spaces, cost, with_pages, Book, Member, given, quota_of, number_of_children, next_number, Container, Offers}
 use Rattle.page_words.specs.FiniteMap as map
 
 -- the state: the spaces, the book and the offers

@@ -1,5 +1,6 @@
 -- What the test of each call returns: the first cause against the call, or otherwise its result.
-use Rattle.process_table.specs.Below.{ℕ, Bool, true, false, if◌then◌else◌, Option, Some, None, Result, Ok, Err, Pid, cost, QuotaFault}
+use Rattle.std.specs.Prelude.{ℕ, Bool, true, false, if◌then◌else◌, Option, Some, None, Result, Ok, Err}
+use Rattle.process_table.specs.Below.{Pid, cost, QuotaFault}
 use Rattle.process_table.specs.State.{State, is_live, child_of}
 use Rattle.process_table.specs.Calls.{map_refusal, unmap_refusal, protect_refusal, offer_refusal, withdraw_refusal, accept_refusal, spawn_refusal, fork_refusal, exit_refusal, after_map, after_unmap, after_accept}
 use Rattle.process_table.specs.declared.causes.Cause.{Cause}

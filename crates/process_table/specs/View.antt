@@ -1,5 +1,7 @@
 -- What the processes are seen as: the machine's state, and what memory itself holds of it.
-use Rattle.process_table.specs.Below.{◌≡◌, ℕ, ◌+◌, List, Option, refl, length, is_some, Coded, code_by, coded×, coded_list, coded_ℕ, coded_option, Role, Spaces, cost, spaces_code, role_code, directory_of, Book, book_code, quota_of, Containers, IsLive, used_of, Offers, offers_code}
+use Rattle.std.specs.Prelude.{◌≡◌, ℕ, ◌+◌, List, Option, refl, length, is_some}
+use Rattle.std.specs.Coded.{Coded, code_by, coded×, coded_list, coded_ℕ, coded_option}
+use Rattle.process_table.specs.Below.{Role, Spaces, cost, spaces_code, role_code, directory_of, Book, book_code, quota_of, Containers, IsLive, used_of, Offers, offers_code}
 use Rattle.process_table.specs.State.{State}
 use Rattle.process_table.specs.WellFormed.{IsWellFormed}
 use Rattle.page_words.specs.FiniteMap as map

@@ -1,5 +1,6 @@
 -- Which states are well formed.
-use Rattle.process_table.specs.Below.{◌≡◌, ℕ, ◌+◌, ◌<◌, ◌≤◌, ◌≢◌, Bool, IsTrue, length, Some, sum_by, All, IsUserPage, Slot, Cell, Spaces, cost, at_page, Member, given, quota_of, OfferKey, pending}
+use Rattle.std.specs.Prelude.{◌≡◌, ℕ, ◌+◌, ◌<◌, ◌≤◌, ◌≢◌, Bool, IsTrue, length, Some, sum_by, All}
+use Rattle.process_table.specs.Below.{IsUserPage, Slot, Cell, Spaces, cost, at_page, Member, given, quota_of, OfferKey, pending}
 use Rattle.process_table.specs.State.{State, is_live}
 use Rattle.page_words.specs.FiniteMap as map
 use Rattle.page_words.specs.FiniteSet as set

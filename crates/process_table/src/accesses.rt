@@ -1,6 +1,7 @@
 //! Accesses through mapped pages, and lazy pages that get their frames.
 
-ghost use Rattle.process_table.specs.Below.{false, true, ℕ, ◌≡◌, ◌≢◌, EachTouched, FramesStay, IsUserPage, Slot, at_page, cell_or_fresh, is_lazy_at, none_goes, of_lazy, page_number, place_in, second_page, slot_at, takes_stores};
+ghost use Rattle.std.specs.Prelude.{false, true, ℕ, ◌≡◌, ◌≢◌};
+ghost use Rattle.process_table.specs.Below.{EachTouched, FramesStay, IsUserPage, Slot, at_page, cell_or_fresh, is_lazy_at, none_goes, of_lazy, page_number, place_in, second_page, slot_at, takes_stores};
 ghost use Rattle.process_table.specs.Words.{access_places, access_value, after_access, after_load, after_store, is_mapped, loaded, memory_of};
 
 use crate::places::Places;

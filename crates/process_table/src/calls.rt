@@ -1,6 +1,7 @@
 //! Each call of a process that may make it, and accesses, with one condition: that the test passes.
 
-ghost use Rattle.process_table.specs.Below.{IsOk, Ok, false, true, ℕ, ◌≡◌, EachTouched, FramesStay, IsUserPage, LooseStay, at_page, cell_or_fresh, cost, is_lazy_at, none_goes, of_lazy, of_page, of_process};
+ghost use Rattle.std.specs.Prelude.{IsOk, Ok, false, true, ℕ, ◌≡◌};
+ghost use Rattle.process_table.specs.Below.{EachTouched, FramesStay, IsUserPage, LooseStay, at_page, cell_or_fresh, cost, is_lazy_at, none_goes, of_lazy, of_page, of_process};
 ghost use Rattle.process_table.specs.Words.{accept_answer, access_value, after_accept, after_access, after_exit, after_load, after_map, after_offer, after_protect, after_spawn, after_store, after_unmap, after_withdraw, exit_answer, is_live, is_mapped, map_answer, memory_of, offer_answer, protect_answer, spawn_answer, unmap_answer, withdraw_answer};
 
 use crate::charges::charge_of;

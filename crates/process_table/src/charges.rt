@@ -1,6 +1,7 @@
 //! What a live process is charged for, and what it has room for.
 
-ghost use Rattle.process_table.specs.Below.{Err, Ok, Some, [], if◌then◌else◌, length, true, ◌+◌, ◌-◌, ◌<◌, ◌∷◌, ◌≡◌, ◌≤◌, IsLive, IsUserPage, at_page, cost, need, place_in, room_of, total_cost, used_of, with_used};
+ghost use Rattle.std.specs.Prelude.{Err, Ok, Some, [], if◌then◌else◌, length, true, ◌+◌, ◌-◌, ◌<◌, ◌∷◌, ◌≡◌, ◌≤◌};
+ghost use Rattle.process_table.specs.Below.{IsLive, IsUserPage, at_page, cost, need, place_in, room_of, total_cost, used_of, with_used};
 ghost use Rattle.process_table.specs.Words.{IsProcesses, container_of, is_live, is_mapped, number_unless, overdrawn, room};
 ghost use Rattle.process_table.specs.declared.causes.Cause.TheVariants as cause;
 ghost use Rattle.address_space.specs.View as seen;

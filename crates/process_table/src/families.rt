@@ -1,6 +1,7 @@
 //! Children, copies and exits: of each call its test and its change.
 
-ghost use Rattle.process_table.specs.Below.{Err, IfErr, IfOk, IsErr, IsOk, Ok, Some, true, ℕ, ◌≡◌, FramesStay, LooseStay, at_page, cost, is_lazy_at, none_goes, of_process};
+ghost use Rattle.std.specs.Prelude.{Err, IfErr, IfOk, IsErr, IsOk, Ok, Some, true, ℕ, ◌≡◌};
+ghost use Rattle.process_table.specs.Below.{FramesStay, LooseStay, at_page, cost, is_lazy_at, none_goes, of_process};
 ghost use Rattle.process_table.specs.Words.{after_exit, after_fork, after_spawn, container_of, done_unless, exit_answer, exit_refusal, first_cause, for_copy, fork_answer, is_live, memory_of, spawn_answer, translated};
 
 use crate::causes::Cause;

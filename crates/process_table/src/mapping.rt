@@ -1,6 +1,7 @@
 //! Pages of a process that are mapped, unmapped and protected: of each call its test and its change.
 
-ghost use Rattle.process_table.specs.Below.{Err, IfErr, IfOk, IsErr, IsOk, None, Ok, Some, is_some, true, ℕ, ◌≡◌, ◌≢◌, FramesStay, LooseStay, at_page, found_of, is_lazy_at, need, none_goes, of_page, place_in};
+ghost use Rattle.std.specs.Prelude.{Err, IfErr, IfOk, IsErr, IsOk, None, Ok, Some, is_some, true, ℕ, ◌≡◌, ◌≢◌};
+ghost use Rattle.process_table.specs.Below.{FramesStay, LooseStay, at_page, found_of, is_lazy_at, need, none_goes, of_page, place_in};
 ghost use Rattle.process_table.specs.Words.{after_map, after_protect, after_unmap, done_unless, first_cause, map_answer, map_refusal, memory_of, protect_answer, protect_refusal, unmap_answer, unmap_refusal};
 
 use crate::causes::Cause;

@@ -1,6 +1,8 @@
 //! Parts of a process's page: bytes that are loaded or stored as one slice, as an access of each would do it.
 
-ghost use Rattle.process_table.specs.Below.{false, length, map, true, ◌+◌, ◌≡◌, ◌≤◌, FramesStay, IsUserPage, byte_at, none_goes, offset_number, page_number, range_with_len, slot_at, takes_stores};
+ghost use Rattle.std.specs.Prelude.{false, length, map, true, ◌+◌, ◌≡◌, ◌≤◌};
+ghost use Rattle.std.specs.List.{range_with_len};
+ghost use Rattle.process_table.specs.Below.{FramesStay, IsUserPage, byte_at, none_goes, offset_number, page_number, slot_at, takes_stores};
 ghost use Rattle.process_table.specs.Words.{after_loads, after_stores, is_live, is_mapped, memory_of};
 
 use crate::processes::Processes;

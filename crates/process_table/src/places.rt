@@ -1,6 +1,7 @@
 //! The place of a page, looked up by process and page, and what it says about the state.
 
-ghost use Rattle.process_table.specs.Below.{◌≡◌, ◌≤◌, IfSome, is_some, true, IsUserPage, is_lazy_at, takes_stores, found_of, lazy_place, need_of, takes_place, place_in, entry_flags, cell_flags, cell_or_fresh, need, at_page};
+ghost use Rattle.std.specs.Prelude.{◌≡◌, ◌≤◌, IfSome, is_some, true};
+ghost use Rattle.process_table.specs.Below.{IsUserPage, is_lazy_at, takes_stores, found_of, lazy_place, need_of, takes_place, place_in, entry_flags, cell_flags, cell_or_fresh, need, at_page};
 ghost use Rattle.process_table.specs.Words.{memory_of, place_at, access_places, is_live, is_mapped};
 
 use crate::processes::Processes;

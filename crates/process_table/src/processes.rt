@@ -1,6 +1,7 @@
 //! The type of the processes, and its calls.
 
-ghost use Rattle.process_table.specs.Below.{◌≡◌, ◌↔◌, ◌+◌, ◌≤◌, None, IfOk, IsErrOf, length, replicate, total_cost, opening, LeavesRoom, WaysAgree, PlacesTell, WalksAgree};
+ghost use Rattle.std.specs.Prelude.{◌≡◌, ◌↔◌, ◌+◌, ◌≤◌, None, IfOk, IsErrOf, length, replicate};
+ghost use Rattle.process_table.specs.Below.{total_cost, opening, LeavesRoom, WaysAgree, PlacesTell, WalksAgree};
 ghost use Rattle.process_table.specs.Words.{is_live, container_of, open_with, StandsFor, image_of, memory_of, IsWellFormed, total};
 ghost use Rattle.page_words.specs.FiniteMap as map;
 

@@ -1,6 +1,6 @@
 //! Processes from an image: their directories and accounts, and memory's bytes and roles.
 
-ghost use Rattle.process_table.specs.Below.{IfErr, IfOk, length, slice_index, ℕ, ◌<◌, ◌≡◌, ◌≤◌};
+ghost use Rattle.std.specs.Prelude.{IfErr, IfOk, length, slice_index, ℕ, ◌<◌, ◌≡◌, ◌≤◌};
 ghost use Rattle.process_table.specs.Words.{IsSoundImage, RootIsItsParent, StandsFor, image_in};
 ghost use Rattle.page_words.specs.FiniteMap as finite_map;
 

@@ -1,6 +1,7 @@
 //! Offers of pages, and pages that are accepted: of each call its test and its change.
 
-ghost use Rattle.process_table.specs.Below.{IsErr, IsOk, None, Some, [], false, if◌then◌else◌, nat_le, true, ◌∷◌, ◌≡◌, FramesStay, IsUserPage, at_page, need, none_goes, of_lazy, offer_key, pending, place_in};
+ghost use Rattle.std.specs.Prelude.{IsErr, IsOk, None, Some, [], false, if◌then◌else◌, nat_le, true, ◌∷◌, ◌≡◌};
+ghost use Rattle.process_table.specs.Below.{FramesStay, IsUserPage, at_page, need, none_goes, of_lazy, offer_key, pending, place_in};
 ghost use Rattle.process_table.specs.Words.{accept_answer, after_accept, after_offer, after_withdraw, done_unless, first_cause, is_live, is_mapped, memory_of, offer_answer, offer_refusal, overdrawn, place_at, withdraw_answer, withdraw_refusal};
 ghost use Rattle.page_words.specs.FiniteMap as map;
 ghost use Rattle.process_table.specs.declared.causes.Cause.TheVariants as cause;

@@ -1,6 +1,7 @@
 //! Flags that no call of a process sets: accessed of a directory word, and accessed and dirty that are cleared.
 
-ghost use Rattle.process_table.specs.Below.{Some, false, true, ℕ, ◌≡◌, FramesStay, IsUserPage, at_page, cell_or_fresh, directory_of, none_goes, with_walked};
+ghost use Rattle.std.specs.Prelude.{Some, false, true, ℕ, ◌≡◌};
+ghost use Rattle.process_table.specs.Below.{FramesStay, IsUserPage, at_page, cell_or_fresh, directory_of, none_goes, with_walked};
 ghost use Rattle.process_table.specs.Words.{is_live, is_mapped, memory_of};
 ghost use Rattle.page_words.specs.FiniteMap as map;
 
