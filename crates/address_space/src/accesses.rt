@@ -304,38 +304,12 @@ impl Spaces {
             None => self.load_at(pid, address, size, first),
             Some(second) => {
                 let behind = page_behind(address, size);
-                self.load_over(pid, address, size, behind, first, second)
+                let value = self.number_over(pid, address, size, behind, first, second);
+                self.load_at(pid, address, Size::One, first);
+                self.load_at(pid, start_of(behind), Size::One, second);
+                value
             }
         }
-    }
-
-    /// The number whose bytes lie in two mapped pages; accessed is set in the slot of each.
-    #[inline(always)]
-    fn load_over(
-        &mut self,
-        pid: Pid,
-        address: Vaddr,
-        size: Size,
-        behind: Page,
-        first: &Place,
-        second: &Place,
-    ) -> u32
-        requires mapped { EachTouched address size (λ page. is_some (map.get self.old.spaces (at_page pid page))
-            ≡ true) }
-        requires user { EachTouched address size IsUserPage }
-        requires first { first.now ≡ place_in self.old.directories self.old.bytes pid (page_number address) }
-        requires behind { second_page address size ≡ Some behind }
-        requires second { second.now ≡ place_in self.old.directories self.old.bytes pid behind }
-        ensures value { result ≡ number_of self.old.spaces pid (covered address size) }
-        ensures spaces { self.new.spaces ≡ all_accessed self.old.spaces pid (touched address size) }
-        ensures stay { FramesStay none_goes (image_of self.old) (image_of self.new) }
-        ensures directories { self.new.directories ≡ self.old.directories }
-        ensures roles { self.new.roles ≡ self.old.roles }
-    {
-        let value = self.number_over(pid, address, size, behind, first, second);
-        self.load_at(pid, address, Size::One, first);
-        self.load_at(pid, start_of(behind), Size::One, second);
-        value
     }
 
     /// Stores through mapped slots that aren't lazy, one or two by where the bytes lie, and sets accessed and
@@ -381,40 +355,13 @@ impl Spaces {
         match second {
             None => self.store_at(pid, address, size, value, first),
             Some(second) => {
-                let behind = page_behind(address, size);
-                self.store_over(pid, address, size, value, behind, first, second);
+                let start = start_of(page_behind(address, size));
+                let bytes = four_bytes(value);
+                let cut = (4096 - offset_of(address)) as usize;
+                let end = size.bytes() as usize;
+                self.store_part_at(pid, address, &bytes[..cut], first);
+                self.store_part_at(pid, start, &bytes[cut..end], second);
             }
         }
-    }
-
-    /// Stores bytes that lie in two pages, in each as one part.
-    #[inline(always)]
-    fn store_over(
-        &mut self,
-        pid: Pid,
-        address: Vaddr,
-        size: Size,
-        value: u32,
-        behind: Page,
-        first: &Place,
-        second: &Place,
-    )
-        requires mapped { EachTouched address size (λ page. is_some (map.get self.old.spaces (at_page pid page))
-            ≡ true) }
-        requires user { EachTouched address size IsUserPage }
-        requires real { EachTouched address size (λ page. is_lazy_at (image_of self.old) (at_page pid page) ≡ false) }
-        requires first { first.now ≡ place_in self.old.directories self.old.bytes pid (page_number address) }
-        requires behind { second_page address size ≡ Some behind }
-        requires second { second.now ≡ place_in self.old.directories self.old.bytes pid behind }
-        ensures spaces { self.new.spaces ≡ all_stored self.old.spaces pid address (bytes_of (byte_count size) value) }
-        ensures stay { FramesStay none_goes (image_of self.old) (image_of self.new) }
-        ensures directories { self.new.directories ≡ self.old.directories }
-        ensures roles { self.new.roles ≡ self.old.roles }
-    {
-        let bytes = four_bytes(value);
-        let cut = (4096 - offset_of(address)) as usize;
-        let end = size.bytes() as usize;
-        self.store_part_at(pid, address, &bytes[..cut], first);
-        self.store_part_at(pid, start_of(behind), &bytes[cut..end], second);
     }
 }

@@ -39,9 +39,10 @@ frames_stay_by gone directories directories' bytes bytes' roles roles' sound sou
       ∙ stay.tables slot f t stays (frame_read directories bytes roles sound slot ∙ was.names)
       (sym (same_table directories bytes roles sound slot.pid (slot_number slot.page)) ∙ is);
   ways = λ slot d f stays way.
+      let was = way_parts (image_from directories bytes roles) slot d f way in
       way_whole (image_from directories' bytes' roles') slot d f
       (record {
-        live = dirs slot d f stays (way_parts (image_from directories bytes roles) slot d f way).live;
+        live = dirs slot d f stays was.live;
         names = grind (arith, frame_read);
       });
 }
