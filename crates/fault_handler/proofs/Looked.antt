@@ -48,11 +48,10 @@ module _ (v : View) (p address : ℕ) (size : Size) (access : Access) where
       by : (x : Option ℕ) → second_page address size ≡ x → need_by first (behind x) ≡ access_need S p address size
       by None is = sym (need-in_one S p address size is)
       by (Some second) is =
-          let next = (crosses address size second is).next in
           ap (λ n. page_need S p page + (if nat_lt 0 (page_need S p page) && (nat_lt 0 (page_need S p n) && (slot_number page == slot_number n)) then 1 else page_need S p n)) (start second)
           ∙ ap (λ n. page_need S p page + n)
           ((grind arith)
-          ∙ sym (second_need S p page second (λ e. omega (arith, e, next))))
+          ∙ sym (second_need S p page second (λ e. omega (arith, e, (crosses address size second is).next))))
           ∙ sym (need-in_two S p address size second is)
 
   -- ---- The plan and the charge

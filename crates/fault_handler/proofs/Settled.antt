@@ -130,9 +130,8 @@ first_room s p address size fits = by (second_page address size) refl
     by : (x : Option ℕ) → second_page address size ≡ x → overdrawn s p (page_number address ∷ []) ≡ false
     by None is = grind (arith, need-in_one, enough, fits_page)
     by (Some second) is =
-        let n = need-in_two s.spaces p address size second is in
         let all = enough s p address size fits in
-        fits_page s p (page_number address) (omega (arith, n, all))
+        fits_page s p (page_number address) (omega (arith, need-in_two s.spaces p address size second is, all))
 
 pub second_room : (s : State) (p address : ℕ) (size : Size) (second : ℕ) → second_page address size ≡ Some second
     → overdrawn s p (touched address size) ≡ false

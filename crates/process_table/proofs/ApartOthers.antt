@@ -1,10 +1,7 @@
 -- What the calls of others leave of a process apart, and how a child begins.
 use Rattle.process_table.proofs.Prelude.{◌≡◌, ◌≢◌, ℕ, ◌+◌, ◌&&◌, ◌||◌, not, Bool, true, false, cond, List, [], ◌∷◌, map, refl, sym, ap, ◌∙◌, Option, Some, None, is_some, unwrap_or, arith, inl, inr, if◌then◌else◌, option_map, nat_cmp, cases_eq, ne_eqb, same_Some, offset_number, byte_count, touched, Size, Map, same, nat_order, Set, some_value, no_value, same_cases, get-remove_other, Slot, slot_order, Cell, Spaces, pages_of, fresh, cell_or_fresh, with_bytes, set_bytes, set_holders, write_at, bytes_of, at_page, slot_at, accessed, stored, with_page, with_pages, all_accessed, all_stored, copied, contains-pages_of, copied-own, copied-other, Member, is_child, number_of_children, child_no, get-insert_other, OfferKey, Offers, offer_order, offer_key, State, is_live, child_of, accept_refusal, spawn_refusal, fork_refusal, offered, after_map, after_unmap, after_protect, after_offer, after_withdraw, after_accept, after_spawn, after_fork, after_exit, after_load, after_store, IsWellFormed, list_any, tied_then, is_some-find, same_itself, get-insert, get-map_values, get-collect, IsApart, AreAlike, held_in, lone, FirstPage, first_cell, first_page, pages_held, alone_with, number-insert, number-remove, number-none, copy_of}
 use Rattle.process_table.proofs.Apart.{in_lone, pages_differ, pids_differ, set_bytes_outside, without_others}
-use Rattle.process_table.proofs.BookLaws.{retained, next_free, parents_in, spawn_allowed}
-use Rattle.process_table.proofs.CellLaws.{get-inserted, get-inserted_other}
-use Rattle.process_table.proofs.Forks.{may_fork}
-use Rattle.process_table.proofs.Refusals.{may_accept}
+use Rattle.process_table.proofs.Lemmas.{retained, next_free, parents_in, spawn_allowed, get-inserted, get-inserted_other, may_fork, may_accept}
 use Rattle.page_words.specs.FiniteMap as map
 use Rattle.page_words.specs.FiniteSet as set
 
@@ -187,13 +184,11 @@ pub child_leaves : (s : State) (p q k quota : ℕ) (T : Spaces) → IsApart s p 
     → AreAlike s p (record { spaces = T; book = map.insert s.book k (record { parent = q; quota = quota }); offers = s.offers }) p
 child_leaves s p q k quota T a d free pages =
     let child : Member = record { parent = q; quota = quota } in
-    let before = a.childless in
-    let more = number-insert s.book k child (no_value (map.get s.book k) free) p in
     let other : ◌≡◌ {A = ℕ} (cond (is_child p (k, child)) 1 0) 0 = ap (λ b. cond b 1 0) (child_no q p k quota d) in
     left_alike s (record { spaces = T; book = map.insert s.book k child; offers = s.offers }) p a (record {
       pages = pages;
       member = get-insert_other s.book k child p (live_differ s p k a.live free);
-      childless = omega (arith, before, more, other);
+      childless = omega (arith, a.childless, number-insert s.book k child (no_value (map.get s.book k) free) p, other);
       offers = a.offers_none;
     })
 
@@ -258,7 +253,6 @@ pub child_alike : (s : State) (p k root quota : ℕ) (T : Spaces) (pages : Map n
 child_alike s p k root quota T pages w live free copies =
     let none = no_value (map.get s.book k) free in
     let child : Member = record { parent = p; quota = quota } in
-    let before = number-none s.book k none (parents_in s w) in
     let more = number-insert s.book k child none k in
     let other : ◌≡◌ {A = ℕ} (cond (is_child k (k, child)) 1 0) 0 = ap (λ b. cond b 1 0) (child_no p k k quota (live_differ s p k live free)) in
     let here : map.get (map.insert s.book k child) k ≡ Some child = get-insert s.book k child k ∙ ap (λ b. cond b (Some child) (map.get s.book k)) (same_itself nat_order k) in
@@ -266,7 +260,7 @@ child_alike s p k root quota T pages w live free copies =
       one = record {
         live = ap is_some here;
         not_root = λ e. live_differ s 0 k w.root free (sym e);
-        childless = omega (arith, before, more, other);
+        childless = omega (arith, number-none s.book k none (parents_in s w), more, other);
         offers_none = no_offer s k w free;
         shares_none = λ n c h. first_lone (at_page k n) (map.get pages n) c (sym (copies n) ∙ h);
       };

@@ -39,10 +39,9 @@ pub room-for : (v : frames.View) (c c' : Containers) (p k : ℕ) → IsProcesses
     → 1 + total_cost v.directories v.spaces + k ≤ length v.roles
 unfolding total_cost
 room-for v c c' p k kept low small own members used root within =
-    let sum = sum_one after before p k 0 64 (omega arith) (omega (arith, low)) own others in
     let range = sum-range c'.book (λ q _. used_of c' q) 64 (λ q x is. small q (ap is_some is)) in
     let is = kept.root in
-    omega (arith, sum, range, is, root, within)
+    omega (arith, sum_one after before p k 0 64 (omega arith) (omega (arith, low)) own others, range, is, root, within)
   where
     after : ℕ → ℕ
     after q = found (λ _. used_of c' q) (map.get c'.book q)

@@ -35,10 +35,9 @@ module _ {X : Type 0} where
   sum-entries f n (e ∷ es) h keys =
       let none = find-below e.0 es (both _ _ h).0 in
       let small : e.0 < n = keys e.0 e.1 (find-head e es) in
-      let a = sum_by-cons (λ (e : ℕ × X). f e.0 e.1) e es in
       let b = sum-entries f n es ((both (below_all nat_cmp e.0 es) (is_sorted nat_cmp es) h).1) later in
       let c = sum_one (λ k. found (f k) (find nat_cmp k (e ∷ es))) (λ k. found (f k) (find nat_cmp k es)) e.0 (f e.0 e.1) 0 n (omega arith) (omega (arith, small)) (grind (arith, find-head, find-below, both)) (λ q differ. ap (found (f q)) (grind (arith, eqb-true))) in
-      omega (arith, a, b, c)
+      omega (arith, sum_by-cons (λ (e : ℕ × X). f e.0 e.1) e es, b, c)
     where
       later : (k : ℕ) (x : X) → find nat_cmp k es ≡ Some x → k < n
       later k x is = elim (cases_eq k e.0) [

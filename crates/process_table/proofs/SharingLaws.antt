@@ -41,12 +41,9 @@ few-more offers key write new few most p = by (key.offerer == p) refl
         let a = ap map.len (retain-insert offers (λ (k : OfferKey). k.offerer == p) key write is) in
         let b = len-insert (pending offers p) key write in
         let below : map.len (pending offers p) < 32 = subst (λ n. map.len (pending offers n) < 32) (eqb-true key.offerer p is) few in
-        let c = one (map.contains_key (pending offers p) key) (map.len (pending offers p)) below in
-        omega (arith, a, b, c)
+        omega (arith, a, b, one (map.contains_key (pending offers p) key) (map.len (pending offers p)) below)
     by false is =
-        let a = ap map.len (retain-insert_other offers (λ (k : OfferKey). k.offerer == p) key write is) in
-        let b = most p in
-        omega (arith, a, b)
+        omega (arith, ap map.len (retain-insert_other offers (λ (k : OfferKey). k.offerer == p) key write is), most p)
 
 -- whether an offer is well formed does not depend on the other offers
 offer-same : (s : State) (offers : Offers) (key : OfferKey) (right : Bool) → IsOfferIn s key right → IsOfferIn (record s { offers = offers }) key right

@@ -58,8 +58,7 @@ module _ (s : State) (slot : Slot) (write : Bool) (w : IsWellFormed s) (live : i
     | inl own ↦ subst (λ n. cost more n + given s.book n ≤ quota_of s.book n) (sym own) owner
     | inr differ ↦
         let e : cost more p ≡ cost s.spaces p = ap cost_of (same_pages more s.spaces p p (λ page. ap is_some (get-inserted_other s.spaces slot (fresh slot write) (at_page p page) (λ is. differ (ap (λ (q : Slot). q.pid) is))))) in
-        let old = w.rooms p h in
-        omega (arith, e, old)
+        omega (arith, e, w.rooms p h)
   ]
     where
       owner : cost more slot.pid + given s.book slot.pid ≤ quota_of s.book slot.pid

@@ -3,9 +3,7 @@ use Rattle.process_table.proofs.Prelude.{◌≡◌, ◌≢◌, ℕ, ◌+◌, ◌
 use Rattle.page_words.specs.declared.addresses.Pid.{Pid}
 use Rattle.address_space.specs.Image.{StandsFor}
 use Rattle.quota_tree.specs.declared.QuotaFault.{QuotaFault}
-use Rattle.process_table.proofs.Charged.{differ, room-for}
-use Rattle.process_table.proofs.Ranges.{found}
-use Rattle.process_table.proofs.Sizes.{cost-no_pages}
+use Rattle.process_table.proofs.Lemmas.{differ, room-for, found, cost-no_pages}
 use Rattle.page_words.specs.FiniteMap as map
 use Rattle.address_space.specs.View as frames
 use Rattle.quota_tree.specs.declared.QuotaFault.TheVariants as quota

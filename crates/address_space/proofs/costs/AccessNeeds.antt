@@ -1,8 +1,7 @@
 -- What an access needs: what its first page needs, and what the second needs once the first is mapped.
 use Rattle.address_space.proofs.Prelude.{◌≡◌, ◌≢◌, ℕ, ◌+◌, ◌==◌, Bool, true, false, cond, not, [], ◌∷◌, refl, ap, sym, ◌∙◌, arith, Option, Some, None, ◌&&◌, is_some, if◌then◌else◌, eqb-true, eq-eqb, slot_number, page_number, touched, page_and, second_page, Size, nat_order, same, Set, crosses, no_value, same_apart, Spaces, Cell, at_page, fresh, cost, pages_of, regions_of, need, page_need, with_page, with_pages, missing, access_need, Place, found_of, same_itself, contains-insert, retain-insert, retain-insert_other, len-insert}
 use Rattle.address_space.specs.Spaces.{need_of}
-use Rattle.address_space.proofs.costs.AccessCosts.{key-insert}
-use Rattle.address_space.proofs.costs.Costs.{pages-insert, regions-insert, cost-insert}
+use Rattle.address_space.proofs.Lemmas.{key-insert, pages-insert, regions-insert, cost-insert}
 use Rattle.page_words.specs.FiniteMap as map
 use Rattle.page_words.specs.FiniteSet as set
 use Rattle.address_space.specs.Places as places
@@ -18,10 +17,9 @@ cost-with_page S p page = by (map.contains_key S (at_page p page)) refl
 -- a page beside one that is mapped now
 pub need-beside : (S : Spaces) (p page second : ℕ) (cell : Cell) → need (map.insert S (at_page p page) cell) p second ≡ (if slot_number page == slot_number second then 1 else need S p second)
 need-beside S p page second cell =
-    let R : Set nat_order = regions_of (pages_of S p) in
     let r : ℕ = slot_number second in
     ap (λ (s : Set nat_order). if set.contains s r then 1 else 2) (ap regions_of (pages-insert S (at_page p page) cell) ∙ regions-insert (pages_of S p) page)
-    ∙ ap (λ b. if b then 1 else 2) (contains-insert R (slot_number page) r)
+    ∙ ap (λ b. if b then 1 else 2) (contains-insert (regions_of (pages_of S p)) (slot_number page) r)
     ∙ (grind (arith, eqb-true, r, same_itself, same_apart, eq-eqb))
   where
     r : ℕ

@@ -25,11 +25,6 @@ get-copied S from to q = get-collect slot_order (copied_at S from to) (map_of.ke
     there : (p : Slot) (c : Cell) → map_of.get S p ≡ Some c → list_any (same slot_order p) ks ≡ true
     there p c is = sym (is_some-find slot_cmp p S.entries) ∙ ap is_some is
 
-    -- where something stands, the key is among those that are looked at
-    of_copy : (c : Cell) → (q.pid == to) ≡ true → map_of.get S (at_page from q.page) ≡ Some c → list_any (same slot_order q) (ks ++ copies) ≡ true
-    of_copy c own is =
-        grind (arith, eqb-true, list_any-append, ks, copies, list_any-map, passes, same_itself, there, or-true)
-
     of_other : (c : Cell) → map_of.get S q ≡ Some c → list_any (same slot_order q) (ks ++ copies) ≡ true
     of_other c is = list_any-append (same slot_order q) ks copies ∙ ap (λ b. b || list_any (same slot_order q) copies) (there q c is)
 
@@ -37,7 +32,8 @@ get-copied S from to q = get-collect slot_order (copied_at S from to) (map_of.ke
     nothing true own none = at (map_of.get S (at_page from q.page)) refl
       where
         at : (x : Option Cell) → map_of.get S (at_page from q.page) ≡ x → None ≡ copied_at S from to q
-        at x is = grind (arith, of_copy)
+        at x is =
+            grind (arith, eqb-true, list_any-append, ks, copies, list_any-map, passes, same_itself, there, or-true)
     nothing false own none = at (map_of.get S q) refl
       where
         at : (x : Option Cell) → map_of.get S q ≡ x → None ≡ copied_at S from to q

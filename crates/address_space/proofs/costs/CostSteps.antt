@@ -12,22 +12,18 @@ use Rattle.page_words.specs.FiniteSet as set
 sum_same : (f g : ℕ → ℕ) (a n : ℕ) → ((q : ℕ) → a ≤ q → f q ≡ g q) → sum_by f (range_with_len a n) ≡ sum_by g (range_with_len a n)
 sum_same f g a zero is = refl
 sum_same f g a (suc n) is =
-    let s = sum_by-cons f a (range_with_len (a + 1) n) in
-    let t = sum_by-cons g a (range_with_len (a + 1) n) in
     let h : f a ≡ g a = is a (omega arith) in
     let r = sum_same f g (a + 1) n (λ q l. is q (omega arith)) in
-    omega (arith, s, t, h, r)
+    omega (arith, sum_by-cons f a (range_with_len (a + 1) n), sum_by-cons g a (range_with_len (a + 1) n), h, r)
 
 pub sum_one : (f g : ℕ → ℕ) (p k a n : ℕ) → a ≤ p → p < a + n → f p ≡ g p + k → ((q : ℕ) → q ≢ p → f q ≡ g q) → sum_by f (range_with_len a n) ≡ sum_by g (range_with_len a n) + k
 sum_one f g p k a zero low high own others = absurd (omega arith)
 sum_one f g p k a (suc n) low high own others = elim (cases_eq p a) [
   | inl same ↦ grind (arith, sum_by-cons, sum_same)
   | inr differ ↦
-      let s = sum_by-cons f a (range_with_len (a + 1) n) in
-      let t = sum_by-cons g a (range_with_len (a + 1) n) in
       let h : f a ≡ g a = others a (λ e. differ (sym e)) in
       let r = sum_one f g p k (a + 1) n (omega arith) (omega arith) own others in
-      omega (arith, s, t, h, r)
+      omega (arith, sum_by-cons f a (range_with_len (a + 1) n), sum_by-cons g a (range_with_len (a + 1) n), h, r)
 ]
 
 -- ---- All costs

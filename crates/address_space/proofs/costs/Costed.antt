@@ -30,10 +30,6 @@ pub mapped : (directories : List (Option ℕ)) (bytes bytes1 bytes2 : List ℕ) 
 mapped directories bytes bytes1 bytes2 roles roles1 roles2 p page s room given added =
     let costs : total_cost directories (spaces_in directories bytes2) ≡ total_cost directories (spaces_in directories bytes) + need (spaces_in directories bytes) p page =
     added.cost ∙ ap (λ x. total_cost directories x + need x p page) given.spaces in
-    let a = s.weighs in
-    let b = need_table directories bytes p page in
-    let c = given.weight in
-    let e = added.weight in
     let n : length roles2 ≡ length roles = added.length ∙ given.length in
     record {
       sound = added.sound;
@@ -41,6 +37,6 @@ mapped directories bytes bytes1 bytes2 roles roles1 roles2 p page s room given a
         | inl h ↦ λ t found. added.own t ((λ i. table_in (directory_of directories) (frame_bytes bytes2) (sym h.0 i) (sym h.1 i)) ∙ found)
         | inr n ↦ added.others q r n (given.others q r n (s.in_use q r))
       ];
-      weighs = omega (arith, a, b, c, e, costs);
+      weighs = omega (arith, s.weighs, need_table directories bytes p page, given.weight, added.weight, costs);
       within = omega (arith, room, n, costs);
     }

@@ -31,10 +31,7 @@ once-most x a (suc n) = grind (arith, cases_eq, eq-eqb, sum-none, ne_eqb, once-m
 pub sum-hits : (xs : List ℕ) (a n : ℕ) → sum_from (λ f. hits f xs) a n ≤ length xs
 sum-hits [] a n = let none = sum-none (λ f. hits f []) a n (λ f l. refl) in omega (arith, none)
 sum-hits (x ∷ xs) a n =
-    let both : sum_from (λ f. hits f (x ∷ xs)) a n ≡ sum_from (λ f. once (x == f)) a n + sum_from (λ f. hits f xs) a n = sum-add (λ f. once (x == f)) (λ f. hits f xs) a n in
-    let own = once-most x a n in
-    let rest = sum-hits xs a n in
-    omega (arith, both, own, rest)
+    omega (arith, sum-add (λ f. once (x == f)) (λ f. hits f xs) a n, once-most x a n, sum-hits xs a n)
 
 pub hits-append : (f : ℕ) (xs ys : List ℕ) → hits f (xs ++ ys) ≡ hits f xs + hits f ys
 hits-append f [] ys = omega arith
@@ -52,8 +49,6 @@ hits-map o g k f (x ∷ xs) h e = elim (same_or_not o k x) [
 pub weights-below : (roles : List Role) (g : ℕ → ℕ) (a : ℕ) → ((i : ℕ) (r : Role) → slice_get roles i ≡ Some r → weight r ≤ g (a + i)) → frames_weight roles ≤ sum_from g a (length roles)
 weights-below [] g a h = omega arith
 weights-below (r ∷ rs) g a h =
-    let s = sum_by-cons weight r rs in
     let here : a + 0 ≡ a = omega arith in
-    let own : weight r ≤ g a = subst (λ k. weight r ≤ g k) here (h 0 r refl) in
     let rest = weights-below rs g (a + 1) (λ i q is. (let next : a + suc i ≡ a + 1 + i = omega arith in subst (λ k. weight q ≤ g k) next (h (suc i) q is))) in
-    omega (arith, s, own, rest)
+    omega (arith, sum_by-cons weight r rs, subst (λ k. weight r ≤ g k) here (h 0 r refl), rest)

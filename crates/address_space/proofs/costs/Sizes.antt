@@ -20,9 +20,8 @@ len-subset {K} {o} s t inside =
 -- a process with some of another's pages costs no more
 pub cost-within : (S T : Spaces) (p q : ℕ) → ((page : ℕ) → map.contains_key T (at_page q page) ≡ true → map.contains_key S (at_page p page) ≡ true) → cost T q ≤ cost S p
 cost-within S T p q inside =
-    let pages = len-subset (pages_of T q) (pages_of S p) page in
     let regions = len-subset (regions_of (pages_of T q)) (regions_of (pages_of S p)) region in
-    omega (arith, pages, regions)
+    omega (arith, len-subset (pages_of T q) (pages_of S p) page, regions)
   where
     page : (n : ℕ) → set.contains (pages_of T q) n ≡ true → set.contains (pages_of S p) n ≡ true
     page n h = contains-pages_of S p n ∙ inside n (sym (contains-pages_of T q n) ∙ h)

@@ -1,14 +1,8 @@
 -- Where frames agree, they and the lazy pages weigh no more than the costs: each process has as many uses as it costs,
 -- and a frame has a use for each of its slots.
 use Rattle.address_space.proofs.Prelude.{◌≡◌, ℕ, zero, suc, ◌+◌, ◌*◌, ◌<◌, ◌≤◌, ◌==◌, Bool, true, cond, ◌||◌, List, [], ◌∷◌, ◌++◌, length, length-append, refl, ap, sym, subst, ◌∙◌, arith, inl, inr, Option, Some, None, slice_get, is_some, if◌then◌else◌, sum_by, unwrap_or, option_map, option_and_then, list_any, range_with_len, is_some-find, cases_eq, cases_lt, or_right, length-map, sum_by-cons, slot_number, index_number, Order, nat_order, same, Set, same_or_not, contains-from_list, len-insert, frame_bytes, word_in, Role, Reserved, Free, Directory, Table, Page, weight, frames_weight, PageEntry, Frames, table_of, word_entry, entry_from, entry_at, Slot, slot_order, Spaces, cost, pages_of, regions_of, at_page, user_slots, Entries, names, holders_of, lazy_count, spaces_of, Directories, directory_of, table_in, entry_in, entries_in, spaces_in, live_cost, total_cost, eqb-true, eq-eqb, IsSound, InUse, weight_in, map as list_map}
-use Rattle.address_space.proofs.costs.Costs.{contains-pages_of}
-use Rattle.address_space.proofs.costs.CostSteps.{keys, region_there}
+use Rattle.address_space.proofs.Lemmas.{contains-pages_of, keys, region_there, len-subset, get-entries_in, entry_by_table, contains-holders_of, in_user_slots, live_small}
 use Rattle.address_space.proofs.costs.Hits.{once, hits, sum-hits, hits-append, hits-map, weights-below}
-use Rattle.address_space.proofs.costs.Sizes.{len-subset}
-use Rattle.address_space.proofs.entries.EntrySteps.{get-entries_in, entry_by_table}
-use Rattle.address_space.proofs.entries.Refinement.{contains-holders_of}
-use Rattle.address_space.proofs.entries.UserSlots.{in_user_slots}
-use Rattle.address_space.proofs.steps.Steps.{live_small}
 use Rattle.page_words.specs.FiniteMap as map_of
 use Rattle.page_words.specs.FiniteSet as set
 
@@ -67,11 +61,8 @@ module _ (directories : List (Option ℕ)) (bytes : List ℕ) (roles : List Role
   unfolding uses
   length-uses a zero = refl
   length-uses a (suc n) =
-      let both = length-append (uses_of a (D a)) (uses (a + 1) n) in
       let s = sum_by-cons (live_cost D spaces) a (range_with_len (a + 1) n) in
-      let own = length-uses_of a (D a) in
-      let rest = length-uses (a + 1) n in
-      omega (arith, both, s, own, rest)
+      omega (arith, length-append (uses_of a (D a)) (uses (a + 1) n), s, length-uses_of a (D a), length-uses (a + 1) n)
 
   hits-uses : (f p a n : ℕ) → a ≤ p → p < a + n → hits f (uses_of p (D p)) ≤ hits f (uses a n)
   unfolding uses
@@ -79,9 +70,8 @@ module _ (directories : List (Option ℕ)) (bytes : List ℕ) (roles : List Role
   hits-uses f p a (suc n) low high = elim (cases_eq p a) [
     | inl is ↦ grind (arith, hits-append, hits)
     | inr differ ↦
-        let both = hits-append f (uses_of a (D a)) (uses (a + 1) n) in
         let rest = hits-uses f p (a + 1) n (omega (arith, differ)) (omega arith) in
-        omega (arith, both, rest)
+        omega (arith, hits-append f (uses_of a (D a)) (uses (a + 1) n), rest)
   ]
 
   -- ---- Directories and tables
@@ -128,13 +118,11 @@ module _ (directories : List (Option ℕ)) (bytes : List ℕ) (roles : List Role
       by : (x : Option ℕ) → D p ≡ x → 1 ≤ hits f (uses 0 64)
       by None is = absurd (let n : table_in D m p s ≡ None = ap (option_and_then (λ d. table_of m d s)) is in cc)
       by (Some d) is =
-          let few = small p d is in
           let region = member (regions p) s (region-there p d s f is wide there) in
           let own = hits-map nat_order (table_at p) s f (set.items (regions p)) region (ap (λ o. unwrap_or o 0) there) in
           let both = hits-append f (list_map (table_at p) (set.items (regions p))) (list_map (frame_at p) (set.items (pages p))) in
-          let here : 1 ≤ hits f (uses_of p (D p)) = subst (λ x. 1 ≤ hits f (uses_of p x)) (sym is) (omega (arith, own, both)) in
-          let all = hits-uses f p 0 64 (omega arith) (omega (arith, few)) in
-          omega (arith, here, all)
+          let all = hits-uses f p 0 64 (omega arith) (omega (arith, small p d is)) in
+          omega (arith, subst (λ x. 1 ≤ hits f (uses_of p x)) (sym is) (omega (arith, own, both)), all)
 
   -- ---- Pages
 
@@ -225,12 +213,9 @@ module _ (directories : List (Option ℕ)) (bytes : List ℕ) (roles : List Role
   all-weigh [] first each = cc
   all-weigh (r ∷ rs) first each =
       let is : r ≡ Reserved = ap (λ o. unwrap_or o r) first in
-      let w : weight r ≡ 1 = ap weight is in
-      let s = sum_by-cons weight r rs in
       let rest = weights-below rs (λ f. hits f (uses 0 64)) 1 (λ i q is. (let e : suc i ≡ 1 + i = omega arith in subst (λ k. weight q ≤ hits k (uses 0 64)) e (each (suc i) q is (omega arith)))) in
-      let lazy = holders-hits 0 in
       let most = sum-hits (uses 0 64) 0 (suc (length rs)) in
-      omega (arith, w, s, rest, lazy, most)
+      omega (arith, ap weight is, sum_by-cons weight r rs, rest, holders-hits 0, most)
 
   weigh : ((p s t : ℕ) → slice_get roles t ≡ Some (Table p s) → s < 1024) → frames_weight roles + lazy_count E ≤ 1 + sum_by (live_cost D spaces) (range_with_len 0 64)
   weigh wide = subst (λ n. frames_weight roles + lazy_count E ≤ 1 + n) (length-uses 0 64) (all-weigh roles S.tables.zero_role (frame-hits wide))

@@ -119,12 +119,10 @@ holders-less E slot e found = (
 -- a lazy page gets a frame: one lazy page less
 pub lazy-filled : (E : Entries) (slot : Slot) (old new : PageEntry) → map.get E slot ≡ Some old → old.frame ≡ 0 → new.frame ≢ 0 → lazy_count (map.insert E slot new) + 1 ≡ lazy_count E
 lazy-filled E slot old new found lazy real =
-    let less = (holders-less E slot old found).0 in
     let same : holders_of (map.insert E slot new) 0 ≡ holders_of (map.remove E slot) 0 = same_holders (map.insert E slot new) (map.remove E slot) 0 (λ q.
     elim (same_or_not slot_order q slot) [
       | inl h ↦ ap (names 0) (get-insert E slot new q ∙ ap (λ b. cond b (Some new) (map.get E q)) h.1) ∙ ne_eqb new.frame 0 real ∙ sym (ap (names 0) (ap (map.get (map.remove E slot)) h.0 ∙ removed E slot))
       | inr h ↦ ap (names 0) (get-insert E slot new q ∙ ap (λ b. cond b (Some new) (map.get E q)) h) ∙ sym (ap (names 0) (kept_other E slot q (λ e. let b = same_itself slot_order slot in let c : same slot_order q slot ≡ true = ap (λ x. same slot_order x slot) e ∙ b in cc)))
     ]) in
     let l : set.len (holders_of (map.insert E slot new) 0) ≡ set.len (holders_of (map.remove E slot) old.frame) = ap set.len (same ∙ ap (holders_of (map.remove E slot)) (sym lazy)) in
-    let r : set.len (holders_of E old.frame) ≡ set.len (holders_of E 0) = ap (λ g. set.len (holders_of E g)) lazy in
-    omega (arith, less, l, r)
+    omega (arith, (holders-less E slot old found).0, l, ap (λ g. set.len (holders_of E g)) lazy)

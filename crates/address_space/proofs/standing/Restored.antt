@@ -1,12 +1,7 @@
 -- The frames of a sound image with today's words agree, as a machine's own do.
 use Rattle.address_space.proofs.Prelude.{◌≡◌, ℕ, zero, suc, ◌+◌, ◌*◌, ◌<◌, ◌≤◌, Bool, true, false, cond, List, [], ◌∷◌, length, refl, ap, sym, ◌∙◌, subst, arith, inl, inr, Option, Some, None, is_some, slice_get, slice_index, option_and_then, option_map, cases_lt, slice_get_within, slot_number, index_number, frame_number, is_present, is_lazy, NamesPage, same_set, frame_bytes, word_in, length-frame, byte-frame, Role, Reserved, Directory, Table, Page, PageEntry, Frames, dir_word, word_entry, entry_from, count_range-same, Slot, slot_order, Cell, at_page, Entries, holders_of, spaces_of, Image, IsSoundImage, StandsFor, image_from, directory_at, word_of, is_user_slot, named_by, table_at, page_word, page_frame, CellStands, IsCount, own_frame, Directories, directory_of, table_in, entry_in, entries_in, spaces_in, IsCounted, pages_by, Tables, HoldsPage, IsSound, InUse, IsSpaces, All, range_with_len, get_or_default, HasRoom, words_by, counted_at, map as list_map}
-use Rattle.address_space.proofs.costs.CostSteps.{keys}
+use Rattle.address_space.proofs.Lemmas.{keys, get-entries_in, entry_by_table, in_user_slots, live_small, past_end, own_is, same_table_by, one_group}
 use Rattle.address_space.proofs.costs.Weighed.{weighs}
-use Rattle.address_space.proofs.entries.EntrySteps.{get-entries_in, entry_by_table}
-use Rattle.address_space.proofs.entries.UserSlots.{in_user_slots}
-use Rattle.address_space.proofs.steps.Steps.{live_small}
-use Rattle.address_space.proofs.standing.TablesStand.{past_end, own_is, same_table_by}
-use Rattle.address_space.proofs.standing.Standing.{one_group}
 use Rattle.page_words.specs.FiniteMap as map
 use Rattle.page_words.specs.FiniteSet as set
 use Rattle.address_space.proofs.standing.TablesStand as tables
@@ -54,8 +49,7 @@ module _ (directories : List (Option ℕ)) (bytes : List ℕ) (roles : List Role
   wide : (p s t : ℕ) → slice_get roles t ≡ Some (Table p s) → s < 1024
   wide p s t is =
       let d = from_then (λ d. named_by s (word_of image d s)) (directory_at image p) t ((I.tables t p s).0 is) in
-      let low = user_named s (word_of image d.0 s) t d.2 in
-      omega (arith, low.1)
+      omega (arith, (user_named s (word_of image d.0 s) t d.2).1)
 
   tables_agree : Tables D m (slice_get roles)
   tables_agree = record {
@@ -121,8 +115,7 @@ module _ (directories : List (Option ℕ)) (bytes : List ℕ) (roles : List Role
     where
       each : All (λ b. b < 256) (m (frame_number word))
       each k d low =
-          let long = whole (frame_number word) inside in
-          let within : k < 4096 = omega (arith, low, long) in
+          let within : k < 4096 = omega (arith, low, whole (frame_number word) inside) in
           subst (λ b. b < 256) (sym (byte-frame bytes (frame_number word) k within) ∙ get_or_default (m (frame_number word)) k 0 d low) (small (4096 * frame_number word + k))
 
   -- cells on one frame have the same bytes

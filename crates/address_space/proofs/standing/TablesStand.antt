@@ -78,8 +78,7 @@ module _ (directories : List (Option ℕ)) (bytes : List ℕ) (roles : List Role
     where
       by_table : (d t : ℕ) → D slot.pid ≡ Some d → named_by (slot_number slot.page) (word_of image d (slot_number slot.page)) ≡ Some t → list_any (same slot_order slot) user_slots ≡ true
       by_table d t live is =
-          let user : is_user_slot (slot_number slot.page) ≡ true = (grind arith) in
-          let range = user_range (slot_number slot.page) user in
+          let range = user_range (slot_number slot.page) ((grind arith)) in
           in_user_slots slot.pid slot.page (live_small directories slot.pid d pids live) (omega (arith, range.0, range.1)) (omega (arith, range.0, range.1))
         where
           user_range : (s : ℕ) → is_user_slot s ≡ true → (256 ≤ s) × (s < 960)

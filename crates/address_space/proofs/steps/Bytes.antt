@@ -24,9 +24,8 @@ value_by_places xs at (suc n) =
 
     by : (ys : List ℕ) → drop at xs ≡ ys → slice_index xs at ≡ slice_index (drop at xs) 0 → slice_index xs at + 256 * value_of (take n (drop (at + 1) xs)) ≡ value_of (take (suc n) ys)
     by [] is e =
-        let z : slice_index xs at ≡ 0 = e ∙ ap (λ ys. slice_index ys 0) is in
         let v : value_of (take n (drop (at + 1) xs)) ≡ 0 = ap (λ ys. value_of (take n ys)) (rest ∙ ap (drop 1) is) ∙ none n in
-        omega (arith, z, v)
+        omega (arith, e ∙ ap (λ ys. slice_index ys 0) is, v)
       where
         none : (n : ℕ) → value_of (take n []) ≡ 0
         none n = grind arith
@@ -56,9 +55,8 @@ bytes_in : (S : Spaces) (p page a o n : ℕ) → ((i : ℕ) → i < n → page_n
 bytes_in S p page a o zero pages places = refl
 bytes_in S p page a o (suc n) pages places =
     let z : a ≡ a + 0 = omega arith in
-    let first : page_number a ≡ page = ap page_number z ∙ pages 0 (omega arith) in
     let place : offset_number a ≡ o = let e = ap offset_number z ∙ places 0 (omega arith) in omega (arith, e) in
-    (λ i. slice_index (cell_or_fresh S (at_page p (first i))).bytes (place i)
+    (λ i. slice_index (cell_or_fresh S (at_page p ((ap page_number z ∙ pages 0 (omega arith)) i))).bytes (place i)
     ∷ bytes_in S p page (a + 1) (o + 1) n
     (λ i l. let e : a + 1 + i ≡ a + suc i = omega arith in ap page_number e ∙ pages (suc i) (omega (arith, l)))
     (λ i l. let e : a + 1 + i ≡ a + suc i = omega arith in let f : o + suc i ≡ o + 1 + i = omega arith in ap offset_number e ∙ places (suc i) (omega (arith, l)) ∙ f) i)
@@ -85,21 +83,19 @@ pub number_in_two : (S : Spaces) (p address behind : ℕ) (size : Size) → seco
     ≡ value_of (bytes_at (cell_or_fresh S (slot_at p address)).bytes (offset_number address) (4096 - offset_number address)
     ++ bytes_at (cell_or_fresh S (at_page p behind)).bytes 0 (offset_number address + byte_count size - 4096))
 number_in_two S p address behind size over long long' =
-    let next = (crosses address size behind over).next in
-    let past = (crosses address size behind over).past in
     let few = (some_bytes size).2 in
     let count = (some_bytes size).1 in
     let o : ℕ = offset_number address in
     let cut : ℕ = 4096 - o in
     let rest : ℕ = o + byte_count size - 4096 in
     let here : o < 4096 = omega arith in
-    let all : byte_count size ≡ cut + rest = omega (arith, past, here) in
+    let all : byte_count size ≡ cut + rest = omega (arith, (crosses address size behind over).past, here) in
     let first = bytes_in S p (page_number address) address o cut
     (λ i l. page_stays address i (omega (arith, l, here)))
     (λ i l. omega (arith, l, here))
     ∙ bytes_by_places (cell_or_fresh S (slot_at p address)).bytes o cut (omega (arith, long, here)) in
     let second = bytes_in S p behind (address + cut) 0 rest
-    (λ i l. omega (arith, next, l, few, count))
+    (λ i l. omega (arith, (crosses address size behind over).next, l, few, count))
     (λ i l. omega (arith, l, few, count))
     ∙ bytes_by_places (cell_or_fresh S (at_page p behind)).bytes 0 rest (omega (arith, long', few, count)) in
     ap (λ n. value_of (each (byte_at S p) (range_with_len address n))) all

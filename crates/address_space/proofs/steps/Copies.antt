@@ -1,22 +1,7 @@
 -- What a copy of a page leaves, and then a copy of all pages of a process.
 use Rattle.address_space.proofs.Prelude.{names, Entries, group_of, spaces_of, ◌≡◌, ◌≢◌, ℕ, ◌+◌, ◌<◌, ◌≤◌, true, false, cond, List, length, refl, ap, sym, ◌∙◌, subst, arith, inl, inr, Option, Some, None, length-set, ◌==◌, unwrap_or, option_and_then, option_map, is_some, slice_get, if◌then◌else◌, slot_number, IsUserPage, frame_number, Map, get-insert, same_itself, same_map, same_apart, some_value, frame_bytes, with_frame, with_frame_bytes, with_frame-same, with_frame-other, length-frame, frames-with_frame_bytes, Role, Free, Page, IsTaken, weight-taken, PageEntry, Frames, dir_word, table_of, entry_at, with_entry, is_lazy_entry, Slot, slot_order, Cell, Spaces, cell_or_fresh, copy_of, copied, cost, cost_of, fresh, pages_of, regions_of, at_page, Directories, Roles, directory_of, table_in, entries_in, spaces_in, live_cost, total_cost, Tables, IsSound, IsSpaces, InUseAt, TableGiven, IsEmptySpace, SlotCopied, PageCopied, CopiedBelow, PagesCopied, cases_eq, cases_lt, ne_eqb, eq-eqb, nat_eq_equiv, none_goes}
 use Rattle.address_space.proofs.costs.Copied.{get-copied}
-use Rattle.address_space.proofs.costs.Costed.{Room, mapped}
-use Rattle.address_space.proofs.costs.Costs.{same_pages}
-use Rattle.address_space.proofs.costs.CostSteps.{total-insert, sum_one}
-use Rattle.address_space.proofs.costs.Sizes.{cost-within}
-use Rattle.address_space.proofs.entries.EntrySteps.{Loose, get-entries_in}
-use Rattle.address_space.proofs.entries.Refinement.{get-spaces_of, lone_refines, alone_lazy, alone_real, cell_at}
-use Rattle.address_space.proofs.entries.Readings.{mapped_read}
-use Rattle.address_space.proofs.entries.UserSlots.{in_user_slots}
-use Rattle.address_space.proofs.frames.FrameSteps.{loose-tables, loose-entries, tables-loose, tables-role, use_loose}
-use Rattle.address_space.proofs.frames.PageSteps.{same_bytes, pages-fresh, pages-lazy, lazy-more, lazy-real, no_free, unused}
-use Rattle.address_space.proofs.steps.Steps.{IsReady, entry_added, inside, live_small, none_before, role_own, role_other, free_loose, page_loose, holds_inside, MapStays, map_kept}
-use Rattle.address_space.proofs.steps.Stores.{get_user, entry_rules}
-use Rattle.address_space.proofs.steps.Departures.{no_cell_outside, no_cell_unmapped}
-use Rattle.address_space.proofs.steps.Openings.{empty_cost}
-use Rattle.address_space.proofs.standing.Standing.{same_entry, read_entry}
-use Rattle.address_space.proofs.entries.Staying.{stay_same, places_by, places_then}
+use Rattle.address_space.proofs.Lemmas.{Room, mapped, same_pages, total-insert, sum_one, cost-within, Loose, get-entries_in, get-spaces_of, lone_refines, alone_lazy, alone_real, cell_at, mapped_read, in_user_slots, loose-tables, loose-entries, tables-loose, tables-role, use_loose, same_bytes, pages-fresh, pages-lazy, lazy-more, lazy-real, no_free, unused, IsReady, entry_added, inside, live_small, none_before, role_own, role_other, free_loose, page_loose, holds_inside, MapStays, map_kept, get_user, entry_rules, no_cell_outside, no_cell_unmapped, empty_cost, same_entry, read_entry, stay_same, places_by, places_then}
 use Rattle.page_words.specs.FiniteMap as map
 use Rattle.page_words.specs.FiniteSet as set
 
@@ -116,16 +101,14 @@ real_copied directories bytes one two roles roles' from source p d page t f e so
     let loose : Loose R f = free_loose R f free in
     let Ta : Tables D m1 R = tables-loose D m R T f new loose whole in
     let Tb : Tables D m1 R' = tables-role D m1 R R' f Free Ta free loose (page_loose R' f 1 own) others in
-    let same_length : length roles' ≡ length roles = ap length taken.now ∙ length-set roles f (Page 1) in
     let apart : (q : Slot) (x : PageEntry) → map.get E q ≡ Some x → x.frame ≢ f = λ q x found. no_free R x.frame f (sound.pages.pages q x found) free in
-    let heavier = weight-taken roles roles' f (Page 1) taken in
     let as_many = lazy-real E slot e' none (λ z. omega (arith, z, up)) in
     let table : table_in D m1 p (slot_number page) ≡ table_in D m p (slot_number page) = loose-tables D m R T f new loose p (slot_number page) in
     entry_copied directories bytes one two roles roles' from source p d page t f e sound home live low high unmapped there here
     (record {
       ready = record {
         size = long_one;
-        length = same_length;
+        length = (ap length taken.now ∙ length-set roles f (Page 1));
         small = (inside directories bytes roles f Free sound free).small;
         tables = subst (λ x. Tables D x R') (sym is_one) Tb;
         pages = pages-fresh E R R' slot e' sound.pages none free own others;
@@ -133,7 +116,7 @@ real_copied directories bytes one two roles roles' from source p d page t f e so
         table = ap (λ x. table_of x d (slot_number page)) is_one ∙ sym (ap (option_and_then (λ x. table_of m1 x (slot_number page))) live) ∙ table ∙ ap (option_and_then (λ x. table_of m x (slot_number page))) live;
         rules = record { frame = λ _. up; zero = λ h. cc; clean = λ h. refl; right = rules.right; touched = λ h. cc };
         kept = λ q x found. (λ i. is_one i x.frame) ∙ with_frame-other m f x.frame new (apart q x found);
-        weight = omega (arith, heavier, as_many);
+        weight = omega (arith, weight-taken roles roles' f (Page 1) taken, as_many);
         used = λ q r u. subst (λ x. InUseAt D x q r) (sym is_one) (use_loose D m R T f new loose q r u);
         linked = λ q r. ap (λ x. table_in D x q r) is_one ∙ loose-tables D m R T f new loose q r;
       };
@@ -225,7 +208,6 @@ pub copied_over : (directories : List (Option ℕ)) (bytes one : List ℕ) (role
     → next ≤ beyond → beyond ≤ 0xf0000 → ((page : ℕ) → next ≤ page → page < beyond → map.get (spaces_in directories bytes) (at_page from page) ≡ None)
     → CopiedBelow directories from to beyond bytes roles one roles1
 copied_over directories bytes one roles roles1 from to next beyond so_far up high unmapped =
-    let low = so_far.low in
     record {
       after = so_far.after;
       others = so_far.others;
@@ -235,7 +217,7 @@ copied_over directories bytes one roles roles1 from to next beyond so_far up hig
       stay = so_far.stay;
       lazy = grind (arith, cases_lt, no_entry, unmapped);
       length = so_far.length;
-      low = omega (arith, low, up);
+      low = omega (arith, so_far.low, up);
       high = high;
     }
 
@@ -296,9 +278,8 @@ module _ (directories : List (Option ℕ)) (bytes one : List ℕ) (roles roles1 
   total_grown : IsEmptySpace S to → to < 64 → (c : Cell) → total_cost directories (more c) + 1 ≡ total_cost directories S + cost (more c) to
   unfolding total_cost
   total_grown empty few c =
-      let one_more = empty_cost S to empty in
       let pages : ℕ = set.len (regions_of (pages_of (more c) to)) + set.len (pages_of (more c) to) in
-      let own : cost (more c) to ≡ cost S to + pages = omega (arith, one_more) in
+      let own : cost (more c) to ≡ cost S to + pages = omega (arith, empty_cost S to empty) in
       let e = sum_one (live_cost (directory_of directories) (more c)) (live_cost (directory_of directories) S) to pages 0 64 (omega arith) (omega (arith, few))
       (ap (λ x. if is_some x then cost (more c) to else 0) live ∙ own ∙ sym (ap (λ x. (if is_some x then cost S to else 0) + pages) live))
       (λ q n. ap (λ k. if is_some (directory_of directories q) then k else 0) (ap cost_of (same_pages (more c) S q q (λ other. ap is_some (put_other S1 slot c (at_page q other) (other_process (at_page q other) n) ∙ so_far.others (at_page q other) n))))) in
@@ -309,16 +290,13 @@ module _ (directories : List (Option ℕ)) (bytes one : List ℕ) (roles roles1 
   room_for_copy s empty room =
       let c : Cell = cell.0 in
       let few : to < 64 = live_small directories to target s.sound.pids live in
-      let a = total-insert directories S1 slot c target few live (so_far.rest page (omega arith)) in
       let b = total_grown empty few c in
       let d = cost-within S (more c) from to (copied_from c) in
       let n = so_far.length in
-      omega (arith, a, b, d, n, room)
+      omega (arith, total-insert directories S1 slot c target few live (so_far.rest page (omega arith)), b, d, n, room)
 
   pub copied_next : (two : List ℕ) (roles2 : List Role) → PageCopied directories from to page one roles1 two roles2 → CopiedBelow directories from to (page + 1) bytes roles two roles2
   copied_next two roles2 made =
-      let low = so_far.low in
-      let high = user.1 in
       record {
         after = made.after;
         others = λ q n. ap (λ x. map.get x q) made.spaces ∙ put_other S1 slot copy q (other_process q n) ∙ so_far.others q n;
@@ -335,8 +313,8 @@ module _ (directories : List (Option ℕ)) (bytes one : List ℕ) (roles roles1 
           | inr differ ↦ ap is_lazy_entry (put_other E1 slot made.entries.0 (at_page to other) (other_page other differ)) ∙ so_far.lazy other (omega (arith, l, differ))
         ];
         length = made.length ∙ so_far.length;
-        low = omega (arith, low);
-        high = omega (arith, high);
+        low = omega (arith, so_far.low);
+        high = omega (arith, user.1);
       }
     where
       E : Entries

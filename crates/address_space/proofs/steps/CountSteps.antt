@@ -52,9 +52,8 @@ one_more P Q first zero k low high passes fails others = absurd (omega arith)
 one_more P Q first (suc count) k low high passes fails others = elim (cases_eq k first) [
   | inl here ↦ grind (arith, count_range-same)
   | inr differ ↦
-      let a : counted (Q first) ≡ counted (P first) = ap counted (others first (λ e. differ (sym e))) in
       let rest = one_more P Q (first + 1) count k (omega arith) (omega arith) passes fails others in
-      omega (arith, a, rest)
+      omega (arith, ap counted (others first (λ e. differ (sym e))), rest)
 ]
 
 apart_page : (p page i : ℕ) → i ≢ page → at_page p i ≢ at_page p page
@@ -138,9 +137,8 @@ module _ (directories : List (Option ℕ)) (bytes : List ℕ) (roles : List Role
   -- a mapped page is one of those that are counted
   pub count_positive : slice_get counts t ≡ Some n → is_some (entry_at (frame_bytes bytes) d page) ≡ true → 1 ≤ n
   count_positive is here =
-      let e = count_by_entries is in
       let some = count_some (λ other. is_some (entry_at (frame_bytes bytes) d other)) (1024 * slot_number page) 1024 page (omega arith) (omega arith) here in
-      omega (arith, e, some)
+      omega (arith, count_by_entries is, some)
 
   pub page_counted : slice_get counts t ≡ Some n → (more : Spaces) → MapsOneMore mapped (at_page p page) more → IsCounted more roles (slice_set counts t (n + 1))
   page_counted is more one =

@@ -222,8 +222,7 @@ directory_removed directories bytes roles roles' p d s live empty rel =
     let none : D' p ≡ None = directory_set directories p None l in
     let others : (q : ℕ) → q ≢ p → D' q ≡ D q = directory_kept directories p None in
     let bare : (t : ℕ) → table_in D m p t ≡ None = λ t. no_table_left directories bytes roles p t s few empty in
-    let was : R d ≡ Some (Directory p) = sound.tables.directory p d live in
-    let same_role : Some rel.role ≡ Some (Directory p) = sym rel.was ∙ was in
+    let same_role : Some rel.role ≡ Some (Directory p) = sym rel.was ∙ (sound.tables.directory p d live) in
     let role_is : rel.role ≡ Directory p = cc in
     let role : R' d ≡ Some Free = role_own roles roles' d rel.role (released rel.role) rel.was rel.now ∙ ap (λ r. Some (released r)) role_is in
     let kept : (g : ℕ) → g ≢ d → R' g ≡ R g = role_other roles roles' d (released rel.role) rel.now in
@@ -236,10 +235,8 @@ directory_removed directories bytes roles roles' p d s live empty rel =
     (let a = weight-set roles d rel.role (released rel.role) rel.was in
     let n : frames_weight roles' ≡ frames_weight (slice_set roles d (released rel.role)) = ap frames_weight rel.now in
     let x : weight rel.role ≡ 1 = ap weight role_is in
-    let y : weight (released rel.role) ≡ 0 = ap (λ r. weight (released r)) role_is in
-    omega (arith, a, n, x, y)) in
+    omega (arith, a, n, x, ap (λ r. weight (released r)) role_is)) in
     let weighs = s.weighs in
-    let within = s.within in
     record {
       after = record {
         sound = record {
@@ -251,7 +248,7 @@ directory_removed directories bytes roles roles' p d s live empty rel =
         };
         in_use = λ q r t found. s.in_use q r t (sym (kept_tables D D' m R R' sound.tables p d live bare none others role kept q r) ∙ found);
         weighs = let z : lazy_count (entries_in D' m) ≡ lazy_count (entries_in D m) = ap lazy_count E in omega (arith, weighs, lighter, total, total', z);
-        within = omega (arith, within, same_length, total, total');
+        within = omega (arith, s.within, same_length, total, total');
       };
       spaces = spaces;
       none = none;

@@ -31,10 +31,7 @@ pub record Known (directories : List (Option ℕ)) (bytes : List ℕ) (p page : 
   pub here : entry_at (frame_bytes bytes) directory page ≡ Some f.entry
 
 pub known : (directories : List (Option ℕ)) (bytes : List ℕ) (p page : ℕ) (f : Found) → found_in (directory_of directories) (frame_bytes bytes) p page ≡ Some f → Known directories bytes p page f
-known directories bytes p page f is = grind (arith, m)
-  where
-    m : Frames
-    m = frame_bytes bytes
+known directories bytes p page f is = grind (arith, (frame_bytes bytes))
 
 -- a page is found just where it is mapped
 pub found_mapped : (inner : Inner) (p page : ℕ) → AreCountedInside inner → IsUserPage page

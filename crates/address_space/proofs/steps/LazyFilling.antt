@@ -1,5 +1,5 @@
 -- What a lazy page that got a frame of its own leaves.
-use Rattle.address_space.proofs.Prelude.{EntriesStay, of_lazy, ◌≡◌, ◌≢◌, ℕ, ◌+◌, ◌^◌, ◌<◌, ◌≤◌, true, false, List, length, replicate, refl, ap, sym, ◌∙◌, subst, arith, inr, Option, Some, length-set, slice_get, option_and_then, length-replicate, slot_number, frame_number, frame_bytes, with_frame, with_frame-same, with_frame-other, Role, Reserved, Free, Table, Page, free_frames, frames_weight, IsTaken, weight-taken, PageEntry, Frames, dir_word, table_of, entry_at, with_entry, entry_word, IsKernelEntry, entry_word-names, entry_word-lt, entry_word-present, word_entry-entry_word, Slot, at_page, Entries, names, lazy_count, spaces_of, holders_of, Directories, Roles, directory_of, table_in, entry_in, entries_in, spaces_in, total_cost, Tables, Pages, IsSpaces, InUseAt, PageFilled, ne_eqb}
+use Rattle.address_space.proofs.Prelude.{EntriesStay, of_lazy, ◌≡◌, ◌≢◌, ℕ, ◌+◌, ◌^◌, ◌<◌, ◌≤◌, true, false, List, length, replicate, refl, ap, sym, ◌∙◌, subst, arith, inr, Option, Some, length-set, slice_get, option_and_then, length-replicate, slot_number, frame_number, frame_bytes, with_frame, with_frame-same, with_frame-other, Role, Reserved, Free, Table, Page, free_frames, IsTaken, weight-taken, PageEntry, Frames, dir_word, table_of, entry_at, with_entry, entry_word, IsKernelEntry, entry_word-names, entry_word-lt, entry_word-present, word_entry-entry_word, Slot, at_page, Entries, names, lazy_count, spaces_of, holders_of, Directories, Roles, directory_of, table_in, entry_in, entries_in, spaces_in, total_cost, Tables, Pages, IsSpaces, InUseAt, PageFilled, ne_eqb}
 use Rattle.address_space.proofs.steps.Steps.{sound_by, inside, live_small, table_by_word, role_own, role_other, free_loose, page_loose}
 use Rattle.address_space.proofs.costs.Costed.{free_where_light}
 use Rattle.address_space.proofs.entries.EntrySteps.{entries-insert, entry_own, entry_other, tables-entry, tables_kept, use_kept}
@@ -15,10 +15,9 @@ use Rattle.page_words.specs.FiniteSet as set
 pub room_to_fill : (directories : List (Option ℕ)) (bytes : List ℕ) (roles : List Role) (p d page : ℕ) (e : PageEntry) → IsSpaces directories bytes roles → directory_of directories p ≡ Some d
     → 0x40000 ≤ page → page < 0xf0000 → entry_at (frame_bytes bytes) d page ≡ Some e → e.lazy ≡ true → 0 < free_frames roles
 room_to_fill directories bytes roles p d page e s live low high is lazy =
-    let E : Entries = entries_in (directory_of directories) (frame_bytes bytes) in
     let there = get_user (directory_of directories) (frame_bytes bytes) p d page e live (live_small directories p d s.sound.pids live) low high is in
     let zero = (entry_rules directories bytes roles p d page e s.sound live is).zero lazy in
-    let less = (holders-less E (at_page p page) e there).0 in
+    let less = (holders-less (entries_in (directory_of directories) (frame_bytes bytes)) (at_page p page) e there).0 in
     grind (arith, free_where_light)
 
 -- a lazy page got a frame of zeros: the spaces stay, and so do the costs
@@ -70,18 +69,15 @@ page_filled directories bytes one two roles roles' p d page f e s live low high 
     let spaces : spaces_of (entries_in D (frame_bytes two)) (frame_bytes two) ≡ spaces_of E m =
     (λ i. spaces_of (E2 i) (is i)) ∙ fill_refines E m2 slot e f there zero (unused E R f sound.pages free) (ne_eqb f 0 (λ z. omega (arith, z, up))) zeros_0 zeros_f ∙ same_bytes E m m2 page_kept in
     let total : total_cost directories (spaces_of (entries_in D (frame_bytes two)) (frame_bytes two)) ≡ total_cost directories (spaces_of E m) = ap (total_cost directories) spaces in
-    let weight : frames_weight roles' ≡ frames_weight roles + 1 = weight-taken roles roles' f (Page 1) taken in
     let less : lazy_count (entries_in D (frame_bytes two)) + 1 ≡ lazy_count E = ap (λ x. lazy_count x + 1) E2 ∙ lazy-filled E slot e e' there zero (λ z. omega (arith, z, up)) in
     let tables : (q r : ℕ) → table_in D (frame_bytes two) q r ≡ table_in D m q r = λ q r. ap (λ x. table_in D x q r) is ∙ tables_kept D m1 R' Tb p d page t (entry_word e') live here.there (entry_word-lt e' small) q r ∙ w.tables q r in
-    let weighs = s.weighs in
-    let within = s.within in
     record {
       after = record {
         sound = sound_by directories bytes two roles roles' _ _ sound (long_two ∙ long_one) same_length is
             (tables-entry D m1 R' Tb p d page t (entry_word e') live here.there (entry_word-lt e' small) (inr (entry_word-names e' small rules'))) E2 P2;
         in_use = λ q r. subst (λ x. InUseAt D x q r) (sym is) (use_kept D m1 R' Tb p d page t (entry_word e') live here.there (entry_word-lt e' small) (entry_word-present e') q r (w.in_use s.in_use q r));
-        weighs = omega (arith, weighs, weight, less, total);
-        within = omega (arith, within, total, same_length);
+        weighs = omega (arith, s.weighs, weight-taken roles roles' f (Page 1) taken, less, total);
+        within = omega (arith, s.within, total, same_length);
       };
       spaces = spaces;
       real = (e', ap (λ x. entry_in D x slot) is ∙ entry_own D m1 R' Tb p d page t (entry_word e') live here.there (entry_word-lt e' small) ∙ word_entry-entry_word e' small, refl);

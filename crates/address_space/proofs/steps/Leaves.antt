@@ -1,14 +1,6 @@
 -- What a slot that leaves its group leaves.
 use Rattle.address_space.proofs.Prelude.{InUse, Tables, Pages, IsSound, InUseAt, IsSpaces, ◌≡◌, ◌≢◌, ℕ, ◌+◌, ◌<◌, ◌≤◌, Bool, true, false, List, length, refl, ap, sym, ◌∙◌, subst, arith, inl, inr, Option, Some, None, length-set, ◌-◌, ◌⊎◌, slice_get, slice_set, if◌then◌else◌, nat_lt, option_and_then, cases_eq, nat_tests, slot_number, is_present, frame_number, frame_bytes, word_in, with_frame-other, Role, Reserved, Free, Table, Page, frames_weight, weight, released, IsInUse, weight-set, PageEntry, Frames, dir_word, table_of, entry_at, IsCleared, without_table, same, Slot, need, is_slot, at_page, Entries, lazy_count, cell_of, spaces_of, holders_of, Directories, Roles, directory_of, table_in, entries_in, spaces_in, total_cost, TableFreed, EntryLeft, SlotRemoved, of_page, PlacesStay}
-use Rattle.address_space.proofs.steps.Steps.{sound_by, live_small, page_loose, free_loose, table_by_word, role_own, role_other}
-use Rattle.address_space.proofs.costs.CostSteps.{total-entry, need-one, need-most}
-use Rattle.address_space.proofs.entries.EntrySteps.{Loose, with_word_at, entries-remove, tables-entry, tables_kept, same_entries}
-use Rattle.address_space.proofs.frames.FrameSteps.{here_or_not, tables-role, unlinked-own, unlinked-others, unlinked-table, unlinked-entry, tables-unlinked}
-use Rattle.address_space.proofs.frames.PageSteps.{same_bytes, pages-role, holders-less, no_table, no_directory}
-use Rattle.address_space.proofs.entries.Refinement.{leave_refines}
-use Rattle.address_space.proofs.steps.Stores.{found, get_user, named_entry, page_of_name, page_held, entry_rules}
-use Rattle.address_space.proofs.entries.Removal.{put_back, removed, kept_other}
-use Rattle.address_space.proofs.entries.Staying.{stay_same, stay_then, stay_removed, places_by, entry_needs_table}
+use Rattle.address_space.proofs.Lemmas.{sound_by, live_small, page_loose, free_loose, table_by_word, role_own, role_other, total-entry, need-one, need-most, Loose, with_word_at, entries-remove, tables-entry, tables_kept, same_entries, here_or_not, tables-role, unlinked-own, unlinked-others, unlinked-table, unlinked-entry, tables-unlinked, same_bytes, pages-role, holders-less, no_table, no_directory, leave_refines, found, get_user, named_entry, page_of_name, page_held, entry_rules, put_back, removed, kept_other, stay_same, stay_then, stay_removed, places_by, entry_needs_table}
 use Rattle.page_words.specs.FiniteMap as map
 use Rattle.page_words.specs.FiniteSet as set
 
@@ -41,17 +33,13 @@ pages-less E R R' slot e c P there was own others = record {
 
     positive : (E : Entries) (q : Slot) (d : PageEntry) (f : ℕ) → map.get E q ≡ Some d → d.frame ≡ f → 1 ≤ set.len (holders_of E f)
     positive E q d f is same =
-        let h = (holders-less E q d is).0 in
-        let l : set.len (holders_of E f) ≡ set.len (holders_of E d.frame) = ap (λ g. set.len (holders_of E g)) (sym same) in
-        omega (arith, h, l)
+        omega (arith, (holders-less E q d is).0, ap (λ g. set.len (holders_of E g)) (sym same))
 
     no_other : (q : Slot) (d : PageEntry) → map.get (map.remove E slot) q ≡ Some d → d.frame ≡ e.frame → nat_lt 1 c ≡ false → ⊥
     no_other q d is same one =
-        let a = positive (map.remove E slot) q d e.frame is same in
         let less = (holders-less E slot e there).0 in
-        let old = (P.counts e.frame c was).1 in
         let le = le_of c one in
-        absurd (omega (arith, a, less, old, le))
+        absurd (omega (arith, positive (map.remove E slot) q d e.frame is same, less, (P.counts e.frame c was).1, le))
 
 -- pages after a lazy entry went
 pages-lazy-less : (E : Entries) (R : Roles) (slot : Slot) (e : PageEntry) → Pages E R → map.get E slot ≡ Some e → e.frame ≡ 0 → R 0 ≡ Some Reserved → Pages (map.remove E slot) R
@@ -89,14 +77,12 @@ entry_left directories bytes roles one p d page e m1 sound live is_entry there T
     by true is =
         let zero = (entry_rules directories bytes roles p d page e sound live is_entry).zero is in
         let same = went.lazy is in
-        let less = (holders-less E slot e there).0 in
         let x : set.len (holders_of E e.frame) ≡ lazy_count E = ap (λ g. set.len (holders_of E g)) zero in
         let y : set.len (holders_of (map.remove E slot) e.frame) ≡ lazy_count (map.remove E slot) = ap (λ g. set.len (holders_of (map.remove E slot) g)) zero in
-        let w : frames_weight one ≡ frames_weight roles = ap frames_weight same in
         record {
           tables = subst (λ l. Tables D m1 (slice_get l)) (sym same) Ta;
           pages = subst (λ l. Pages (map.remove E slot) (slice_get l)) (sym same) (pages-lazy-less E (slice_get roles) slot e sound.pages there zero sound.tables.zero_role);
-          weight = omega (arith, less, x, y, w);
+          weight = omega (arith, (holders-less E slot e there).0, x, y, ap frames_weight same);
           length = ap length same;
         }
     by false is =
@@ -114,7 +100,6 @@ entry_left directories bytes roles one p d page e m1 sound live is_entry there T
           | inl more ↦ page_loose Ra e.frame (c - 1) (own ∙ ap (λ b. Some (if b then Page (c - 1) else Free)) more)
           | inr last_one ↦ free_loose Ra e.frame (own ∙ ap (λ b. Some (if b then Page (c - 1) else Free)) last_one)
         ] in
-        let a = weight-set roles e.frame rel.role (released rel.role) rel.was in
         let n : frames_weight one ≡ frames_weight (slice_set roles e.frame (released rel.role)) = ap frames_weight rel.now in
         let x : weight rel.role ≡ c = ap weight role_is in
         let y : weight (released rel.role) ≡ weight (released (Page c)) = ap (λ r. weight (released r)) role_is in
@@ -123,7 +108,7 @@ entry_left directories bytes roles one p d page e m1 sound live is_entry there T
         record {
           tables = tables-role D m1 R Ra e.frame (Page c) Ta was (page_loose R e.frame c was) loose others;
           pages = pages-less E R Ra slot e c sound.pages there was own others;
-          weight = omega (arith, a, n, x, y, z, l);
+          weight = omega (arith, weight-set roles e.frame rel.role (released rel.role) rel.was, n, x, y, z, l);
           length = ap length rel.now ∙ length-set roles e.frame (released rel.role);
         }
 
@@ -214,11 +199,9 @@ slot_removed directories bytes two roles one last p d page e freed spaces live l
           let E2 : entries_in D m2 ≡ E' = same_entries D m1 m2 (unlinked-entry D m1 Ra left.tables p d s f.table live there1 s_small blank) ∙ E1 in
           let no_own : table_in D m2 p s ≡ None = unlinked-own D m1 Ra left.tables p d s f.table live there1 s_small in
           let other : (q r : ℕ) → (q ≡ p → r ≡ s → ⊥) → table_in D m2 q r ≡ table_in D m1 q r = unlinked-others D m1 Ra left.tables p d s f.table live there1 s_small in
-          let most = need-most (spaces_of E' m2) p page in
           let a = weight-set one g freed_t.role (released freed_t.role) freed_t.was in
           let n : frames_weight last ≡ frames_weight (slice_set one g (released freed_t.role)) = ap frames_weight freed_t.now in
           let x : weight freed_t.role ≡ 1 = ap weight role_g in
-          let y : weight (released freed_t.role) ≡ 0 = ap (λ r. weight (released r)) role_g in
           let w1 = left.weight in
           let stays = stay_then (of_page p page) E E' (entries_in D m2) (stay_removed E p page) (stay_same (of_page p page) E' (entries_in D m2) E2) in
           subst (λ x. Gone directories p page bytes roles x last) (sym is) (record {
@@ -233,7 +216,7 @@ slot_removed directories bytes two roles one last p d page e freed spaces live l
                   let u = use_other q r n t before in
                   (u.0, u.1, ap (λ l. is_present (word_in l u.0)) (unlinked-table D m1 Ra left.tables p d s f.table live there1 s_small q r t before) ∙ u.2))
             ];
-            fits = omega (arith, w1, a, n, x, y, most);
+            fits = omega (arith, w1, a, n, x, ap (λ r. weight (released r)) role_g, need-most (spaces_of E' m2) p page);
             length = ap length freed_t.now ∙ length-set one g (released freed_t.role) ∙ left.length;
             stay = record {
               entries = stays;
@@ -251,11 +234,10 @@ slot_removed directories bytes two roles one last p d page e freed spaces live l
     let total : total_cost directories (spaces_of (entries_in D m2) m2) ≡ total_cost directories (spaces_of E' m2) = ap (λ x. total_cost directories (spaces_of x m2)) gone.entries in
     let lazy : lazy_count (entries_in D m2) ≡ lazy_count E' = ap lazy_count gone.entries in
     let fits = gone.fits in
-    let same_length = gone.length in
     let old = spaces.weighs in
     let within = spaces.within in
     record {
-      length = same_length;
+      length = gone.length;
       stay = gone.stay;
       after = grind (arith, sound_by);
       spaces = ap (λ x. spaces_of x m2) gone.entries ∙ same_bytes E' m m2 gone.kept ∙ leave_refines E m (is_slot p page);

@@ -1,15 +1,7 @@
 -- A page that gets an entry: its table, which may be linked for it, the count of the table, and the entry.
 use Rattle.address_space.proofs.Prelude.{◌≡◌, ℕ, ◌+◌, ◌*◌, ◌^◌, ◌<◌, ◌≤◌, Bool, false, List, length, refl, ap, sym, ◌∙◌, subst, arith, inl, inr, Option, Some, None, ◌≢◌, true, length-set, is_some, slice_get, slice_set, option_and_then, slot_number, IsUserPage, frame_number, frame_bytes, Role, Page, free_frames, IsPageBelow, frames_weight, PageEntry, Frames, dir_word, table_of, entry_at, with_entry, Slot, at_page, fresh, cell_or_fresh, copy_of, joined, directory_of, table_in, entries_in, spaces_in, Roles, IsSound, IsSpaces, Names, Inside, Tables, IsCounted, AreCountedSpaces, KeepsCounts, AlwaysMapsAlike, MapsOneMore, region_pages, pages_under, TableGiven, SlotAdded, PageAdded, SlotJoined, SlotCopied, PageCopied, weight-set, Entries, spaces_of, some_value, ne_eqb, TableGot, TableReady, TakesPage, CountedUp, EntryCopied}
-use Rattle.address_space.proofs.costs.Costed.{Room, room_for_page, mapped}
-use Rattle.address_space.proofs.steps.CountSteps.{counted_roles, table_counted, table_count, count_there, count_fits, page_counted, region_more, one_inserted, alike_taken}
-use Rattle.address_space.proofs.steps.Steps.{page_map_of, inside, table_by_word, table_given, table_given_there, lazy_entry, page_added, page_loose, none_before, role_own, role_other, entry_added}
-use Rattle.address_space.proofs.steps.Stores.{HasPage, page_of_name}
-use Rattle.address_space.proofs.frames.FewHolders.{count_few}
-use Rattle.address_space.proofs.costs.Totals.{key-joined}
+use Rattle.address_space.proofs.Lemmas.{Room, room_for_page, mapped, counted_roles, table_counted, table_count, count_there, count_fits, page_counted, region_more, one_inserted, alike_taken, page_map_of, inside, table_by_word, table_given, table_given_there, lazy_entry, page_added, page_loose, none_before, role_own, role_other, entry_added, HasPage, page_of_name, count_few, key-joined, tables-role, same_bytes, pages-join, lazy-real, get-spaces_of, join_refines}
 use Rattle.address_space.proofs.steps.Copies.{copied_entry, lazy_copied, real_copied, frame_copied, entry_stays, page_copied}
-use Rattle.address_space.proofs.frames.FrameSteps.{tables-role}
-use Rattle.address_space.proofs.frames.PageSteps.{same_bytes, pages-join, lazy-real}
-use Rattle.address_space.proofs.entries.Refinement.{get-spaces_of, join_refines}
 use Rattle.page_words.specs.FiniteMap as map
 
 -- ---- What a slot that joins a group leaves.
@@ -30,15 +22,12 @@ slot_joined directories bytes two roles roles' giver giver_page p d page f c rig
     let own : R' f ≡ Some (Page (c + 1)) = role_own roles roles' f (Page c) (Page (c + 1)) role now in
     let others : (g : ℕ) → g ≢ f → R' g ≡ slice_get roles g = role_other roles roles' f (Page (c + 1)) now in
     let none : map.get E slot ≡ None = none_before E m slot (map.get E slot) (sym (get-spaces_of E m slot) ∙ unmapped) in
-    let same_length : length roles' ≡ length roles = ap length now ∙ length-set roles f (Page (c + 1)) in
     let named : e ≡ record e { frame = given.0.frame } = (λ i. record e { frame = sym given.2 i }) in
     let up : 1 ≤ f = above sound.tables in
-    let heavier = weight-set roles f (Page c) (Page (c + 1)) role in
-    let weighs : frames_weight roles' ≡ frames_weight (slice_set roles f (Page (c + 1))) = ap frames_weight now in
     let as_many = lazy-real E slot e none (λ z. omega (arith, z, up)) in
     let added = entry_added directories bytes bytes two roles roles' p d page at.0 e sound live low high none at.1 (record {
       size = refl;
-      length = same_length;
+      length = (ap length now ∙ length-set roles f (Page (c + 1)));
       small = (inside directories bytes roles f (Page c) sound role).small;
       tables = tables-role (directory_of directories) m (slice_get roles) R' f (Page c) sound.tables role (page_loose (slice_get roles) f c role) (page_loose R' f (c + 1) own) others;
       pages = pages-join E (slice_get roles) R' slot e c sound.pages none role own others;
@@ -46,7 +35,7 @@ slot_joined directories bytes two roles roles' giver giver_page p d page f c rig
       table = refl;
       rules = record { frame = λ _. up; zero = λ h. cc; clean = λ h. cc; right = λ h. h; touched = λ h. h };
       kept = λ q x found. refl;
-      weight = omega (arith, heavier, weighs, as_many);
+      weight = omega (arith, weight-set roles f (Page c) (Page (c + 1)) role, ap frames_weight now, as_many);
       used = λ q r u. u;
       linked = λ q r. refl;
     }) is_two long_two in

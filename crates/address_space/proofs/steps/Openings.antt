@@ -212,11 +212,9 @@ opening_is_sound n low high =
     let R : Roles = slice_get (opening_roles n) in
     let long = opening_length n in
     let weight : frames_weight (opening_roles n) ≡ 1 = opening_weight n (omega arith) in
-    let total = opening_cost (spaces_in (replicate 64 None) (blank_bytes n)) in
-    let size = blank_length n in
     record {
       sound = record {
-        size = size ∙ ap (λ k. 4096 * k) (sym long);
+        size = (blank_length n) ∙ ap (λ k. 4096 * k) (sym long);
         few = subst (λ k. k ≤ 1048576) (sym long) high;
         pids = refl;
         tables = record {
@@ -239,7 +237,7 @@ opening_is_sound n low high =
       };
       in_use = λ p s t found. let a : table_in D m p s ≡ None = ap (option_and_then (λ d. table_of m d s)) (no_directory 64 p) in absurd (let b : Some t ≡ None = sym found ∙ a in cc);
       weighs = let z : lazy_count (entries_in D m) ≡ 0 = ap lazy_count (opening_entries m) in omega (arith, weight, z);
-      within = omega (arith, total, long, low);
+      within = omega (arith, opening_cost (spaces_in (replicate 64 None) (blank_bytes n)), long, low);
     }
 
 -- a process without a directory has nothing mapped
@@ -259,10 +257,8 @@ cost_within directories S p long live =
     among p a (suc n) low high = elim (cases_eq p a) [
       | inl same ↦
           let s = sum_by-cons (live_cost (directory_of directories) S) a (range_with_len (a + 1) n) in
-          let e : live_cost (directory_of directories) S p ≡ live_cost (directory_of directories) S a = ap (live_cost (directory_of directories) S) same in
-          omega (arith, s, e)
+          omega (arith, s, ap (live_cost (directory_of directories) S) same)
       | inr differ ↦
-          let s = sum_by-cons (live_cost (directory_of directories) S) a (range_with_len (a + 1) n) in
           let r = among p (a + 1) n (omega arith) (omega arith) in
-          omega (arith, s, r)
+          omega (arith, sum_by-cons (live_cost (directory_of directories) S) a (range_with_len (a + 1) n), r)
     ]

@@ -1,16 +1,8 @@
 -- A copy of a process's pages goes from region to region, and through each by its table.
 use Rattle.address_space.proofs.Prelude.{◌≡◌, ℕ, suc, ◌+◌, ◌-◌, ◌*◌, ◌<◌, ◌≤◌, Bool, true, false, List, length, refl, ap, sym, ◌∙◌, subst, arith, Option, Some, None, is_some, slice_get, slice_set, IfSome, if◌then◌else◌, option_and_then, slot_number, index_number, IsUserPage, is_present, frame_bytes, word_in, Role, PageEntry, Frames, table_of, entry_at, entry_from, entry_word, word_entry, counted, count_range, count_range-none, count_range-same, Slot, cost, at_page, cell_or_fresh, copy_of, directory_of, spaces_in, table_in, total_cost, IsSound, IsSpaces, IsCounted, IsEmptySpace, PageCopied, CopiedBelow, CopyIn, PagesCopied, words_left, ◌⊎◌, inl, inr, cases_lt, Cell, Spaces, Set, nat_order, option_map, cost_of, need, pages_of, regions_of, without, is_slot, region_pages, length-set, slice_get_within, Inside, TakesPage, set-set, count_range-add, count-table, mapped_in_table, count_none}
 use Rattle.page_map.specs.declared.regions.Listed.{Listed}
-use Rattle.address_space.proofs.costs.Costed.{Room}
-use Rattle.address_space.proofs.costs.Costs.{contains-pages_of, cost-insert}
-use Rattle.address_space.proofs.costs.CostSteps.{need-least, need-one, need-two, region_member, region_there as region_kept}
-use Rattle.address_space.proofs.costs.Relief.{cost_left, page_left}
-use Rattle.address_space.proofs.costs.Sizes.{len-subset}
-use Rattle.address_space.proofs.entries.Readings.{mapped_read}
-use Rattle.address_space.proofs.steps.Steps.{live_small, page_map_of}
-use Rattle.address_space.proofs.steps.CountSteps.{count_there, count_by_entries, one_inserted, region_more, table_count}
+use Rattle.address_space.proofs.Lemmas.{Room, contains-pages_of, cost-insert, need-least, need-one, need-two, region_member, region_there as region_kept, cost_left, page_left, len-subset, mapped_read, live_small, page_map_of, count_there, count_by_entries, one_inserted, region_more, table_count, entry_rules, named_inside}
 use Rattle.address_space.proofs.steps.Copies.{copied_over, copied_past, copied_next, copied_at_last, room_for_copy, put_other}
-use Rattle.address_space.proofs.steps.Stores.{entry_rules, named_inside}
 use Rattle.address_space.proofs.steps.WalkSteps.{word_of_entry}
 use Rattle.page_words.specs.FiniteMap as map
 use Rattle.page_words.specs.FiniteSet as set
@@ -42,13 +34,12 @@ unfolding count_range
 one_left bytes table index found e up inside least is =
     let long : 1024 - index ≡ (found - index) + (1024 - found) = omega (arith, up, inside) in
     let parts : count_range P index (1024 - index) ≡ count_range P index (found - index) + count_range P (index + (found - index)) (1024 - found) = ap (count_range P index) long ∙ count_range-add P index (found - index) (1024 - found) in
-    let none : count_range P index (found - index) ≡ 0 = count_range-none P index (found - index) (λ i l. (grind arith)) in
     let here : index + (found - index) ≡ found = omega (arith, up) in
     let moved : count_range P (index + (found - index)) (1024 - found) ≡ count_range P found (1024 - found) = ap (λ k. count_range P k (1024 - found)) here in
     let some : 1024 - found ≡ suc (1024 - (found + 1)) = omega (arith, inside) in
     let rest : count_range P found (1024 - found) ≡ counted (P found) + count_range P (found + 1) (1024 - (found + 1)) = ap (count_range P found) some in
     let one : counted (P found) ≡ 1 = ap counted (word_present (word_in (frame_bytes bytes table) found) e is) in
-    omega (arith, parts, none, moved, rest, one)
+    omega (arith, parts, count_range-none P index (found - index) (λ i l. (grind arith)), moved, rest, one)
   where
     P : ℕ → Bool
     P i = is_present (word_in (frame_bytes bytes table) i)
@@ -146,8 +137,7 @@ module _ {directories : List (Option ℕ)} {bytes one : List ℕ} {roles roles1 
   made_inside counts t k copy there right =
       let S = spaces_in directories one in
       let is = table_count S S directories one roles1 (slice_set counts t k) to slot t k copy.so_far.after.sound (sym there) right in
-      let within = slice_get_within (slice_set counts t k) t (region_pages S to slot) is in
-      omega (arith, within, length-set counts t k)
+      omega (arith, slice_get_within (slice_set counts t k) t (region_pages S to slot) is, length-set counts t k)
 
   -- whose table lies in memory
   pub copy_inside : {index : ℕ} {memory : List ℕ} → CopyIn directories from source to slot table index bytes roles one roles1 → memory ≡ one → slot < 960 → 4096 * table + 4096 ≤ length memory
@@ -284,11 +274,10 @@ regions_copied {directories} {bytes} {one} {roles} {roles1} {from} {source} {to}
 -- fewer pages cost no more
 cost_subset : (few many : Set nat_order) → ((q : ℕ) → set.contains few q ≡ true → set.contains many q ≡ true) → cost_of few ≤ cost_of many
 cost_subset few many within =
-    let pages = len-subset few many within in
     let regions = len-subset (regions_of few) (regions_of many) (λ r there.
     let m = region_member few r there in
     subst (λ n. set.contains (regions_of many) n ≡ true) m.1 (region_kept many m.0 (within m.0 m.2))) in
-    omega (arith, pages, regions)
+    omega (arith, len-subset few many within, regions)
 
 copied_there : (slot : Slot) (x : Option Cell) → is_some x ≡ is_some (option_map (copy_of slot) x)
 copied_there slot None = refl
@@ -333,7 +322,6 @@ pub all_copied : {directories : List (Option ℕ)} {bytes one : List ℕ} {roles
     → (left ≡ 0) ⊎ ((s : ℕ) → first ≤ s → s < 960 → table_of (frame_bytes one) source s ≡ None) → PagesCopied directories from to bytes roles one roles1
 all_copied first home before empty so_far used made rest (inr none) = regions_copied first home before empty so_far none
 all_copied {directories} {bytes} {one} {roles} {roles1} {from} {source} {to} first home before empty so_far used made rest (inl full) =
-    let high = so_far.high in
     copied_at_last directories bytes one roles roles1 from to before
-    (copied_over directories bytes one roles roles1 from to (1024 * first) 0xf0000 so_far high (omega arith)
+    (copied_over directories bytes one roles roles1 from to (1024 * first) 0xf0000 so_far so_far.high (omega arith)
     (λ page low past. none_left_over so_far (omega (arith, used, made, rest, full)) page low))

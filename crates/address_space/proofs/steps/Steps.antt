@@ -199,7 +199,6 @@ page_added directories bytes two roles p d page t write sound live low high unma
     let e : PageEntry = lazy_entry write in
     let slot : Slot = at_page p page in
     let none : map.get E slot ≡ None = none_before E m slot (map.get E slot) (sym (get-spaces_of E m slot) ∙ unmapped) in
-    let more = lazy-more E slot e none refl in
     let zero_role = sound.tables.zero_role in
     let added = entry_added directories bytes bytes two roles roles p d page t e sound live low high none there (record {
       size = refl;
@@ -211,7 +210,7 @@ page_added directories bytes two roles p d page t write sound live low high unma
       table = refl;
       rules = record { frame = λ h. cc; zero = λ h. refl; clean = λ h. refl; right = λ h. refl; touched = λ h. cc };
       kept = λ q x found. refl;
-      weight = omega (arith, more);
+      weight = omega (arith, lazy-more E slot e none refl);
       used = λ q r u. u;
       linked = λ q r. refl;
     }) is_two long_two in

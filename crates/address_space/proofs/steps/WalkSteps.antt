@@ -3,13 +3,8 @@ use Rattle.address_space.proofs.Prelude.{◌≡◌, ℕ, ◌+◌, ◌*◌, ◌%�
 use Rattle.phys_memory.proofs.Words.{length-with_word}
 use Rattle.table_walk.proofs.Leads.{walks_find_what_leads}
 use Rattle.page_map.proofs.MarkProofs.{touched_names, entry_from-touched}
-use Rattle.address_space.proofs.entries.EntrySteps.{entry_by_table}
-use Rattle.address_space.proofs.steps.Steps.{inside, holds_inside, live_small, page_map_of, present_by_table, table_by_word}
-use Rattle.address_space.proofs.steps.Stores.{found, get_user, entry_rules, page_stored, flags_set, cell_read, frame_written, stored_place, byte_is_write, length-write_at}
-use Rattle.address_space.proofs.steps.Bytes.{write_at-nothing, stored-none, stored-flags}
-use Rattle.address_space.proofs.steps.Departures.{no_table_outside}
+use Rattle.address_space.proofs.Lemmas.{entry_by_table, inside, holds_inside, live_small, page_map_of, present_by_table, table_by_word, found, get_user, entry_rules, page_stored, flags_set, cell_read, frame_written, stored_place, byte_is_write, length-write_at, write_at-nothing, stored-none, stored-flags, no_table_outside, places_then}
 use Rattle.address_space.proofs.steps.DirWords.{DirsAlike, flagged_alike, dirs_touched, one_dir_word, dirs-entry, dirs-table, dirs-tables}
-use Rattle.address_space.proofs.entries.Staying.{places_then}
 
 -- ---- What a walk finds
 
@@ -165,15 +160,13 @@ mark_parts directories bytes roles p d address access sound live f =
     let i : ℕ = index_number page in
     let e : PageEntry = f.entry in
     let low = f.low in
-    let high = f.high in
-    let small : s < 1024 = omega (arith, high) in
+    let small : s < 1024 = omega (arith, f.high) in
     let w : ℕ = dir_word m d s in
     let at = found D m p d page e f.here in
     let t : ℕ = at.table in
     let up : table_in D m p s ≡ Some t = ap (option_and_then (λ x. table_of m x s)) live ∙ at.there in
-    let role_t : R t ≡ Some (Table p s) = T.table p s t up in
     let in_d : Inside bytes d = inside directories bytes roles d (Directory p) sound (T.directory p d live) in
-    let in_t : Inside bytes t = inside directories bytes roles t (Table p s) sound role_t in
+    let in_t : Inside bytes t = inside directories bytes roles t (Table p s) sound (T.table p s t up) in
     let names : frame_number w ≡ t = table_by_word w t at.there in
     let present : is_present w ≡ true = present_by_table w (ap is_some at.there) in
     let lt : w < 2 ^ 32 = let h = in_t.small in omega (arith, names, h) in
@@ -182,7 +175,6 @@ mark_parts directories bytes roles p d address access sound live f =
     let long_half : length half ≡ length bytes = length-with_word bytes (word_place d s) (accessed_word w) (let h = in_d.fits in omega (arith, h, small)) in
     let frames_half : frame_bytes half ≡ with_frame m d (with_word_in (m d) s (accessed_word w)) = frames-with_word bytes d s (accessed_word w) small in_d.fits in
     let alike : DirsAlike D m (frame_bytes half) = one_dir_word directories bytes half roles p d s (accessed_word w) sound live small (with_flag_lt w 5 true lt (omega arith)) (flagged_alike w true lt present) frames_half in
-    let first = dirs_touched directories bytes half roles sound alike long_half in
     let v : ℕ = word_in (m t) i in
     let kept : frame_bytes half t ≡ m t = dirs-table D m (frame_bytes half) R T alike p s t up in
     let here : entry_at (frame_bytes half) d page ≡ Some e =
@@ -198,7 +190,7 @@ mark_parts directories bytes roles p d address access sound live f =
     table_by_word (dir_word (frame_bytes half) d s) t (sym (ap (option_and_then (λ x. table_of (frame_bytes half) x s)) live) ∙ dirs-tables D m (frame_bytes half) R T alike p s ∙ up) in
     record {
       half = half;
-      first = first;
+      first = (dirs_touched directories bytes half roles sound alike long_half);
       here = here;
       second = grind (arith, frames-with_word);
       long_half = long_half;

@@ -1,5 +1,5 @@
 -- What memory is after accesses that a processor makes, by its walk or by translations that it kept.
-use Rattle.address_space.proofs.Prelude.{◌≡◌, ℕ, zero, suc, ◌+◌, ◌*◌, ◌/◌, ◌%◌, ◌^◌, ◌<◌, Bool, true, cond, List, [], ◌∷◌, refl, ap, sym, ◌∙◌, subst, arith, inl, inr, Option, Some, None, if◌then◌else◌, ◌&&◌, IsOk, Ok, slice_set, length-set, option_map, is_ok, unwrap_or, and_parts, page_number, offset_number, start_number, second_page, byte_count, touched, page_and, Size, Role, Access, Read, Write, walk_of, finds_at, finds, byte_place, Image, image_from, Slot, slot_order, Cell, Spaces, fresh, with_bytes, set_bytes, write_at, bytes_of, stored, cell_or_fresh, slot_at, all_accessed, all_stored, get-insert, get-map_values, same_or_not, directory_of, spaces_in, IsSound, Touched, is_marked, kept_place, written_at, marked, CanBeMarked, after_walked_load, after_walked_store, LeadTo}
+use Rattle.address_space.proofs.Prelude.{◌≡◌, ℕ, zero, suc, ◌+◌, ◌*◌, ◌/◌, ◌%◌, ◌^◌, ◌<◌, Bool, true, cond, List, [], ◌∷◌, refl, ap, sym, ◌∙◌, subst, arith, inl, inr, Option, Some, None, ◌&&◌, IsOk, Ok, slice_set, length-set, option_map, is_ok, unwrap_or, and_parts, page_number, offset_number, start_number, second_page, byte_count, touched, page_and, Size, Role, Access, Read, Write, walk_of, finds_at, finds, byte_place, Image, image_from, Slot, slot_order, Cell, Spaces, fresh, set_bytes, write_at, bytes_of, stored, cell_or_fresh, slot_at, all_accessed, all_stored, get-insert, get-map_values, same_or_not, directory_of, spaces_in, IsSound, Touched, is_marked, kept_place, written_at, marked, CanBeMarked, after_walked_load, after_walked_store, LeadTo}
 use Rattle.table_walk.proofs.MarkLemmas.{marks_keep_walks}
 use Rattle.address_space.proofs.steps.Finding.{found_at, found_each, found_fits}
 use Rattle.address_space.proofs.steps.WalkSteps.{found_entry, load_marked, byte_written, byte_put, touched_then, walk_named}
@@ -18,7 +18,7 @@ marked_stored S slot at ys q h =
     ap flags (get-insert T slot new q)
     ∙ elim (same_or_not slot_order q slot) [
       | inl k ↦ ap (λ b. flags (cond b (Some new) (map.get T q))) k.1
-      | inr k ↦ grind (arith, flags, new, T, get-map_values, cell, bytes, by)
+      | inr k ↦ grind (arith, flags, new, T, get-map_values, cell, bytes)
     ]
   where
     flags : Option Cell → Bool
@@ -36,9 +36,6 @@ marked_stored S slot at ys q h =
     new : Cell
     new = record cell { bytes = bytes; accessed = true; dirty = true }
 
-    by : (x : Option Cell) (b : Bool) → flags x ≡ true → flags (option_map (λ (c : Cell). if b then with_bytes c bytes else c) x) ≡ true
-    by x b h = grind arith
-
 module _ (directories : List (Option ℕ)) (roles : List Role) (p d : ℕ) (live : directory_of directories p ≡ Some d) where
   unchanged : (bytes : List ℕ) → IsSound directories bytes roles → Touched directories (spaces_in directories bytes) bytes roles bytes
   unchanged bytes sound = record {
@@ -53,8 +50,7 @@ module _ (directories : List (Option ℕ)) (roles : List Role) (p d : ℕ) (live
   can_mark : (bytes : List ℕ) (address : ℕ) (access : Access) → IsSound directories bytes roles → address < 2 ^ 32 → IsOk (walk_of bytes d address access) → CanBeMarked bytes d address access
   can_mark bytes address access sound small ok =
       let size = sound.size in
-      let few = sound.few in
-      record { size = omega (arith, size, few); whole = omega (arith, size); fits = small; found = ok }
+      record { size = omega (arith, size, sound.few); whole = omega (arith, size); fits = small; found = ok }
 
   -- ---- A load: the words that lead to each page are marked
 

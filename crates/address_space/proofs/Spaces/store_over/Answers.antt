@@ -1,6 +1,5 @@
 use Rattle.address_space.proofs.Prelude.{◌≡◌, ◌≤◌, ◌+◌, ◌-◌, ◌∙◌, ℕ, List, length, take, ap, sym, arith, slice_range, length-take-le, page_number, offset_number, crosses, some_bytes, Spaces, slot_at, stored, all_stored, place_in}
-use Rattle.address_space.proofs.steps.Bytes.{stored_two, two_parts, first_bytes, length-part}
-use Rattle.address_space.proofs.standing.FramesStand.{stays_then}
+use Rattle.address_space.proofs.Lemmas.{stored_two, two_parts, first_bytes, length-part, stays_then}
 use Rattle.address_space.proofs.Spaces.store_over.Goals as goal
 
 pub store_part_at-requires-2-clause-place : goal.store_part_at-requires-2-clause-place

@@ -1,6 +1,5 @@
 use Rattle.address_space.proofs.Prelude.{◌∙◌, sym, second_page}
-use Rattle.address_space.proofs.steps.Neighbours.{second_none, second_is, second_there}
-use Rattle.address_space.proofs.steps.Bytes.{stored_in_page}
+use Rattle.address_space.proofs.Lemmas.{second_none, second_is, second_there, stored_in_page}
 use Rattle.address_space.proofs.Spaces.write_at.Goals as goal
 
 pub store_at-requires-clause-within : goal.store_at-requires-clause-within
