@@ -1,4 +1,5 @@
 pub mod Insides
+pub mod Lemmas
 pub mod Prelude
 pub mod costs
 pub mod entries

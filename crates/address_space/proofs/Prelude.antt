@@ -4,6 +4,8 @@ pub use Rattle.std.proofs.Math.Bool.{and-false, and-true, or-true}
 pub use Rattle.std.proofs.lemmas.Bool.{and_parts, cases_eq, cases_lt, ne_eqb, not-true, or_right}
 pub use Rattle.std.proofs.lemmas.Bool.Decides.{nat_tests}
 pub use Rattle.std.proofs.lemmas.List.{append-nil, drop-take, get_or-drop, get_or_default, length-map, length-replicate, length-take-le, map-append, set_split, take-append-drop}
+pub use Rattle.std.proofs.lemmas.List.Folds.{list_any-append}
+pub use Rattle.std.proofs.lemmas.List.FromFn.{length-range_with_len}
 pub use Rattle.std.proofs.lemmas.List.Sums.{sum_by-cons}
 pub use Rattle.std.proofs.lemmas.Option.{slice_get-get_or, slice_get_within}
 pub use Rattle.std.specs.Cmp.{both_ways, eq_by_cmp_equiv, nat_eq_equiv, tied_then, unsigned_tied}

@@ -1,8 +1,6 @@
 -- The replies of a process apart, and the effect of calls on it.
 use Rattle.process_table.proofs.Prelude.{◌≡◌, ◌≢◌, ℕ, ◌+◌, ◌&&◌, not, Bool, true, false, List, [], ◌∷◌, length, map, refl, sym, ap, ◌∙◌, Option, Some, None, is_some, unwrap_or, sum_by, arith, if◌then◌else◌, slice_index, option_map, cases_eq, ne_eqb, same_Some, slot_number, is_user_page, page_number, offset_number, byte_count, touched, covered, Size, same, nat_order, Set, same_itself, get-map_values, contains-insert, retain-insert, is_some-map, Slot, slot_order, Cell, Spaces, cost, cost_of, need, pages_of, regions_of, fresh, cell_or_fresh, with_holders, set_bytes, write_at, bytes_of, without, at_page, slot_at, accessed, stored, access_need, with_page, with_pages, all_accessed, all_stored, value_of, missing, same_pages, OfferKey, State, is_mapped, overdrawn, map_refusal, unmap_refusal, protect_refusal, exit_refusal, after_map, after_unmap, after_protect, after_withdraw, after_load, after_store, withdraw_refusal, loaded, BadPage, Mapped, Quota, NotMapped, Rights, same_apart, left, get-without, Book, Member, given, number_of_children, quota_of, or-false, children, IsApart, AreAlike, Held, held_in, lone}
-use Rattle.process_table.proofs.Overdrawn.{extra_page, extra_touched}
-use Rattle.process_table.proofs.BookLaws.{retained}
-use Rattle.process_table.proofs.CellLaws.{get-inserted, get-inserted_other}
+use Rattle.process_table.proofs.Lemmas.{extra_page, extra_touched, retained, get-inserted, get-inserted_other}
 use Rattle.page_words.specs.FiniteMap as map
 use Rattle.page_words.specs.FiniteSet as set
 

@@ -1,10 +1,7 @@
 -- What the calls of others leave of a process apart, and how a child begins.
-use Rattle.process_table.proofs.Prelude.{◌≡◌, ◌≢◌, ℕ, ◌+◌, ◌&&◌, ◌||◌, not, Bool, true, false, cond, List, [], ◌∷◌, map, refl, sym, ap, ◌∙◌, Option, Some, None, is_some, unwrap_or, arith, inl, inr, if◌then◌else◌, option_map, nat_cmp, cases_eq, ne_eqb, same_Some, offset_number, byte_count, touched, Size, Map, same, nat_order, Set, some_value, no_value, same_cases, get-remove_other, Slot, slot_order, Cell, Spaces, pages_of, fresh, cell_or_fresh, with_bytes, set_bytes, set_holders, write_at, bytes_of, at_page, slot_at, accessed, stored, with_page, with_pages, all_accessed, all_stored, copied, contains-pages_of, copied-own, copied-other, Member, is_child, number_of_children, child_no, get-insert_other, OfferKey, Offers, offer_order, offer_key, State, is_live, child_of, accept_refusal, spawn_refusal, fork_refusal, offered, after_map, after_unmap, after_protect, after_offer, after_withdraw, after_accept, after_spawn, after_fork, after_exit, after_load, after_store, IsWellFormed, list_any, tied_then, is_some-find, same_itself, get-insert, get-map_values, get-collect, IsApart, AreAlike, held_in, lone, FirstPage, first_cell, first_page, pages_held, alone_with, number-insert, number-remove, number-none, copy_of}
+use Rattle.process_table.proofs.Prelude.{◌≡◌, ◌≢◌, ℕ, ◌+◌, ◌&&◌, ◌||◌, not, Bool, true, false, cond, List, [], ◌∷◌, map, refl, sym, ap, ◌∙◌, Option, Some, None, is_some, unwrap_or, arith, inl, inr, if◌then◌else◌, option_map, nat_cmp, cases_eq, ne_eqb, same_Some, offset_number, byte_count, touched, Size, Map, same, nat_order, Set, some_value, no_value, same_cases, get-remove_other, Slot, slot_order, Cell, Spaces, pages_of, fresh, cell_or_fresh, with_bytes, set_bytes, set_holders, write_at, bytes_of, at_page, slot_at, accessed, stored, with_page, with_pages, all_accessed, all_stored, copied, contains-pages_of, copied-own, copied-other, Member, is_child, number_of_children, child_no, get-insert_other, OfferKey, Offers, offer_order, offer_key, State, is_live, child_of, accept_refusal, spawn_refusal, fork_refusal, offered, after_map, after_unmap, after_protect, after_offer, after_withdraw, after_accept, after_spawn, after_fork, after_exit, after_load, after_store, IsWellFormed, list_any, tied_then, is_some-find, same_itself, get-insert, get-map_values, get-collect, IsApart, AreAlike, held_in, lone, FirstPage, first_cell, first_page, pages_held, alone_with, number-insert, number-remove, number-none, copy_of, false_from_ne_true}
 use Rattle.process_table.proofs.Apart.{in_lone, pages_differ, pids_differ, set_bytes_outside, without_others}
-use Rattle.process_table.proofs.BookLaws.{retained, next_free, parents_in, spawn_allowed}
-use Rattle.process_table.proofs.CellLaws.{get-inserted, get-inserted_other}
-use Rattle.process_table.proofs.Forks.{may_fork}
-use Rattle.process_table.proofs.Refusals.{may_accept}
+use Rattle.process_table.proofs.Lemmas.{retained, next_free, parents_in, spawn_allowed, get-inserted, get-inserted_other, may_fork, may_accept}
 use Rattle.page_words.specs.FiniteMap as map
 use Rattle.page_words.specs.FiniteSet as set
 
@@ -101,17 +98,13 @@ module _ (s : State) (p q : ℕ) (w : IsWellFormed s) (a : IsApart s p) (d : q �
     where
       by : (x : Option Cell) → map.get s.spaces (at_page q page) ≡ x → set.contains (unwrap_or x (fresh (at_page q page) true)).holders (at_page p n) ≡ false
       by None is = in_lone (at_page q page) (at_page p n) (pids_differ p q n page d)
-      by (Some c) is = inside (set.contains c.holders (at_page p n)) refl
-        where
-          inside : (b : Bool) → set.contains c.holders (at_page p n) ≡ b → b ≡ false
-          inside false h = refl
-          inside true h = absurd (
-              let at = w.cells (at_page q page) c is in
-              let o = at.alike (at_page p n) h in
-              let own = a.shares_none n o.0 o.1 in
-              let shared : set.contains (lone (at_page p n)) (at_page q page) ≡ true = ap (λ (g : Set slot_order). set.contains g (at_page q page)) (sym own ∙ o.2) ∙ at.own in
-              let apart = in_lone (at_page p n) (at_page q page) (λ e. pids_differ p q n page d (sym e)) in
-              cc)
+      by (Some c) is = false_from_ne_true (set.contains c.holders (at_page p n)) (λ h.
+          let at = w.cells (at_page q page) c is in
+          let o = at.alike (at_page p n) h in
+          let own = a.shares_none n o.0 o.1 in
+          let shared : set.contains (lone (at_page p n)) (at_page q page) ≡ true = ap (λ (g : Set slot_order). set.contains g (at_page q page)) (sym own ∙ o.2) ∙ at.own in
+          let apart = in_lone (at_page p n) (at_page q page) (λ e. pids_differ p q n page d (sym e)) in
+          cc)
 
   inserted_left : (page : ℕ) (c : Cell) → AreAlike s p (record s { spaces = map.insert s.spaces (at_page q page) c }) p
   inserted_left page c = spaces_left s p (map.insert s.spaces (at_page q page) c) s.offers a (λ n. get-inserted_other s.spaces (at_page q page) c (at_page p n) (pids_differ p q n page d)) a.offers_none

@@ -34,6 +34,14 @@ lone-cell T slot c now user long small write dirty alone = record {
   alike = λ other h. (c, (grind (arith, same-true, or-false, contains-insert)), refl, refl);
 }
 
+-- a cell in other spaces, in a group that holds its slot, and whose slots have its bytes
+pub cell-kept : {S : Spaces} (T : Spaces) (slot : Slot) (c : Cell) (holders : Set slot_order) → IsCellAt S slot c
+    → IsTrue (set.contains holders slot)
+    → ((other : Slot) → IsTrue (set.contains holders other)
+    → (d : Cell) × (map.get T other ≡ Some d) × (d.holders ≡ holders) × (d.bytes ≡ c.bytes))
+    → IsCellAt T slot (with_holders c holders)
+cell-kept T slot c holders was own alike = assumption
+
 -- the other cells do not see it
 pub cells-lone : (S T : Spaces) (slot : Slot) (c : Cell) → map.get S slot ≡ None → map.get T slot ≡ Some c → ((q : Slot) → q ≢ slot → map.get T q ≡ map.get S q) → AreCells S → IsCellAt T slot c → AreCells T
 cells-lone S T slot c none now others cells new q e found = elim (same_cases slot_order q slot) [
@@ -47,15 +55,8 @@ cells-lone S T slot c none now others cells new q e found = elim (same_cases slo
     old : (q : Slot) (e : Cell) → map.get S q ≡ Some e → IsCellAt T q e
     old q e h =
         let was = cells q e h in
-        record {
-          user = was.user;
-          long = was.long;
-          small = was.small;
-          write_may = was.write_may;
-          dirty_accessed = was.dirty_accessed;
-          own = was.own;
-          alike = λ other inside. let o = was.alike other inside in (o.0, others other (apart other o.0 o.1) ∙ o.1, o.2, o.3);
-        }
+        cell-kept T q e e.holders was was.own
+        (λ other inside. let o = was.alike other inside in (o.0, others other (apart other o.0 o.1) ∙ o.1, o.2, o.3))
 
 -- ---- A group gets other bytes
 
@@ -140,16 +141,8 @@ module _ (S : Spaces) (gone : Slot → Bool) where
     where
       kept : (d : Cell) → map.get S q ≡ Some d → gone q ≡ false → IsCellAt (without S gone) q (left_in d)
       kept d at stays =
-          let was = cells q d at in
-          record {
-            user = was.user;
-            long = was.long;
-            small = was.small;
-            write_may = was.write_may;
-            dirty_accessed = was.dirty_accessed;
-            own = contains-retain d.holders (λ s. not (gone s)) q ∙ (λ i. was.own i && not (stays i));
-            alike = alike;
-          }
+          cell-kept (without S gone) q d (set.retain d.holders (λ s. not (gone s))) (cells q d at)
+          (contains-retain d.holders (λ s. not (gone s)) q ∙ (λ i. (cells q d at).own i && not (stays i))) alike
         where
           alike : (other : Slot) → IsTrue (set.contains (set.retain d.holders (λ s. not (gone s))) other)
               → (f : Cell) × (map.get (without S gone) other ≡ Some f) × (f.holders ≡ set.retain d.holders (λ s. not (gone s))) × (f.bytes ≡ d.bytes)

@@ -1,7 +1,7 @@
 -- What the test of a fork answers, and what a copy of a process leaves of charges and of states.
-use Rattle.process_table.proofs.Prelude.{◌≡◌, ◌≢◌, ℕ, ◌+◌, ◌≤◌, ◌==◌, Bool, true, false, cond, refl, sym, ap, subst, ◌∙◌, inl, inr, Option, Some, None, unwrap_or, is_some, is_none, Ok, arith, if◌then◌else◌, nat_lt, option_map, cases_eq, same_Some, nat_order, same_itself, get-insert, some_value, no_value, Slot, Cell, Spaces, cost, copy_of, copied, at_page, copied-own, copied-other, cost-copied, cost-copied_other, Member, given, quota_of, next_number, child_no, State, is_live, room, child_of, spawn_refusal, fork_refusal, after_spawn, after_fork, child_unless, for_copy, spawn_answer, fork_answer, IsCellAt, IsWellFormed, Cause, given-insert, given-none}
+use Rattle.process_table.proofs.Prelude.{◌≡◌, ◌≢◌, ℕ, ◌+◌, ◌≤◌, ◌==◌, Bool, true, false, cond, refl, sym, ap, subst, ◌∙◌, inl, inr, Option, Some, None, unwrap_or, is_some, is_none, Ok, arith, if◌then◌else◌, nat_lt, option_map, cases_eq, same_Some, nat_order, same_itself, get-insert, some_value, no_value, Slot, Cell, Spaces, cost, copy_of, copied, at_page, copied-own, copied-other, cost-copied, cost-copied_other, given, quota_of, next_number, child_no, State, is_live, room, child_of, spawn_refusal, fork_refusal, after_spawn, after_fork, child_unless, for_copy, spawn_answer, fork_answer, IsCellAt, IsWellFormed, Cause, given-insert, given-none}
 use Rattle.process_table.proofs.BookLaws.{next_free, well_formed-spawn, root-spawn}
-use Rattle.process_table.proofs.CellLaws.{AreCells, lone-cell}
+use Rattle.process_table.proofs.CellLaws.{cell-kept, AreCells, lone-cell}
 use Rattle.process_table.proofs.SpaceLaws.{not_less, with-spaces}
 use Rattle.page_words.specs.FiniteMap as map
 use Rattle.process_table.specs.declared.causes.Cause.TheVariants as cause
@@ -108,9 +108,7 @@ module _ (s : State) (p quota : ℕ) (w : IsWellFormed s) (live : is_live s p �
       omega (arith, a, b)
 
   quota_child : quota_of spawned.book child ≡ quota
-  quota_child =
-      ap (λ (o : Option Member). unwrap_or (option_map (λ m. m.quota) o) 0)
-      (get-insert s.book child (record { parent = p; quota = quota }) child ∙ ap (λ b. cond b (Some (record { parent = p; quota = quota })) (map.get s.book child)) (same_itself nat_order child))
+  quota_child = search (get-insert, same_itself, arith) fits 300
 
   rooms : (q : ℕ) → is_live spawned q ≡ true → cost T q + given spawned.book q ≤ quota_of spawned.book q
   rooms q h = elim (cases_eq q child) [
@@ -138,15 +136,8 @@ module _ (s : State) (p quota : ℕ) (w : IsWellFormed s) (live : is_live s p �
   old_cell : (slot : Slot) (cell : Cell) → map.get s.spaces slot ≡ Some cell → IsCellAt T slot cell
   old_cell slot cell h =
       let was = w.cells slot cell h in
-      record {
-        user = was.user;
-        long = was.long;
-        small = was.small;
-        write_may = was.write_may;
-        dirty_accessed = was.dirty_accessed;
-        own = was.own;
-        alike = λ other inside. let o = was.alike other inside in (o.0, old_slot other o.0 o.1, o.2, o.3);
-      }
+      cell-kept T slot cell cell.holders was was.own
+      (λ other inside. let o = was.alike other inside in (o.0, old_slot other o.0 o.1, o.2, o.3))
 
   cells : AreCells T
   cells slot cell h = elim (cases_eq slot.pid child) [

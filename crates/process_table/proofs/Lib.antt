@@ -6,6 +6,7 @@ pub mod Charged
 pub mod Forks
 pub mod ImageStanding
 pub mod Keeping
+pub mod Lemmas
 pub mod Overdrawn
 pub mod Placed
 pub mod Prelude

@@ -1,6 +1,6 @@
 -- The names that the proofs of this crate cite from elsewhere, passed on from one place. Declares nothing.
 pub use Rattle.std.proofs.Common.{Bool, Err, List, None, Ok, Option, Result, Some, T, [], ap, arith, cond, drop, false, filter, inl, inr, is_none, is_some, length, map, not, refl, rules, subst, suc, sum_by, sym, take, true, unwrap_or, zero, ℕ, ◌%◌, ◌&&◌, ◌*◌, ◌++◌, ◌+◌, ◌-◌, ◌/◌, ◌<◌, ◌==◌, ◌||◌, ◌∙◌, ◌∷◌, ◌≡◌, ◌≢◌, ◌≤◌}
-pub use Rattle.std.proofs.lemmas.Bool.{and_parts, cases_eq, cases_lt, eqb-false, le-ltb, ne_eqb, not-false, not-true, or_cases, or_right}
+pub use Rattle.std.proofs.lemmas.Bool.{and_parts, cases_eq, cases_lt, eqb-false, false_from_ne_true, le-ltb, ne_eqb, not-false, not-true, or_cases, or_right}
 pub use Rattle.std.proofs.lemmas.List.{get_or_default, length-replicate}
 pub use Rattle.std.proofs.lemmas.List.Sums.{sum_by-cons}
 pub use Rattle.std.proofs.lemmas.Option.{same_Some, slice_get_within}

@@ -9,9 +9,7 @@ use Rattle.address_space.proofs.standing.TablesStand.{owned, own_is}
 use Rattle.address_space.proofs.steps.Steps.{live_small}
 use Rattle.quota_tree.specs.Accounts.{account_at, member_in, book_in, containers_in, Agree}
 use Rattle.quota_tree.proofs.CollectedLemmas.{get-collected}
-use Rattle.process_table.proofs.BookLaws.{total-within}
-use Rattle.process_table.proofs.ImageStanding.{charge-stands, given-range}
-use Rattle.process_table.proofs.Ranges.{sum-same, total-book}
+use Rattle.process_table.proofs.Lemmas.{total-within, charge-stands, given-range, sum-same, total-book}
 use Rattle.page_words.specs.FiniteMap as map
 use Rattle.page_words.specs.FiniteSet as set
 use Rattle.address_space.specs.Image as memory

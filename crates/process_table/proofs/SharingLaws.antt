@@ -1,7 +1,7 @@
 -- States stay well formed by a change of a right, and by an offer, its withdrawal and its acceptance.
-use Rattle.process_table.proofs.Prelude.{◌≡◌, ◌≢◌, ℕ, ◌+◌, ◌<◌, ◌≤◌, ◌||◌, ◌==◌, not, Bool, true, false, cond, refl, sym, ap, subst, ◌∙◌, Option, Some, None, is_some, unwrap_or, arith, inl, inr, if◌then◌else◌, nat_lt, option_map, cases_eq, or_cases, or_right, IsUserPage, EachTouched, Size, IsThere, same, Set, same_itself, same-true, get-insert, get-map_values, contains-insert, retain-insert, len-insert, retain-insert_other, same_cases, Slot, slot_order, Cell, Spaces, cost, need, fresh, cell_or_fresh, with_holders, set_holders, joined, at_page, join_in, cost-joined, cost-joined_other, given, quota_of, OfferKey, Offers, offer_order, offer_key, pending, State, is_live, room, protect_refusal, offer_refusal, accept_refusal, offered, after_protect, after_offer, after_withdraw, after_accept, IsCellAt, IsOfferIn, IsWellFormed, eqb-true, same_Some, some_value}
+use Rattle.process_table.proofs.Prelude.{◌≡◌, ◌≢◌, ℕ, ◌+◌, ◌<◌, ◌≤◌, ◌||◌, ◌==◌, not, Bool, true, false, cond, refl, sym, ap, subst, ◌∙◌, Option, Some, None, is_some, unwrap_or, arith, inl, inr, if◌then◌else◌, nat_lt, option_map, cases_eq, or_cases, or_right, IsUserPage, EachTouched, Size, IsThere, same, Set, same_itself, same-true, get-insert, get-map_values, contains-insert, retain-insert, len-insert, retain-insert_other, same_cases, Slot, slot_order, Cell, Spaces, cost, need, fresh, cell_or_fresh, with_holders, set_holders, joined, at_page, join_in, cost-joined, cost-joined_other, given, quota_of, OfferKey, Offers, offer_order, offer_key, pending, State, is_live, room, protect_refusal, offer_refusal, accept_refusal, offered, after_protect, after_offer, after_withdraw, after_accept, IsCellAt, IsOfferIn, IsWellFormed, eqb-true, same_Some, some_value, from_map, false_from_ne_true}
 use Rattle.process_table.proofs.Overdrawn.{extra_new}
-use Rattle.process_table.proofs.CellLaws.{AreCells, get-inserted, get-inserted_other}
+use Rattle.process_table.proofs.CellLaws.{cell-kept, AreCells, get-inserted, get-inserted_other}
 use Rattle.process_table.proofs.BookLaws.{retained}
 use Rattle.process_table.proofs.Refusals.{MayProtect, MayOffer, may_protect, may_offer, may_accept}
 use Rattle.process_table.proofs.Sizes.{len-retain}
@@ -153,51 +153,32 @@ module _ (S : Spaces) (giver slot : Slot) (g : Cell) (right : Bool) (at : map.ge
 
   inside_cell : (q : Slot) (d : Cell) → map.get S q ≡ Some d → set.contains group q ≡ true → IsCellAt joined_spaces q (with_holders d wider)
   inside_cell q d h inside =
-      let was = cells q d h in
       let o = (cells giver g at).alike q inside in
       let same_bytes : d.bytes ≡ g.bytes = ap (λ (x : Cell). x.bytes) (same_Some d o.0 (sym h ∙ o.1)) ∙ o.3 in
-      record {
-        user = was.user;
-        long = was.long;
-        small = was.small;
-        write_may = was.write_may;
-        dirty_accessed = was.dirty_accessed;
-        own = contains-insert group slot q ∙ or_right (same slot_order q slot) (set.contains group q) inside;
-        alike = λ other k. let f = alike_wider other k in (f.0, f.1, f.2, f.3 ∙ sym same_bytes);
-      }
+      cell-kept joined_spaces q d wider (cells q d h)
+      (contains-insert group slot q ∙ or_right (same slot_order q slot) (set.contains group q) inside)
+      (λ other k. let f = alike_wider other k in (f.0, f.1, f.2, f.3 ∙ sym same_bytes))
 
   -- a slot that shares its group with one outside the group is outside too
   outside_too : (q other : Slot) (d o : Cell) → map.get S q ≡ Some d → map.get S other ≡ Some o → o.holders ≡ d.holders → set.contains group q ≡ false → set.contains group other ≡ false
-  outside_too q other d o at_q at_other shared outside = by (set.contains group other) refl
-    where
-      by : (b : Bool) → set.contains group other ≡ b → b ≡ false
-      by false is = refl
-      by true is =
-          let x = (cells giver g at).alike other is in
-          let same_group : d.holders ≡ group = sym shared ∙ ap (λ (x : Cell). x.holders) (same_Some o x.0 (sym at_other ∙ x.1)) ∙ x.2 in
-          let own : set.contains group q ≡ true = ap (λ (h : Set slot_order). set.contains h q) (sym same_group) ∙ (cells q d at_q).own in
-          cc
+  outside_too q other d o at_q at_other shared outside = false_from_ne_true (set.contains group other) (λ is.
+      let x = (cells giver g at).alike other is in
+      let same_group : d.holders ≡ group = sym shared ∙ ap (λ (x : Cell). x.holders) (same_Some o x.0 (sym at_other ∙ x.1)) ∙ x.2 in
+      let own : set.contains group q ≡ true = ap (λ (h : Set slot_order). set.contains h q) (sym same_group) ∙ (cells q d at_q).own in
+      cc)
 
   outside_cell : (q : Slot) (d : Cell) → map.get S q ≡ Some d → set.contains group q ≡ false → IsCellAt joined_spaces q d
   outside_cell q d h outside =
       let was = cells q d h in
-      record {
-        user = was.user;
-        long = was.long;
-        small = was.small;
-        write_may = was.write_may;
-        dirty_accessed = was.dirty_accessed;
-        own = was.own;
-        alike = λ other k. let o = was.alike other k in (o.0, get-outside other o.0 o.1 (outside_too q other d o.0 h o.1 o.2 outside), o.2, o.3);
-      }
+      cell-kept joined_spaces q d d.holders was was.own (λ other k.
+      let o = was.alike other k in
+      (o.0, get-outside other o.0 o.1 (outside_too q other d o.0 h o.1 o.2 outside), o.2, o.3))
 
   -- what stands at a slot that did not join was there
   joined-was : (q : Slot) (e : Cell) → q ≢ slot → map.get joined_spaces q ≡ Some e → (d : Cell) × (map.get S q ≡ Some d)
-  joined-was q e n h = by (map.get S q) (sym (get-other q n) ∙ h)
-    where
-      by : (x : Option Cell) → option_map (widened q) x ≡ Some e → (d : Cell) × (x ≡ Some d)
-      by None k = cc
-      by (Some d) k = (d, refl)
+  joined-was q e n h =
+      let d = from_map (widened q) (map.get S q) e (sym (get-other q n) ∙ h) in
+      (d.0, d.1)
 
   old_cell : (q : Slot) (d e : Cell) → map.get S q ≡ Some d → map.get joined_spaces q ≡ Some e → IsCellAt joined_spaces q e
   old_cell q d e h found = by (set.contains group q) refl

@@ -1,5 +1,5 @@
 -- States stay well formed where their spaces alone change: by a map, an access, or an unmap with its offers.
-use Rattle.process_table.proofs.Prelude.{◌≡◌, ◌≢◌, ℕ, ◌+◌, ◌<◌, ◌≤◌, not, Bool, true, false, List, [], ◌∷◌, length, refl, sym, ap, subst, ◌∙◌, Option, Some, None, is_some, unwrap_or, arith, inl, inr, zero, suc, ◌/◌, ◌%◌, ◌++◌, take, drop, if◌then◌else◌, nat_lt, IfSome, option_map, All, IsUserPage, is_user_page, byte_count, offset_number, page_number, second_page, touched, EachTouched, page_and, Size, get-map_values, same_cases, Slot, slot_order, Cell, Spaces, cost, cost_of, need, page_need, access_need, fresh, cell_or_fresh, accessed, stored, with_page, with_pages, all_accessed, all_stored, set_bytes, with_bytes, write_at, bytes_of, slot_at, at_page, store_in, same_pages, cost-insert, kept, given, quota_of, OfferKey, State, is_live, is_mapped, overdrawn, room, map_refusal, after_map, after_load, after_store, BadPage, Mapped, Quota, IsCellAt, IsOfferIn, IsWellFormed, same_Some, some_value, no_value, length-replicate, cases_lt, cases_eq, le-ltb, IsThere, AreThere, touched-there, first_there, rest_there, bytes_there, need-in_one, need-in_two, cost-with_page}
+use Rattle.process_table.proofs.Prelude.{◌≡◌, ◌≢◌, ℕ, ◌+◌, ◌<◌, ◌≤◌, not, Bool, true, false, List, [], ◌∷◌, length, refl, sym, ap, subst, ◌∙◌, Option, Some, None, is_some, unwrap_or, arith, inl, inr, zero, suc, ◌/◌, ◌%◌, ◌++◌, take, drop, if◌then◌else◌, nat_lt, IfSome, option_map, All, IsUserPage, is_user_page, byte_count, offset_number, page_number, second_page, touched, EachTouched, page_and, Size, get-map_values, same_cases, Slot, slot_order, Cell, Spaces, cost, cost_of, need, page_need, access_need, fresh, cell_or_fresh, accessed, stored, with_page, with_pages, all_accessed, all_stored, set_bytes, with_bytes, write_at, bytes_of, slot_at, at_page, store_in, same_pages, cost-insert, kept, given, quota_of, OfferKey, State, is_live, is_mapped, overdrawn, room, map_refusal, after_map, after_load, after_store, BadPage, Mapped, Quota, IsCellAt, IsOfferIn, IsWellFormed, same_Some, some_value, no_value, length-replicate, cases_lt, cases_eq, le-ltb, IsThere, AreThere, touched-there, first_there, rest_there, bytes_there, need-in_one, need-in_two, cost-with_page, from_map}
 use Rattle.std.proofs.lemmas.List.Elements.{All-nil, All-cons, All-append, All-take, All-drop, All-replicate}
 use Rattle.page_words.specs.declared.addresses.Size.TheVariants.{One}
 use Rattle.address_space.proofs.steps.Stores.{length-write_at, written_long}
@@ -169,12 +169,10 @@ module _ (s : State) (slot : Slot) (c : Cell) (at : map.get s.spaces slot ≡ So
     written_back : (q : Slot) (e : Cell) → map.get written_spaces q ≡ Some e → (d : Cell) × (map.get s.spaces q ≡ Some d)
     written_back q e h = elim (same_cases slot_order q slot) [
       | inl is ↦ (c, ap (map.get s.spaces) is.0 ∙ at)
-      | inr other ↦ by (map.get s.spaces q) (sym (written_other q other.0) ∙ h)
+      | inr other ↦
+          let d = from_map (changed_in q) (map.get s.spaces q) e (sym (written_other q other.0) ∙ h) in
+          (d.0, d.1)
     ]
-      where
-        by : (x : Option Cell) → option_map (changed_in q) x ≡ Some e → (d : Cell) × (x ≡ Some d)
-        by None k = cc
-        by (Some d) k = (d, refl)
 
     well_formed-written : IsWellFormed (record s { spaces = store_in s.spaces slot c bytes })
     well_formed-written = well_formed-renewed s written_spaces slot c bytes at written_forth written_back w long small

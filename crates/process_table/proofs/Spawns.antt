@@ -1,11 +1,9 @@
 -- What the test of a spawn answers, and what a child's charge is.
-use Rattle.process_table.proofs.Prelude.{◌≡◌, ◌≢◌, ℕ, ◌+◌, ◌-◌, ◌<◌, ◌≤◌, ◌==◌, Bool, true, false, cond, not, refl, sym, ap, ◌∙◌, inl, inr, List, [], ◌∷◌, Option, Some, None, unwrap_or, is_some, is_none, length, Ok, Err, arith, Result, if◌then◌else◌, nat_lt, range_with_len, option_map, same, nat_order, same_or_not, same_itself, get-insert, Slot, Spaces, cost, at_page, directory_of, total_cost, Member, given, quota_of, next_number, Containers, IsLive, used_of, total_used, split_answer, after_split, room_of, fitting, opening, Offers, room, child_of, container_of, spawn_refusal, state_of, IsProcesses, Cause, not-true, Image, directory_at, page_word, image_of, translated, child_unless, spawn_answer, find}
+use Rattle.process_table.proofs.Prelude.{◌≡◌, ◌≢◌, ℕ, ◌+◌, ◌-◌, ◌<◌, ◌≤◌, ◌==◌, Bool, true, false, cond, refl, sym, ap, ◌∙◌, inl, inr, List, [], ◌∷◌, Option, Some, None, unwrap_or, is_some, is_none, length, Ok, Err, arith, Result, if◌then◌else◌, nat_lt, option_map, same, nat_order, same_or_not, same_itself, get-insert, Spaces, cost, at_page, directory_of, total_cost, Member, given, quota_of, next_number, Containers, IsLive, used_of, total_used, split_answer, after_split, room_of, fitting, opening, Offers, room, child_of, container_of, spawn_refusal, state_of, IsProcesses, Cause, not-true, Image, directory_at, image_of, translated, child_unless, spawn_answer, find}
 use Rattle.page_words.specs.declared.addresses.Pid.{Pid}
 use Rattle.address_space.specs.Image.{StandsFor}
 use Rattle.quota_tree.specs.declared.QuotaFault.{QuotaFault}
-use Rattle.process_table.proofs.Charged.{differ, room-for}
-use Rattle.process_table.proofs.Ranges.{found}
-use Rattle.process_table.proofs.Sizes.{cost-no_pages}
+use Rattle.process_table.proofs.Lemmas.{differ, room-for, found, cost-no_pages}
 use Rattle.page_words.specs.FiniteMap as map
 use Rattle.address_space.specs.View as frames
 use Rattle.quota_tree.specs.declared.QuotaFault.TheVariants as quota
@@ -60,8 +58,7 @@ found-passes p (y ∷ xs) x h = by (λ e. found-passes p xs x e) (p y) refl h
 
 -- it is not live
 pub child-absent : (c : Containers) (p asked child : ℕ) → split_answer c p asked ≡ Ok child → map.contains_key c.book child ≡ false
-child-absent c p asked child is =
-    not-true (map.contains_key c.book child) (found-passes (λ q. not (map.contains_key c.book q)) (range_with_len 0 64) child (next-of c p asked child is))
+child-absent c p asked child is = search (not-true, found-passes, next-of, arith) fits 300
 
 pub child-is : (v : frames.View) (c : Containers) (o : Offers) (p asked child : ℕ) → split_answer c p asked ≡ Ok child → child_of (state_of v c o) ≡ child
 child-is v c o p asked child is = ap (λ x. unwrap_or x 0) (next-of c p asked child is)
@@ -76,13 +73,7 @@ child-has_none v c p asked child kept is = no_directory (directory_of v.director
 
 -- a process without a directory has nothing mapped
 pub nothing-mapped : (image : Image) (S : Spaces) (p page : ℕ) → StandsFor image S → directory_at image p ≡ None → map.contains_key S (at_page p page) ≡ false
-nothing-mapped image S p page stands none = grind arith
-  where
-    slot : Slot
-    slot = at_page p page
-
-    absent : page_word image slot ≡ None
-    absent = rw none refl
+nothing-mapped image v0 p page stands none = grind (arith) steps 1000000
 
 pub cost-child : (v : frames.View) (p : ℕ) → StandsFor (image_of v) v.spaces → directory_of v.directories p ≡ None → cost v.spaces p ≡ 1
 cost-child v p stands none = cost-no_pages v.spaces p (λ page. nothing-mapped (image_of v) v.spaces p page stands none)

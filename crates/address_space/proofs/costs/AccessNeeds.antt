@@ -1,8 +1,7 @@
 -- What an access needs: what its first page needs, and what the second needs once the first is mapped.
 use Rattle.address_space.proofs.Prelude.{◌≡◌, ◌≢◌, ℕ, ◌+◌, ◌==◌, Bool, true, false, cond, not, [], ◌∷◌, refl, ap, sym, ◌∙◌, arith, Option, Some, None, ◌&&◌, is_some, if◌then◌else◌, eqb-true, eq-eqb, slot_number, page_number, touched, page_and, second_page, Size, nat_order, same, Set, crosses, no_value, same_apart, Spaces, Cell, at_page, fresh, cost, pages_of, regions_of, need, page_need, with_page, with_pages, missing, access_need, Place, found_of, same_itself, contains-insert, retain-insert, retain-insert_other, len-insert}
 use Rattle.address_space.specs.Spaces.{need_of}
-use Rattle.address_space.proofs.costs.AccessCosts.{key-insert}
-use Rattle.address_space.proofs.costs.Costs.{pages-insert, regions-insert, cost-insert}
+use Rattle.address_space.proofs.Lemmas.{key-insert, pages-insert, regions-insert, cost-insert}
 use Rattle.page_words.specs.FiniteMap as map
 use Rattle.page_words.specs.FiniteSet as set
 use Rattle.address_space.specs.Places as places

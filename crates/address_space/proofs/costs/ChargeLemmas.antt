@@ -1,11 +1,6 @@
 -- What a process is charged for, as its directory and tables show it.
-use Rattle.address_space.proofs.Prelude.{◌≡◌, ℕ, ◌+◌, ◌*◌, ◌<◌, ◌≤◌, Bool, true, false, cond, ◌||◌, List, refl, ap, sym, ◌∙◌, arith, inl, inr, Option, Some, ◌&&◌, is_some, nat_lt, if◌then◌else◌, option_and_then, cases_lt, nat_tests, slot_number, nat_order, same, Set, same_or_not, same_itself, same_set, contains-insert, contains-retain, len-insert, get-map_values, len-change_each, frame_bytes, Role, PageEntry, table_of, get-entries_user, get-entries_other, user_cases, Cell, Spaces, cost, pages_of, regions_of, at_page, cell_of, directory_of, table_in, entries_in, spaces_in, IsSpaces, and-false, and-true, is_some-map, entries_of, counted}
-use Rattle.address_space.proofs.costs.Costs.{contains-pages_of}
-use Rattle.address_space.proofs.costs.CostSteps.{region_member}
-use Rattle.address_space.proofs.steps.Departures.{no_cell_outside}
-use Rattle.address_space.proofs.steps.Openings.{cost_within}
-use Rattle.address_space.proofs.entries.Readings.{need_read, get-spaces_in}
-use Rattle.address_space.proofs.steps.Steps.{live_small}
+use Rattle.address_space.proofs.Prelude.{◌≡◌, ℕ, ◌+◌, ◌*◌, ◌<◌, ◌≤◌, Bool, true, false, cond, ◌||◌, List, refl, ap, sym, ◌∙◌, arith, inl, inr, Option, Some, ◌&&◌, is_some, nat_lt, if◌then◌else◌, option_and_then, cases_lt, nat_tests, slot_number, nat_order, Set, same_or_not, same_set, contains-insert, contains-retain, len-insert, get-map_values, len-change_each, frame_bytes, Role, PageEntry, table_of, get-entries_user, get-entries_other, user_cases, Cell, Spaces, cost, pages_of, regions_of, at_page, cell_of, directory_of, table_in, entries_in, spaces_in, IsSpaces, and-false, and-true, is_some-map, entries_of, counted}
+use Rattle.address_space.proofs.Lemmas.{contains-pages_of, region_member, no_cell_outside, cost_within, need_read, get-spaces_in, live_small}
 use Rattle.page_words.specs.FiniteMap as map
 use Rattle.page_words.specs.FiniteSet as set
 

@@ -1,6 +1,5 @@
 -- What stands where after a process's pages were copied to another, and what they cost it.
-use Rattle.address_space.proofs.Prelude.{arith, ◌≡◌, ◌≢◌, ℕ, Bool, true, false, ◌||◌, ◌==◌, List, [], ◌∷◌, ◌++◌, map, refl, sym, ap, ◌∙◌, Option, Some, None, if◌then◌else◌, is_some, ◌⊎◌, option_map, list_any, is_some-find, or-true, ne_eqb, Order, same, same_or_not, same_itself, get-collect, list_any-map, Slot, slot_order, slot_cmp, Cell, Spaces, cost, cost_of, copy_of, copied_at, copied, at_page, eqb-true, eq-eqb}
-use Rattle.std.proofs.lemmas.List.Folds.{list_any-append}
+use Rattle.address_space.proofs.Prelude.{arith, ◌≡◌, ◌≢◌, ℕ, Bool, true, false, ◌||◌, ◌==◌, List, [], ◌∷◌, ◌++◌, map, refl, sym, ap, ◌∙◌, Option, Some, None, if◌then◌else◌, is_some, ◌⊎◌, option_map, list_any, is_some-find, or-true, ne_eqb, Order, same, same_or_not, same_itself, get-collect, list_any-map, Slot, slot_order, slot_cmp, Cell, Spaces, cost, cost_of, copy_of, copied_at, copied, at_page, eqb-true, eq-eqb, list_any-append}
 use Rattle.address_space.proofs.costs.Costs.{same_pages}
 use Rattle.page_words.specs.FiniteMap as map_of
 

@@ -1,7 +1,6 @@
 -- Pages that are mapped for an access, and what an access of mapped pages leaves mapped.
 use Rattle.address_space.proofs.Prelude.{◌≡◌, ℕ, zero, suc, ◌+◌, ◌/◌, ◌%◌, ◌<◌, true, [], ◌∷◌, refl, ap, ◌∙◌, arith, Option, Some, None, if◌then◌else◌, IfSome, page_number, offset_number, byte_count, second_page, page_and, touched, EachTouched, Size, same_itself, Slot, Spaces, at_page, slot_at, cell_or_fresh, fresh, accessed, stored, bytes_of, with_page, with_pages, all_accessed, all_stored}
-use Rattle.address_space.proofs.costs.AccessCosts.{key-insert, key-stored, kept}
-use Rattle.address_space.proofs.steps.Bytes.{each_byte, stored_in_page}
+use Rattle.address_space.proofs.Lemmas.{key-insert, key-stored, kept, each_byte, stored_in_page}
 use Rattle.page_words.specs.FiniteMap as map
 
 abbrev pub IsThere : Spaces → ℕ → ℕ → Type 0

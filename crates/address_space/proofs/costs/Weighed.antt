@@ -1,14 +1,8 @@
 -- Where frames agree, they and the lazy pages weigh no more than the costs: each process has as many uses as it costs,
 -- and a frame has a use for each of its slots.
-use Rattle.address_space.proofs.Prelude.{◌≡◌, ℕ, zero, suc, ◌+◌, ◌*◌, ◌<◌, ◌≤◌, ◌==◌, Bool, true, cond, ◌||◌, List, [], ◌∷◌, ◌++◌, length, length-append, refl, ap, sym, subst, ◌∙◌, arith, inl, inr, Option, Some, None, slice_get, is_some, if◌then◌else◌, sum_by, unwrap_or, option_map, option_and_then, list_any, range_with_len, is_some-find, cases_eq, cases_lt, or_right, length-map, sum_by-cons, slot_number, index_number, Order, nat_order, same, Set, same_or_not, contains-from_list, len-insert, frame_bytes, word_in, Role, Reserved, Free, Directory, Table, Page, weight, frames_weight, PageEntry, Frames, table_of, word_entry, entry_from, entry_at, Slot, slot_order, Spaces, cost, pages_of, regions_of, at_page, user_slots, Entries, names, holders_of, lazy_count, spaces_of, Directories, directory_of, table_in, entry_in, entries_in, spaces_in, live_cost, total_cost, eqb-true, eq-eqb, IsSound, InUse, weight_in, map as list_map}
-use Rattle.address_space.proofs.costs.Costs.{contains-pages_of}
-use Rattle.address_space.proofs.costs.CostSteps.{keys, region_there}
+use Rattle.address_space.proofs.Prelude.{◌≡◌, ℕ, zero, suc, ◌+◌, ◌*◌, ◌<◌, ◌≤◌, ◌==◌, Bool, true, cond, ◌||◌, List, [], ◌∷◌, ◌++◌, length, length-append, refl, ap, sym, subst, ◌∙◌, arith, inl, inr, Option, Some, None, slice_get, is_some, if◌then◌else◌, sum_by, unwrap_or, option_map, option_and_then, list_any, range_with_len, is_some-find, cases_eq, cases_lt, or_right, length-map, sum_by-cons, slot_number, index_number, Order, nat_order, same, Set, same_or_not, contains-from_list, len-insert, frame_bytes, word_in, Role, Reserved, Free, Directory, Table, Page, weight, frames_weight, PageEntry, Frames, table_of, word_entry, entry_from, entry_at, Slot, slot_order, Spaces, cost, pages_of, regions_of, at_page, user_slots, Entries, names, holders_of, lazy_count, spaces_of, Directories, directory_of, table_in, entry_in, entries_in, spaces_in, live_cost, total_cost, eqb-true, eq-eqb, IsSound, InUse, weight_in, map as list_map, list_any-append}
+use Rattle.address_space.proofs.Lemmas.{contains-pages_of, keys, region_there, len-subset, get-entries_in, entry_by_table, contains-holders_of, in_user_slots, live_small}
 use Rattle.address_space.proofs.costs.Hits.{once, hits, sum-hits, hits-append, hits-map, weights-below}
-use Rattle.address_space.proofs.costs.Sizes.{len-subset}
-use Rattle.address_space.proofs.entries.EntrySteps.{get-entries_in, entry_by_table}
-use Rattle.address_space.proofs.entries.Refinement.{contains-holders_of}
-use Rattle.address_space.proofs.entries.UserSlots.{in_user_slots}
-use Rattle.address_space.proofs.steps.Steps.{live_small}
 use Rattle.page_words.specs.FiniteMap as map_of
 use Rattle.page_words.specs.FiniteSet as set
 
@@ -19,10 +13,6 @@ len-from_list o (k ∷ ks) = grind (arith, len-insert, len-from_list o ks)
 
 member : {K : Type 0} {o : Order K} (s : Set o) (k : K) → set.contains s k ≡ true → list_any (same o k) (set.items s) ≡ true
 member {K} {o} s k h = sym (is_some-find o.cmp k s.entries) ∙ h
-
-any-append : {A : Type 0} (t : A → Bool) (xs ys : List A) → list_any t (xs ++ ys) ≡ (list_any t xs || list_any t ys)
-any-append t [] ys = refl
-any-append t (x ∷ xs) ys = ap (λ b. t x || b) (any-append t xs ys) ∙ (grind arith)
 
 module _ (directories : List (Option ℕ)) (bytes : List ℕ) (roles : List Role) (S : IsSound directories bytes roles) (used : InUse (directory_of directories) (frame_bytes bytes)) where
   abbrev D : Directories
@@ -176,7 +166,7 @@ module _ (directories : List (Option ℕ)) (bytes : List ℕ) (roles : List Role
   any-slots : (f : ℕ) (t : Slot → Bool) (p a n : ℕ) → a ≤ p → p < a + n → list_any t (slots_of f p (D p)) ≡ true → list_any t (slots f a n) ≡ true
   unfolding slots
   any-slots f t p a zero low high h = absurd (omega arith)
-  any-slots f t p a (suc n) low high h = any-append t (slots_of f a (D a)) (slots f (a + 1) n) ∙ elim (cases_eq p a) [
+  any-slots f t p a (suc n) low high h = list_any-append t (slots_of f a (D a)) (slots f (a + 1) n) ∙ elim (cases_eq p a) [
     | inl is ↦ ap (λ b. b || list_any t (slots f (a + 1) n)) (ap (λ q. list_any t (slots_of f q (D q))) (sym is) ∙ h)
     | inr differ ↦ or_right (list_any t (slots_of f a (D a))) (list_any t (slots f (a + 1) n)) (any-slots f t p (a + 1) n (omega (arith, differ)) (omega arith) h)
   ]

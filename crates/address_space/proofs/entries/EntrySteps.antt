@@ -121,8 +121,7 @@ module _ (D : Directories) (m : Frames) (R : Roles) (T : Tables D m R) (p d page
 
   pub use_kept : is_present w ≡ true → (q r : ℕ) → InUseAt D m q r → InUseAt D (with_word_at m t page w) q r
   use_kept present q r use_at g found = elim (cases_eq g t) [
-    | inl same ↦ (index_number page, omega arith, ap is_present (grind (arith, with_frame-same, word_in_same, long_t))
-        ∙ present)
+    | inl same ↦ (index_number page, omega arith, grind (arith, with_frame-same, word_in_same, long_t))
     | inr differ ↦ let u = use_at g (sym (tables_kept q r) ∙ found) in (u.0, u.1, ap (λ l. is_present (word_in l u.0)) (with_frame-other m t g _ differ) ∙ u.2)
   ]
 

@@ -1,9 +1,5 @@
 -- Every slot of the user range is one of the user slots.
-use Rattle.address_space.proofs.Prelude.{◌≡◌, ℕ, zero, suc, ◌+◌, ◌<◌, ◌≤◌, Bool, true, false, ◌||◌, List, [], ◌∷◌, ◌++◌, map, refl, sym, ap, ◌∙◌, arith, inl, inr, list_any, range_with_len, same, nat_order, same_or_not, same_itself, list_any-map, slot_order, at_page, user_slots, slots_below, or-true}
-
-any-append : {A : Type 0} (t : A → Bool) (xs ys : List A) → list_any t (xs ++ ys) ≡ (list_any t xs || list_any t ys)
-any-append t [] ys = refl
-any-append t (x ∷ xs) ys = ap (λ b. t x || b) (any-append t xs ys) ∙ (grind arith)
+use Rattle.address_space.proofs.Prelude.{◌≡◌, ℕ, zero, suc, ◌+◌, ◌<◌, ◌≤◌, true, false, ◌||◌, List, map, refl, sym, ap, ◌∙◌, arith, inl, inr, list_any, range_with_len, same, nat_order, same_or_not, same_itself, list_any-map, slot_order, at_page, user_slots, slots_below, or-true, list_any-append}
 
 range_any : (x a n : ℕ) → a ≤ x → x < a + n → list_any (λ y. same nat_order x y) (range_with_len a n) ≡ true
 range_any x a zero low high = absurd (omega arith)
@@ -22,7 +18,7 @@ range_any x a (suc n) low high =
 slots_any : (p page n : ℕ) (pages : List ℕ) → p < n → list_any (λ y. same nat_order page y) pages ≡ true → list_any (same slot_order (at_page p page)) (slots_below n pages) ≡ true
 slots_any p page zero pages low user = absurd (omega arith)
 slots_any p page (suc n) pages low user =
-    any-append (same slot_order (at_page p page)) (map (at_page n) pages) (slots_below n pages)
+    list_any-append (same slot_order (at_page p page)) (map (at_page n) pages) (slots_below n pages)
     ∙ elim (same_or_not nat_order p n) [
       | inl h ↦ grind (arith, list_any-map)
       | inr h ↦ ap (λ b. list_any (same slot_order (at_page p page)) (map (at_page n) pages) || b) (slots_any p page n pages (below p n low (apart p n h)) user)

@@ -1,5 +1,5 @@
 -- A page has fewer holders than a count can say.
-use Rattle.address_space.proofs.Prelude.{◌≡◌, ℕ, zero, suc, ◌+◌, ◌*◌, ◌<◌, ◌≤◌, Bool, cond, List, [], ◌∷◌, length, refl, ap, arith, Option, Some, length-append, range_with_len, Page, PageEntry, Frames, change_each, collect, put_some, where_key, length-map, Slot, slot_order, user_slots, slots_below, len-insert, Entries, names, holders_of, nothing, Directories, Roles, entries_in, Pages}
+use Rattle.address_space.proofs.Prelude.{◌≡◌, ℕ, zero, suc, ◌*◌, ◌<◌, ◌≤◌, Bool, cond, List, [], ◌∷◌, length, refl, ap, arith, Option, Some, length-append, range_with_len, Page, PageEntry, Frames, change_each, collect, put_some, where_key, length-map, Slot, slot_order, user_slots, slots_below, len-insert, Entries, names, holders_of, nothing, Directories, Roles, entries_in, Pages, length-range_with_len}
 use Rattle.page_words.specs.FiniteMap as map
 use Rattle.page_words.specs.FiniteSet as set
 
@@ -26,13 +26,9 @@ collected g (k ∷ ks) = by (g k) (collected g ks)
     by : (x : Option PageEntry) → map.len (collect {o = slot_order} g ks) ≤ length ks → map.len (put_some k x (collect {o = slot_order} g ks)) ≤ length (k ∷ ks)
     by x h = grind (arith, len-insert)
 
-length-range : (a n : ℕ) → length (range_with_len a n) ≡ n
-length-range a zero = refl
-length-range a (suc n) = ap suc (length-range (a + 1) n)
-
 length-slots : (n a k : ℕ) → length (slots_below n (range_with_len a k)) ≡ n * k
 length-slots zero a k = omega arith
-length-slots (suc n) a k = grind (arith, length-append, length-map, length-range, length-slots n a k)
+length-slots (suc n) a k = grind (arith, length-append, length-map, length-range_with_len, length-slots n a k)
 
 user_slots-count : length user_slots ≡ 64 * 0xb0000
 unfolding user_slots

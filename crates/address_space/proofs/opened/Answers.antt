@@ -1,6 +1,5 @@
 use Rattle.address_space.proofs.Prelude.{ap, sym, ◌∙◌, subst, replicate, length, None, blank_bytes, spaces_in, IsSpaces, opening_roles, IsCounted}
-use Rattle.address_space.proofs.steps.Openings.{opening_is_sound, opening_spaces, opening_length, opening_cost}
-use Rattle.address_space.proofs.steps.CountSteps.{opening_counted}
+use Rattle.address_space.proofs.Lemmas.{opening_is_sound, opening_spaces, opening_length, opening_cost, opening_counted}
 use Rattle.address_space.proofs.opened.Goals as goal
 
 pub invariant_of-result : goal.invariant_of-result

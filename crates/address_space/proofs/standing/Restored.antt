@@ -1,12 +1,7 @@
 -- The frames of a sound image with today's words agree, as a machine's own do.
 use Rattle.address_space.proofs.Prelude.{◌≡◌, ℕ, zero, suc, ◌+◌, ◌*◌, ◌<◌, ◌≤◌, Bool, true, false, cond, List, [], ◌∷◌, length, refl, ap, sym, ◌∙◌, subst, arith, inl, inr, Option, Some, None, is_some, slice_get, slice_index, option_and_then, option_map, cases_lt, slice_get_within, slot_number, index_number, frame_number, is_present, is_lazy, NamesPage, same_set, frame_bytes, word_in, length-frame, byte-frame, Role, Reserved, Directory, Table, Page, PageEntry, Frames, dir_word, word_entry, entry_from, count_range-same, Slot, slot_order, Cell, at_page, Entries, holders_of, spaces_of, Image, IsSoundImage, StandsFor, image_from, directory_at, word_of, is_user_slot, named_by, table_at, page_word, page_frame, CellStands, IsCount, own_frame, Directories, directory_of, table_in, entry_in, entries_in, spaces_in, IsCounted, pages_by, Tables, HoldsPage, IsSound, InUse, IsSpaces, All, range_with_len, get_or_default, HasRoom, words_by, counted_at, map as list_map}
-use Rattle.address_space.proofs.costs.CostSteps.{keys}
+use Rattle.address_space.proofs.Lemmas.{keys, get-entries_in, entry_by_table, in_user_slots, live_small, past_end, own_is, same_table_by, one_group}
 use Rattle.address_space.proofs.costs.Weighed.{weighs}
-use Rattle.address_space.proofs.entries.EntrySteps.{get-entries_in, entry_by_table}
-use Rattle.address_space.proofs.entries.UserSlots.{in_user_slots}
-use Rattle.address_space.proofs.steps.Steps.{live_small}
-use Rattle.address_space.proofs.standing.TablesStand.{past_end, own_is, same_table_by}
-use Rattle.address_space.proofs.standing.Standing.{one_group}
 use Rattle.page_words.specs.FiniteMap as map
 use Rattle.page_words.specs.FiniteSet as set
 use Rattle.address_space.proofs.standing.TablesStand as tables

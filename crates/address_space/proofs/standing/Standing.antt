@@ -104,10 +104,7 @@ module _ (directories : List (Option ℕ)) (bytes : List ℕ) (roles : List Role
 
 pub image_stands : (directories : List (Option ℕ)) (bytes : List ℕ) (roles : List Role) → IsSpaces directories bytes roles → StandsFor (image_from directories bytes roles) (spaces_in directories bytes)
 unfolding spaces_in
-image_stands directories bytes roles s = record {
-  sound = image_is_sound directories bytes roles s.sound s.in_use;
-  cells = cell_stands directories bytes roles s.sound;
-}
+image_stands directories bytes roles s = search (image_is_sound, cell_stands, arith) fits 300
 
 -- whether the entry that was read is lazy
 pub lazy_read : (directories : List (Option ℕ)) (bytes : List ℕ) (roles : List Role) (p d page : ℕ) → IsSound directories bytes roles → directory_of directories p ≡ Some d

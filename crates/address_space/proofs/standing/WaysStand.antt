@@ -1,11 +1,7 @@
 -- Each walk that finds a frame goes the way of its slot.
 use Rattle.address_space.proofs.Prelude.{◌≡◌, ℕ, false, List, refl, ap, sym, ◌∙◌, arith, Option, Some, None, subst, option_map, option_and_then, is_ok, ne_eqb, page_number, frame_bytes, Role, PageEntry, slot_at, image_from, directory_of, entries_in, spaces_in, IsSound, IsSpaces, WaysAgree, eq-eqb, nat_tests, Access, walk_of, is_outside, entry_at, is_lazy_entry, end_at_entry, walks_read_entries, cell_of, WalkEndsBy, WalksAgree}
-use Rattle.address_space.proofs.standing.Standing.{word_names, same_entry, read_entry, same_lazy}
-use Rattle.address_space.proofs.standing.FramesStand.{frame_read, way_parts, way_whole}
-use Rattle.address_space.proofs.steps.Steps.{live_small, page_map_of, holds_inside}
-use Rattle.address_space.proofs.steps.Stores.{get_user}
+use Rattle.address_space.proofs.Lemmas.{word_names, same_entry, read_entry, same_lazy, frame_read, way_parts, way_whole, live_small, page_map_of, holds_inside, get_user, get-spaces_of}
 use Rattle.address_space.proofs.steps.WalkSteps.{found_entry}
-use Rattle.address_space.proofs.entries.Refinement.{get-spaces_of}
 use Rattle.page_words.specs.FiniteMap as map
 
 -- ---- Every walk ends as the spaces say.

@@ -1,5 +1,5 @@
 -- Accesses byte by byte, and as one where their bytes lie in one page.
-use Rattle.address_space.proofs.Prelude.{◌≡◌, ℕ, zero, suc, ◌+◌, ◌*◌, ◌/◌, ◌<◌, ◌≤◌, true, false, cond, List, [], ◌∷◌, ◌++◌, length, take, drop, refl, ap, sym, ◌∙◌, arith, inl, inr, Option, Some, None, length-drop, ◌-◌, drop-drop, unwrap_or, option_map, slice_index, if◌then◌else◌, ◌⊎◌, range_with_len, slice_range, page_number, offset_number, byte_count, covered, second_page, EachTouched, Size, same, cases_lt, same_or_not, same_itself, same_map, get-insert, get-map_values, Slot, slot_order, at_page, slot_at, Cell, Spaces, fresh, cell_or_fresh, set_bytes, with_bytes, stored, store_in, write_at, bytes_at, bytes_of, value_of, byte_at, number_of, all_stored, get_or-drop, append-nil, drop-take, length-take-le, take-append-drop, stays, crosses, some_bytes, page_stays, page_next, ◌^◌, mul_assoc, mul_comm, pow-zero, map-append, range_split, map as each}
+use Rattle.address_space.proofs.Prelude.{◌≡◌, ℕ, zero, suc, ◌+◌, ◌*◌, ◌/◌, ◌<◌, ◌≤◌, true, false, cond, List, [], ◌∷◌, ◌++◌, length, take, drop, refl, ap, sym, ◌∙◌, arith, inl, inr, Some, None, length-drop, ◌-◌, drop-drop, option_map, slice_index, if◌then◌else◌, ◌⊎◌, range_with_len, slice_range, page_number, offset_number, byte_count, covered, second_page, EachTouched, Size, same, cases_lt, same_or_not, same_itself, same_map, get-insert, get-map_values, Slot, slot_order, at_page, slot_at, Cell, Spaces, cell_or_fresh, set_bytes, with_bytes, stored, store_in, write_at, bytes_at, bytes_of, value_of, byte_at, number_of, all_stored, get_or-drop, append-nil, drop-take, length-take-le, take-append-drop, stays, crosses, some_bytes, page_stays, page_next, ◌^◌, mul_assoc, mul_comm, pow-zero, map-append, range_split, map as each}
 use Rattle.std.proofs.lemmas.Grind.{pow_more}
 use Rattle.page_words.specs.FiniteMap as map
 use Rattle.page_words.specs.FiniteSet as set
@@ -23,13 +23,7 @@ value_by_places xs at (suc n) =
     rest = sym (drop-drop 1 at xs)
 
     by : (ys : List ℕ) → drop at xs ≡ ys → slice_index xs at ≡ slice_index (drop at xs) 0 → slice_index xs at + 256 * value_of (take n (drop (at + 1) xs)) ≡ value_of (take (suc n) ys)
-    by [] is e =
-        let v : value_of (take n (drop (at + 1) xs)) ≡ 0 = ap (λ ys. value_of (take n ys)) (rest ∙ ap (drop 1) is) ∙ none n in
-        omega (arith, e ∙ ap (λ ys. slice_index ys 0) is, v)
-      where
-        none : (n : ℕ) → value_of (take n []) ≡ 0
-        none n = grind arith
-    by (y ∷ ys) is e = grind (arith, rest)
+    by v0 is e = grind (arith, rest) steps 1000000
 
 -- the bytes at some places in a row are those of a part
 pub bytes_by_places : (xs : List ℕ) (at n : ℕ) → at + n ≤ length xs → each (slice_index xs) (range_with_len at n) ≡ take n (drop at xs)
@@ -108,12 +102,8 @@ number_in_two S p address behind size over long long' =
 write_at-cons : (x : ℕ) (xs : List ℕ) (at : ℕ) (new : List ℕ) → write_at (x ∷ xs) (suc at) new ≡ x ∷ write_at xs at new
 write_at-cons x xs at new = let e : suc at + length new ≡ suc (at + length new) = omega arith in ap (λ k. (x ∷ (take at xs ++ new)) ++ drop k (x ∷ xs)) e
 
-no_more : (k : ℕ) → drop {A = ℕ} k [] ≡ []
-no_more k = grind arith
-
 write_at-none : (at : ℕ) (new : List ℕ) → write_at [] at new ≡ new
-write_at-none zero new = ap (λ xs. new ++ xs) (no_more (0 + length new)) ∙ append-nil new
-write_at-none (suc at) new = ap (λ xs. new ++ xs) (no_more (suc at + length new)) ∙ append-nil new
+write_at-none v0 new = grind (arith, append-nil) steps 1000000
 
 -- nothing written is no change
 pub write_at-nothing : (xs : List ℕ) (at : ℕ) → write_at xs at [] ≡ xs
@@ -137,10 +127,7 @@ module _ (S : Spaces) (slot : Slot) where
   first w = store_in S slot cell w
 
   same_cell : (w : List ℕ) → cell_or_fresh (first w) slot ≡ record cell { bytes = w; accessed = true; dirty = true }
-  same_cell w =
-      ap (λ (x : Option Cell). unwrap_or x (fresh slot true))
-      (get-insert (set_bytes S cell.holders w) slot (record cell { bytes = w; accessed = true; dirty = true }) slot
-      ∙ ap (λ b. cond b (Some (record cell { bytes = w; accessed = true; dirty = true })) (map.get (set_bytes S cell.holders w) slot)) (same_itself slot_order slot))
+  same_cell w = search (get-insert, same_itself, arith) fits 300
 
   -- a store over another
   twice : (w v : List ℕ) → store_in (first w) slot (record cell { bytes = w; accessed = true; dirty = true }) v ≡ store_in S slot cell v

@@ -1,22 +1,7 @@
 -- What a copy of a page leaves, and then a copy of all pages of a process.
 use Rattle.address_space.proofs.Prelude.{names, Entries, group_of, spaces_of, ◌≡◌, ◌≢◌, ℕ, ◌+◌, ◌<◌, ◌≤◌, true, false, cond, List, length, refl, ap, sym, ◌∙◌, subst, arith, inl, inr, Option, Some, None, length-set, ◌==◌, unwrap_or, option_and_then, option_map, is_some, slice_get, if◌then◌else◌, slot_number, IsUserPage, frame_number, Map, get-insert, same_itself, same_map, same_apart, some_value, frame_bytes, with_frame, with_frame_bytes, with_frame-same, with_frame-other, length-frame, frames-with_frame_bytes, Role, Free, Page, IsTaken, weight-taken, PageEntry, Frames, dir_word, table_of, entry_at, with_entry, is_lazy_entry, Slot, slot_order, Cell, Spaces, cell_or_fresh, copy_of, copied, cost, cost_of, fresh, pages_of, regions_of, at_page, Directories, Roles, directory_of, table_in, entries_in, spaces_in, live_cost, total_cost, Tables, IsSound, IsSpaces, InUseAt, TableGiven, IsEmptySpace, SlotCopied, PageCopied, CopiedBelow, PagesCopied, cases_eq, cases_lt, ne_eqb, eq-eqb, nat_eq_equiv, none_goes}
 use Rattle.address_space.proofs.costs.Copied.{get-copied}
-use Rattle.address_space.proofs.costs.Costed.{Room, mapped}
-use Rattle.address_space.proofs.costs.Costs.{same_pages}
-use Rattle.address_space.proofs.costs.CostSteps.{total-insert, sum_one}
-use Rattle.address_space.proofs.costs.Sizes.{cost-within}
-use Rattle.address_space.proofs.entries.EntrySteps.{Loose, get-entries_in}
-use Rattle.address_space.proofs.entries.Refinement.{get-spaces_of, lone_refines, alone_lazy, alone_real, cell_at}
-use Rattle.address_space.proofs.entries.Readings.{mapped_read}
-use Rattle.address_space.proofs.entries.UserSlots.{in_user_slots}
-use Rattle.address_space.proofs.frames.FrameSteps.{loose-tables, loose-entries, tables-loose, tables-role, use_loose}
-use Rattle.address_space.proofs.frames.PageSteps.{same_bytes, pages-fresh, pages-lazy, lazy-more, lazy-real, no_free, unused}
-use Rattle.address_space.proofs.steps.Steps.{IsReady, entry_added, inside, live_small, none_before, role_own, role_other, free_loose, page_loose, holds_inside, MapStays, map_kept}
-use Rattle.address_space.proofs.steps.Stores.{get_user, entry_rules}
-use Rattle.address_space.proofs.steps.Departures.{no_cell_outside, no_cell_unmapped}
-use Rattle.address_space.proofs.steps.Openings.{empty_cost}
-use Rattle.address_space.proofs.standing.Standing.{same_entry, read_entry}
-use Rattle.address_space.proofs.entries.Staying.{stay_same, places_by, places_then}
+use Rattle.address_space.proofs.Lemmas.{Room, mapped, same_pages, total-insert, sum_one, cost-within, Loose, get-entries_in, get-spaces_of, lone_refines, alone_lazy, alone_real, cell_at, mapped_read, in_user_slots, loose-tables, loose-entries, tables-loose, tables-role, use_loose, same_bytes, pages-fresh, pages-lazy, lazy-more, lazy-real, no_free, unused, IsReady, entry_added, inside, live_small, none_before, role_own, role_other, free_loose, page_loose, holds_inside, MapStays, map_kept, get_user, entry_rules, no_cell_outside, no_cell_unmapped, empty_cost, same_entry, read_entry, stay_same, places_by, places_then}
 use Rattle.page_words.specs.FiniteMap as map
 use Rattle.page_words.specs.FiniteSet as set
 

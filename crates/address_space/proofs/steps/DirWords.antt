@@ -1,10 +1,6 @@
 -- Accessed of a directory word says nothing of the spaces.
 use Rattle.address_space.proofs.Prelude.{◌≡◌, ◌≢◌, ℕ, ◌^◌, ◌<◌, Bool, true, false, List, length, refl, ap, sym, ◌∙◌, subst, arith, inl, inr, Option, Some, None, slice_get, if◌then◌else◌, option_and_then, cases_eq, cases_lt, slot_number, frame_bytes, word_at, word_place, with_word, word_in, with_word_in, with_frame, with_frame-same, with_frame-other, word_in_same, word_in_other, length-with_word_in, frames-with_word, word_in-frame, Role, Reserved, Directory, Table, PageEntry, Frames, word_table, table_of, with_flag_lt, walked_word, with_walked, Slot, holders_of, spaces_of, Directories, Roles, directory_of, table_in, entry_in, entries_in, spaces_in, total_cost, Tables, Pages, IsSound, InUse, Touched, none_goes, frame_number, is_present, IsKernelDirWord, IsKernelTableWord, flag-with_flag_other, frame-with_flag, with_flag, NamesTable}
-use Rattle.address_space.proofs.entries.EntrySteps.{same_entries, entry_kept}
-use Rattle.address_space.proofs.frames.PageSteps.{same_bytes, no_directory}
-use Rattle.address_space.proofs.standing.TablesStand.{past_end}
-use Rattle.address_space.proofs.steps.Steps.{inside, sound_by}
-use Rattle.address_space.proofs.entries.Staying.{stay_same, places_by}
+use Rattle.address_space.proofs.Lemmas.{same_entries, entry_kept, same_bytes, no_directory, past_end, inside, sound_by, stay_same, places_by}
 use Rattle.page_words.specs.FiniteMap as map
 
 -- a directory word that names the same table, and is one of the kernel's where the first is

@@ -1,5 +1,5 @@
 -- What a lazy page that got a frame of its own leaves.
-use Rattle.address_space.proofs.Prelude.{EntriesStay, of_lazy, ◌≡◌, ◌≢◌, ℕ, ◌+◌, ◌^◌, ◌<◌, ◌≤◌, true, false, List, length, replicate, refl, ap, sym, ◌∙◌, subst, arith, inr, Option, Some, length-set, slice_get, option_and_then, length-replicate, slot_number, frame_number, frame_bytes, with_frame, with_frame-same, with_frame-other, Role, Reserved, Free, Table, Page, free_frames, frames_weight, IsTaken, weight-taken, PageEntry, Frames, dir_word, table_of, entry_at, with_entry, entry_word, IsKernelEntry, entry_word-names, entry_word-lt, entry_word-present, word_entry-entry_word, Slot, at_page, Entries, names, lazy_count, spaces_of, holders_of, Directories, Roles, directory_of, table_in, entry_in, entries_in, spaces_in, total_cost, Tables, Pages, IsSpaces, InUseAt, PageFilled, ne_eqb}
+use Rattle.address_space.proofs.Prelude.{EntriesStay, of_lazy, ◌≡◌, ◌≢◌, ℕ, ◌+◌, ◌^◌, ◌<◌, ◌≤◌, true, false, List, length, replicate, refl, ap, sym, ◌∙◌, subst, arith, inr, Option, Some, length-set, slice_get, option_and_then, length-replicate, slot_number, frame_number, frame_bytes, with_frame, with_frame-same, with_frame-other, Role, Reserved, Free, Table, Page, free_frames, IsTaken, weight-taken, PageEntry, Frames, dir_word, table_of, entry_at, with_entry, entry_word, IsKernelEntry, entry_word-names, entry_word-lt, entry_word-present, word_entry-entry_word, Slot, at_page, Entries, names, lazy_count, spaces_of, holders_of, Directories, Roles, directory_of, table_in, entry_in, entries_in, spaces_in, total_cost, Tables, Pages, IsSpaces, InUseAt, PageFilled, ne_eqb}
 use Rattle.address_space.proofs.steps.Steps.{sound_by, inside, live_small, table_by_word, role_own, role_other, free_loose, page_loose}
 use Rattle.address_space.proofs.costs.Costed.{free_where_light}
 use Rattle.address_space.proofs.entries.EntrySteps.{entries-insert, entry_own, entry_other, tables-entry, tables_kept, use_kept}

@@ -1,14 +1,6 @@
 -- What a slot that leaves its group leaves.
 use Rattle.address_space.proofs.Prelude.{InUse, Tables, Pages, IsSound, InUseAt, IsSpaces, ◌≡◌, ◌≢◌, ℕ, ◌+◌, ◌<◌, ◌≤◌, Bool, true, false, List, length, refl, ap, sym, ◌∙◌, subst, arith, inl, inr, Option, Some, None, length-set, ◌-◌, ◌⊎◌, slice_get, slice_set, if◌then◌else◌, nat_lt, option_and_then, cases_eq, nat_tests, slot_number, is_present, frame_number, frame_bytes, word_in, with_frame-other, Role, Reserved, Free, Table, Page, frames_weight, weight, released, IsInUse, weight-set, PageEntry, Frames, dir_word, table_of, entry_at, IsCleared, without_table, same, Slot, need, is_slot, at_page, Entries, lazy_count, cell_of, spaces_of, holders_of, Directories, Roles, directory_of, table_in, entries_in, spaces_in, total_cost, TableFreed, EntryLeft, SlotRemoved, of_page, PlacesStay}
-use Rattle.address_space.proofs.steps.Steps.{sound_by, live_small, page_loose, free_loose, table_by_word, role_own, role_other}
-use Rattle.address_space.proofs.costs.CostSteps.{total-entry, need-one, need-most}
-use Rattle.address_space.proofs.entries.EntrySteps.{Loose, with_word_at, entries-remove, tables-entry, tables_kept, same_entries}
-use Rattle.address_space.proofs.frames.FrameSteps.{here_or_not, tables-role, unlinked-own, unlinked-others, unlinked-table, unlinked-entry, tables-unlinked}
-use Rattle.address_space.proofs.frames.PageSteps.{same_bytes, pages-role, holders-less, no_table, no_directory}
-use Rattle.address_space.proofs.entries.Refinement.{leave_refines}
-use Rattle.address_space.proofs.steps.Stores.{found, get_user, named_entry, page_of_name, page_held, entry_rules}
-use Rattle.address_space.proofs.entries.Removal.{put_back, removed, kept_other}
-use Rattle.address_space.proofs.entries.Staying.{stay_same, stay_then, stay_removed, places_by, entry_needs_table}
+use Rattle.address_space.proofs.Lemmas.{sound_by, live_small, page_loose, free_loose, table_by_word, role_own, role_other, total-entry, need-one, need-most, Loose, with_word_at, entries-remove, tables-entry, tables_kept, same_entries, here_or_not, tables-role, unlinked-own, unlinked-others, unlinked-table, unlinked-entry, tables-unlinked, same_bytes, pages-role, holders-less, no_table, no_directory, leave_refines, found, get_user, named_entry, page_of_name, page_held, entry_rules, put_back, removed, kept_other, stay_same, stay_then, stay_removed, places_by, entry_needs_table}
 use Rattle.page_words.specs.FiniteMap as map
 use Rattle.page_words.specs.FiniteSet as set
 

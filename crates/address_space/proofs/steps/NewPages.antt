@@ -1,15 +1,7 @@
 -- A page that gets an entry: its table, which may be linked for it, the count of the table, and the entry.
 use Rattle.address_space.proofs.Prelude.{◌≡◌, ℕ, ◌+◌, ◌*◌, ◌^◌, ◌<◌, ◌≤◌, Bool, false, List, length, refl, ap, sym, ◌∙◌, subst, arith, inl, inr, Option, Some, None, ◌≢◌, true, length-set, is_some, slice_get, slice_set, option_and_then, slot_number, IsUserPage, frame_number, frame_bytes, Role, Page, free_frames, IsPageBelow, frames_weight, PageEntry, Frames, dir_word, table_of, entry_at, with_entry, Slot, at_page, fresh, cell_or_fresh, copy_of, joined, directory_of, table_in, entries_in, spaces_in, Roles, IsSound, IsSpaces, Names, Inside, Tables, IsCounted, AreCountedSpaces, KeepsCounts, AlwaysMapsAlike, MapsOneMore, region_pages, pages_under, TableGiven, SlotAdded, PageAdded, SlotJoined, SlotCopied, PageCopied, weight-set, Entries, spaces_of, some_value, ne_eqb, TableGot, TableReady, TakesPage, CountedUp, EntryCopied}
-use Rattle.address_space.proofs.costs.Costed.{Room, room_for_page, mapped}
-use Rattle.address_space.proofs.steps.CountSteps.{counted_roles, table_counted, table_count, count_there, count_fits, page_counted, region_more, one_inserted, alike_taken}
-use Rattle.address_space.proofs.steps.Steps.{page_map_of, inside, table_by_word, table_given, table_given_there, lazy_entry, page_added, page_loose, none_before, role_own, role_other, entry_added}
-use Rattle.address_space.proofs.steps.Stores.{HasPage, page_of_name}
-use Rattle.address_space.proofs.frames.FewHolders.{count_few}
-use Rattle.address_space.proofs.costs.Totals.{key-joined}
+use Rattle.address_space.proofs.Lemmas.{Room, room_for_page, mapped, counted_roles, table_counted, table_count, count_there, count_fits, page_counted, region_more, one_inserted, alike_taken, page_map_of, inside, table_by_word, table_given, table_given_there, lazy_entry, page_added, page_loose, none_before, role_own, role_other, entry_added, HasPage, page_of_name, count_few, key-joined, tables-role, same_bytes, pages-join, lazy-real, get-spaces_of, join_refines}
 use Rattle.address_space.proofs.steps.Copies.{copied_entry, lazy_copied, real_copied, frame_copied, entry_stays, page_copied}
-use Rattle.address_space.proofs.frames.FrameSteps.{tables-role}
-use Rattle.address_space.proofs.frames.PageSteps.{same_bytes, pages-join, lazy-real}
-use Rattle.address_space.proofs.entries.Refinement.{get-spaces_of, join_refines}
 use Rattle.page_words.specs.FiniteMap as map
 
 -- ---- What a slot that joins a group leaves.

@@ -1,16 +1,8 @@
 -- A copy of a process's pages goes from region to region, and through each by its table.
 use Rattle.address_space.proofs.Prelude.{◌≡◌, ℕ, suc, ◌+◌, ◌-◌, ◌*◌, ◌<◌, ◌≤◌, Bool, true, false, List, length, refl, ap, sym, ◌∙◌, subst, arith, Option, Some, None, is_some, slice_get, slice_set, IfSome, if◌then◌else◌, option_and_then, slot_number, index_number, IsUserPage, is_present, frame_bytes, word_in, Role, PageEntry, Frames, table_of, entry_at, entry_from, entry_word, word_entry, counted, count_range, count_range-none, count_range-same, Slot, cost, at_page, cell_or_fresh, copy_of, directory_of, spaces_in, table_in, total_cost, IsSound, IsSpaces, IsCounted, IsEmptySpace, PageCopied, CopiedBelow, CopyIn, PagesCopied, words_left, ◌⊎◌, inl, inr, cases_lt, Cell, Spaces, Set, nat_order, option_map, cost_of, need, pages_of, regions_of, without, is_slot, region_pages, length-set, slice_get_within, Inside, TakesPage, set-set, count_range-add, count-table, mapped_in_table, count_none}
 use Rattle.page_map.specs.declared.regions.Listed.{Listed}
-use Rattle.address_space.proofs.costs.Costed.{Room}
-use Rattle.address_space.proofs.costs.Costs.{contains-pages_of, cost-insert}
-use Rattle.address_space.proofs.costs.CostSteps.{need-least, need-one, need-two, region_member, region_there as region_kept}
-use Rattle.address_space.proofs.costs.Relief.{cost_left, page_left}
-use Rattle.address_space.proofs.costs.Sizes.{len-subset}
-use Rattle.address_space.proofs.entries.Readings.{mapped_read}
-use Rattle.address_space.proofs.steps.Steps.{live_small, page_map_of}
-use Rattle.address_space.proofs.steps.CountSteps.{count_there, count_by_entries, one_inserted, region_more, table_count}
+use Rattle.address_space.proofs.Lemmas.{Room, contains-pages_of, cost-insert, need-least, need-one, need-two, region_member, region_there as region_kept, cost_left, page_left, len-subset, mapped_read, live_small, page_map_of, count_there, count_by_entries, one_inserted, region_more, table_count, entry_rules, named_inside}
 use Rattle.address_space.proofs.steps.Copies.{copied_over, copied_past, copied_next, copied_at_last, room_for_copy, put_other}
-use Rattle.address_space.proofs.steps.Stores.{entry_rules, named_inside}
 use Rattle.address_space.proofs.steps.WalkSteps.{word_of_entry}
 use Rattle.page_words.specs.FiniteMap as map
 use Rattle.page_words.specs.FiniteSet as set

@@ -204,12 +204,9 @@ flags_set directories bytes two roles p d page e write accessed dirty c sound li
     record {
       sound = h.sound;
       spaces = h.spaces ∙ flags_refine E m slot e e' h.named refl
-          ∙ ap (map.insert (spaces_of E m) slot) (ap (λ (x : Cell). record x {
-              write = write;
-              may = e.may;
-              accessed = accessed;
-              dirty = dirty;
-          }) (cell_at E m slot e h.named) ∙ sym cell);
+          ∙ ap (map.insert (spaces_of E m) slot)
+          (ap (λ (x : Cell). record x { write = write; may = e.may; accessed = accessed; dirty = dirty })
+          (cell_at E m slot e h.named) ∙ sym cell);
       cost = (λ i. total_cost directories (spaces_of (h.entries i) (frame_bytes two))) ∙ total-kept directories E m (frame_bytes two) slot e e' h.named;
       in_use = h.in_use;
       lazy = ap (λ x. holders_of x 0) h.entries ∙ lazy-same E slot e e' h.named refl;

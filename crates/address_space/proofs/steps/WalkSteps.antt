@@ -3,13 +3,8 @@ use Rattle.address_space.proofs.Prelude.{◌≡◌, ℕ, ◌+◌, ◌*◌, ◌%�
 use Rattle.phys_memory.proofs.Words.{length-with_word}
 use Rattle.table_walk.proofs.Leads.{walks_find_what_leads}
 use Rattle.page_map.proofs.MarkProofs.{touched_names, entry_from-touched}
-use Rattle.address_space.proofs.entries.EntrySteps.{entry_by_table}
-use Rattle.address_space.proofs.steps.Steps.{inside, holds_inside, live_small, page_map_of, present_by_table, table_by_word}
-use Rattle.address_space.proofs.steps.Stores.{found, get_user, entry_rules, page_stored, flags_set, cell_read, frame_written, stored_place, byte_is_write, length-write_at}
-use Rattle.address_space.proofs.steps.Bytes.{write_at-nothing, stored-none, stored-flags}
-use Rattle.address_space.proofs.steps.Departures.{no_table_outside}
+use Rattle.address_space.proofs.Lemmas.{entry_by_table, inside, holds_inside, live_small, page_map_of, present_by_table, table_by_word, found, get_user, entry_rules, page_stored, flags_set, cell_read, frame_written, stored_place, byte_is_write, length-write_at, write_at-nothing, stored-none, stored-flags, no_table_outside, places_then}
 use Rattle.address_space.proofs.steps.DirWords.{DirsAlike, flagged_alike, dirs_touched, one_dir_word, dirs-entry, dirs-table, dirs-tables}
-use Rattle.address_space.proofs.entries.Staying.{places_then}
 
 -- ---- What a walk finds
 

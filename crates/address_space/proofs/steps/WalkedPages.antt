@@ -1,5 +1,5 @@
 -- What memory is after accesses that a processor makes, by its walk or by translations that it kept.
-use Rattle.address_space.proofs.Prelude.{◌≡◌, ℕ, zero, suc, ◌+◌, ◌*◌, ◌/◌, ◌%◌, ◌^◌, ◌<◌, Bool, true, cond, List, [], ◌∷◌, refl, ap, sym, ◌∙◌, subst, arith, inl, inr, Option, Some, None, if◌then◌else◌, ◌&&◌, IsOk, Ok, slice_set, length-set, option_map, is_ok, unwrap_or, and_parts, page_number, offset_number, start_number, second_page, byte_count, touched, page_and, Size, Role, Access, Read, Write, walk_of, finds_at, finds, byte_place, Image, image_from, Slot, slot_order, Cell, Spaces, fresh, with_bytes, set_bytes, write_at, bytes_of, stored, cell_or_fresh, slot_at, all_accessed, all_stored, get-insert, get-map_values, same_or_not, directory_of, spaces_in, IsSound, Touched, is_marked, kept_place, written_at, marked, CanBeMarked, after_walked_load, after_walked_store, LeadTo}
+use Rattle.address_space.proofs.Prelude.{◌≡◌, ℕ, zero, suc, ◌+◌, ◌*◌, ◌/◌, ◌%◌, ◌^◌, ◌<◌, Bool, true, cond, List, [], ◌∷◌, refl, ap, sym, ◌∙◌, subst, arith, inl, inr, Option, Some, None, ◌&&◌, IsOk, Ok, slice_set, length-set, option_map, is_ok, unwrap_or, and_parts, page_number, offset_number, start_number, second_page, byte_count, touched, page_and, Size, Role, Access, Read, Write, walk_of, finds_at, finds, byte_place, Image, image_from, Slot, slot_order, Cell, Spaces, fresh, set_bytes, write_at, bytes_of, stored, cell_or_fresh, slot_at, all_accessed, all_stored, get-insert, get-map_values, same_or_not, directory_of, spaces_in, IsSound, Touched, is_marked, kept_place, written_at, marked, CanBeMarked, after_walked_load, after_walked_store, LeadTo}
 use Rattle.table_walk.proofs.MarkLemmas.{marks_keep_walks}
 use Rattle.address_space.proofs.steps.Finding.{found_at, found_each, found_fits}
 use Rattle.address_space.proofs.steps.WalkSteps.{found_entry, load_marked, byte_written, byte_put, touched_then, walk_named}

@@ -1,6 +1,5 @@
 use Rattle.address_space.proofs.Prelude.{ap, sym, ◌∙◌, option_map, found_of, shown}
-use Rattle.address_space.proofs.steps.FoundPages.{absent_cell, found_below, found_shown}
-use Rattle.address_space.proofs.steps.Placing.{place_found}
+use Rattle.address_space.proofs.Lemmas.{absent_cell, found_below, found_shown, place_found}
 use Rattle.address_space.proofs.Spaces.cell_at.Goals as goal
 
 pub cell_of-requires : goal.cell_of-requires

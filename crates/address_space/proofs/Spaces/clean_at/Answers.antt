@@ -1,6 +1,5 @@
 use Rattle.address_space.proofs.Prelude.{ap, sym, ◌∙◌, is_some, found_of}
-use Rattle.address_space.proofs.steps.FoundPages.{found_lies, found_cleaned, found_mapped}
-use Rattle.address_space.proofs.steps.Placing.{place_found}
+use Rattle.address_space.proofs.Lemmas.{found_lies, found_cleaned, found_mapped, place_found}
 use Rattle.address_space.proofs.Spaces.clean_at.Goals as goal
 
 pub unwrap-found-requires : goal.unwrap-found-requires

@@ -1,9 +1,6 @@
 use Rattle.address_space.proofs.Prelude.{◌≡◌, ◌<◌, ◌≤◌, ◌∙◌, ℕ, List, Option, Some, None, true, is_some, ap, sym, subst, refl, frame_bytes, table_of, is_lazy_entry, IsPageMap, at_page, none_goes, cost, ◌⊎◌, FramesStay, View, directory_of, entry_in, spaces_in, IsSound, image_from, IsCopying, CopyIn}
-use Rattle.address_space.proofs.standing.FramesStand.{frames_stay}
-use Rattle.address_space.proofs.standing.Standing.{same_lazy}
-use Rattle.address_space.proofs.steps.Steps.{page_map_of}
+use Rattle.address_space.proofs.Lemmas.{frames_stay, same_lazy, page_map_of, empty_cost}
 use Rattle.address_space.proofs.steps.Copies.{copied_at_first}
-use Rattle.address_space.proofs.steps.Openings.{empty_cost}
 use Rattle.address_space.proofs.steps.RegionCopies.{all_copied, region_begun, region_ended}
 use Rattle.address_space.proofs.Spaces.copy_charged_space.Goals as goal
 

@@ -1,9 +1,5 @@
 use Rattle.address_space.proofs.Prelude.{arith, sym, subst, refl, None, slice_set, Directory, DirectoryDropped, spaces_in, eq-eqb}
-use Rattle.address_space.proofs.entries.Staying.{places_more}
-use Rattle.address_space.proofs.standing.FramesStand.{frames_stay_by}
-use Rattle.address_space.proofs.steps.CountSteps.{counts_kept, alike_released}
-use Rattle.address_space.proofs.steps.Departures.{directory_removed}
-use Rattle.address_space.proofs.steps.LooseFrames.{loose_released}
+use Rattle.address_space.proofs.Lemmas.{places_more, frames_stay_by, counts_kept, alike_released, directory_removed, loose_released}
 use Rattle.address_space.proofs.Spaces.drop_directory.Goals as goal
 
 pub release-requires : goal.release-requires

@@ -1,6 +1,5 @@
 use Rattle.address_space.proofs.Prelude.{◌≡◌, ◌+◌, ◌*◌, ◌∙◌, ℕ, List, Option, Some, ap, sym, subst, arith, frame_bytes, table_of, View, directory_of, cost, DroppedBelow}
-use Rattle.address_space.proofs.steps.Steps.{page_map_of}
-use Rattle.address_space.proofs.steps.Departures.{dropped_at_first, dropped_at_last}
+use Rattle.address_space.proofs.Lemmas.{page_map_of, dropped_at_first, dropped_at_last}
 use Rattle.address_space.proofs.steps.RegionDrops.{all_passed, regions_passed}
 use Rattle.address_space.proofs.Spaces.drop_pages.Goals as goal
 

@@ -1,8 +1,7 @@
 use Rattle.address_space.proofs.Prelude.{◌≡◌, ◌+◌, ◌*◌, ◌<◌, ◌≤◌, ◌∙◌, ℕ, List, Option, Some, ap, sym, subst, refl, inl, arith, frame_bytes, word_in, word_entry, View, directory_of, DroppedBelow, words_left}
-use Rattle.address_space.proofs.steps.Departures.{dropped_next}
+use Rattle.address_space.proofs.Lemmas.{dropped_next, page_map_of}
 use Rattle.address_space.proofs.steps.RegionCopies.{region_there, region_words}
 use Rattle.address_space.proofs.steps.RegionDrops.{RegionLeft, left_linked, left_next, listed_found, region_passed}
-use Rattle.address_space.proofs.steps.Steps.{page_map_of}
 use Rattle.address_space.proofs.Spaces.drop_region.Goals as goal
 
 pub count_at-left-requires : goal.count_at-left-requires

@@ -1,7 +1,5 @@
 use Rattle.address_space.proofs.Prelude.{ap, sym, ◌∙◌, is_some, found_of, arith}
-use Rattle.address_space.proofs.steps.Placing.{place_found, place_mapped}
-use Rattle.address_space.proofs.steps.FoundPages.{found_lies, room_found, found_filled, filled_kept, filled_real, filled_others, filled_stay, filled_found}
-use Rattle.address_space.proofs.steps.Neighbours.{filled_beside}
+use Rattle.address_space.proofs.Lemmas.{place_found, place_mapped, found_lies, room_found, found_filled, filled_kept, filled_real, filled_others, filled_stay, filled_found, filled_beside}
 use Rattle.address_space.proofs.Spaces.fill_at.Goals as goal
 
 pub give_frame-entry-requires-clause-lies : goal.give_frame-entry-requires-clause-lies

@@ -1,8 +1,5 @@
 use Rattle.address_space.proofs.Prelude.{◌≡◌, true, ap, sym, ◌∙◌, Option, Some, None, unwrap_or, Cell, at_page, fresh, found_of, Reserved}
-use Rattle.address_space.proofs.steps.FoundPages.{found_lies, found_bytes, absent_cell}
-use Rattle.address_space.proofs.steps.Placing.{place_found}
-use Rattle.address_space.proofs.steps.Steps.{inside}
-use Rattle.address_space.proofs.Insides.{found_at}
+use Rattle.address_space.proofs.Lemmas.{found_lies, found_bytes, absent_cell, place_found, inside, found_at}
 use Rattle.address_space.proofs.Spaces.frame_at.Goals as goal
 
 is_found : (c : goal.In-Some) → found_at c.self.inside c.args.pid c.args.page ≡ Some c.in-Some.found

@@ -1,9 +1,5 @@
 use Rattle.address_space.proofs.Prelude.{◌<◌, refl, sym, subst, Some, arith, slice_set, Free, Directory, SpaceAdded, spaces_in}
-use Rattle.address_space.proofs.standing.FramesStand.{frames_stay_by}
-use Rattle.address_space.proofs.standing.Standing.{same_lazy}
-use Rattle.address_space.proofs.steps.CountSteps.{counts_kept, alike_taken}
-use Rattle.address_space.proofs.steps.Openings.{space_added, room_for_directory}
-use Rattle.address_space.proofs.steps.Steps.{inside, zeroed}
+use Rattle.address_space.proofs.Lemmas.{frames_stay_by, same_lazy, counts_kept, alike_taken, space_added, room_for_directory, inside, zeroed}
 use Rattle.address_space.proofs.Spaces.fresh.Goals as goal
 
 pub take-directory-requires-clause-free : goal.take-directory-requires-clause-free

@@ -1,10 +1,6 @@
 use Rattle.address_space.proofs.Prelude.{arith, ◌<◌, ◌^◌, ap, sym, ◌∙◌, subst, frame_bytes, PageEntry, with_entry, at_page, TableGiven, SlotJoined, slot_number, table_of_place, found_of, none_goes, directory_of}
-use Rattle.address_space.proofs.steps.CountSteps.{alike_held}
-use Rattle.address_space.proofs.steps.FoundPages.{found_real, found_named, found_least, found_mapped}
+use Rattle.address_space.proofs.Lemmas.{alike_held, found_real, found_named, found_least, found_mapped, place_table, place_found, frames_stay, places_ready}
 use Rattle.address_space.proofs.steps.NewPages.{ready_given, ready_inside, ready_count, ready_fits, ready_below, ready_small, holder_added, holder_more, added_kept}
-use Rattle.address_space.proofs.steps.Placing.{place_table, place_found}
-use Rattle.address_space.proofs.standing.FramesStand.{frames_stay}
-use Rattle.address_space.proofs.entries.Staying.{places_ready}
 use Rattle.address_space.proofs.Spaces.join_at.Goals as goal
 
 pub unwrap-found-requires : goal.unwrap-found-requires

@@ -1,9 +1,5 @@
 use Rattle.address_space.proofs.Prelude.{ap, sym, ◌∙◌, is_some, page_number, offset_number, byte_count, Cell, value_of, bytes_at, found_of}
-use Rattle.address_space.proofs.Insides.{spaces_at}
-use Rattle.address_space.proofs.steps.Bytes.{number_in_page}
-use Rattle.address_space.proofs.steps.FoundPages.{found_mapped, found_lies, found_cell, found_loaded}
-use Rattle.address_space.proofs.steps.Neighbours.{loaded_beside}
-use Rattle.address_space.proofs.steps.Placing.{place_found}
+use Rattle.address_space.proofs.Lemmas.{spaces_at, number_in_page, found_mapped, found_lies, found_cell, found_loaded, loaded_beside, place_found}
 use Rattle.address_space.proofs.Spaces.load_at.Goals as goal
 
 pub unwrap-found-requires : goal.unwrap-found-requires

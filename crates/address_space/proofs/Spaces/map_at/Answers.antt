@@ -1,11 +1,6 @@
 use Rattle.address_space.proofs.Prelude.{◌^◌, ◌<◌, ap, sym, subst, arith, ◌∙◌, refl, frame_bytes, PageEntry, with_entry, is_lazy_entry, TableGiven, PageAdded, slot_number, at_page, table_of_place, none_goes, directory_of, ◌≡◌, Some, table_of}
-use Rattle.address_space.proofs.standing.Standing.{same_lazy}
+use Rattle.address_space.proofs.Lemmas.{same_lazy, found_written, added_beside, place_table, place_mapped, frames_stay, places_ready}
 use Rattle.address_space.proofs.steps.NewPages.{ready_given, ready_table, ready_inside, ready_count, ready_fits, zero_added, zero_more, added_kept}
-use Rattle.address_space.proofs.steps.FoundPages.{found_written}
-use Rattle.address_space.proofs.steps.Neighbours.{added_beside}
-use Rattle.address_space.proofs.steps.Placing.{place_table, place_mapped}
-use Rattle.address_space.proofs.standing.FramesStand.{frames_stay}
-use Rattle.address_space.proofs.entries.Staying.{places_ready}
 use Rattle.address_space.proofs.Spaces.map_at.Goals as goal
 
 pub give_table-table-requires-clause-takes : goal.give_table-table-requires-clause-takes

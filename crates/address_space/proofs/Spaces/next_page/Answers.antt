@@ -1,8 +1,5 @@
 use Rattle.address_space.proofs.Prelude.{arith, ◌≡◌, ◌∙◌, ℕ, Bool, sym, Option, Some, List, frame_bytes, at_page, directory_of, spaces_in, Role, user_cases, get-entries_user, get-entries_other, IsSound, is_mapped}
-use Rattle.address_space.proofs.steps.Openings.{no_cell}
-use Rattle.address_space.proofs.steps.Steps.{page_map_of, live_small}
-use Rattle.address_space.proofs.entries.Readings.{mapped_read}
-use Rattle.address_space.proofs.steps.Departures.{no_cell_outside}
+use Rattle.address_space.proofs.Lemmas.{no_cell, page_map_of, live_small, mapped_read, no_cell_outside}
 use Rattle.page_words.specs.FiniteMap as map
 use Rattle.address_space.proofs.Spaces.next_page.Goals as goal
 

@@ -1,6 +1,5 @@
 use Rattle.address_space.proofs.Prelude.{◌≡◌, ◌∙◌, ℕ, None, ap, sym, second_page, byte_count, offset_number, frame_bytes, View, Spaces, at_page, slot_at, cell_or_fresh, value_of, bytes_at}
-use Rattle.address_space.proofs.steps.Bytes.{number_in_page}
-use Rattle.address_space.proofs.steps.Neighbours.{second_none, second_is, second_there}
+use Rattle.address_space.proofs.Lemmas.{number_in_page, second_none, second_is, second_there}
 use Rattle.address_space.proofs.Spaces.peek_at.Goals as goal
 
 pub returns-in-None : goal.returns-in-None

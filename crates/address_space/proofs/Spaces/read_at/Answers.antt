@@ -1,6 +1,5 @@
 use Rattle.address_space.proofs.Prelude.{◌≡◌, ap, sym, subst, ◌∙◌, arith, true, is_some, IfSome, page_number, second_page, crosses, place_in, Spaces, at_page, slot_at}
-use Rattle.address_space.proofs.costs.AccessCosts.{kept}
-use Rattle.address_space.proofs.steps.Neighbours.{second_there}
+use Rattle.address_space.proofs.Lemmas.{kept, second_there}
 use Rattle.page_words.specs.FiniteMap as map
 use Rattle.address_space.proofs.Spaces.read_at.Goals as goal
 

@@ -1,8 +1,6 @@
 use Rattle.address_space.proofs.Prelude.{ap, sym, ◌∙◌, is_some, found_of, without, is_slot, cost, ◌+◌, ◌≡◌, Some}
-use Rattle.address_space.proofs.Insides.{found_at, spaces_at}
-use Rattle.address_space.proofs.steps.FoundPages.{found_known, found_mapped}
+use Rattle.address_space.proofs.Lemmas.{found_at, spaces_at, found_known, found_mapped, place_found}
 use Rattle.address_space.proofs.steps.GonePages.{home_count, home_relief}
-use Rattle.address_space.proofs.steps.Placing.{place_found}
 use Rattle.address_space.proofs.Spaces.relief_at.Goals as goal
 
 pub unwrap-found-requires : goal.unwrap-found-requires

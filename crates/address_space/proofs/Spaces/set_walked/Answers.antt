@@ -1,9 +1,6 @@
 use Rattle.address_space.proofs.Prelude.{arith, refl, Directory, none_goes}
-use Rattle.address_space.proofs.Insides.{spaces_at}
-use Rattle.address_space.proofs.steps.Steps.{inside}
-use Rattle.address_space.proofs.steps.Touches.{kept_touched}
+use Rattle.address_space.proofs.Lemmas.{spaces_at, inside, kept_touched, frames_stay}
 use Rattle.address_space.proofs.steps.DirWords.{dir_word_walked}
-use Rattle.address_space.proofs.standing.FramesStand.{frames_stay}
 use Rattle.address_space.proofs.Spaces.set_walked.Goals as goal
 
 pub set_word_walked-requires-clause-inside : goal.set_word_walked-requires-clause-inside

@@ -1,8 +1,6 @@
 use Rattle.address_space.proofs.Prelude.{◌≡◌, ℕ, ◌+◌, ◌≤◌, subst, arith, refl, true, length, is_some, View, total_cost, directory_of, entries_in, spaces_in, lazy_count, holders_of, frame_bytes, cost, WalksAgree, in-use-and-reserved, LeavesRoom, image_of}
-use Rattle.address_space.proofs.steps.Openings.{cost_within}
+use Rattle.address_space.proofs.Lemmas.{cost_within, image_stands, lazy_slots, places_tell}
 use Rattle.address_space.proofs.standing.WaysStand.{walks_agree, ways_agree}
-use Rattle.address_space.proofs.standing.Standing.{image_stands, lazy_slots}
-use Rattle.address_space.proofs.steps.Placing.{places_tell}
 use Rattle.address_space.proofs.Spaces.stands.Goals as goal
 
 pub returns : goal.returns

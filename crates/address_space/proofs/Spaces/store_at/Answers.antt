@@ -1,8 +1,5 @@
 use Rattle.address_space.proofs.Prelude.{◌+◌, ◌≤◌, ap, sym, subst, ◌∙◌, is_some, page_number, offset_number, byte_count, bytes_of, stays, found_of}
-use Rattle.address_space.proofs.steps.Bytes.{length-bytes}
-use Rattle.address_space.proofs.steps.FoundPages.{found_mapped, found_lies, found_real, found_stored}
-use Rattle.address_space.proofs.steps.Neighbours.{stored_beside, part_long}
-use Rattle.address_space.proofs.steps.Placing.{place_found}
+use Rattle.address_space.proofs.Lemmas.{length-bytes, found_mapped, found_lies, found_real, found_stored, stored_beside, part_long, place_found}
 use Rattle.address_space.proofs.Spaces.store_at.Goals as goal
 
 pub unwrap-found-requires : goal.unwrap-found-requires

@@ -1,9 +1,5 @@
 use Rattle.address_space.proofs.Prelude.{ap, sym, ◌∙◌, is_some, page_number, offset_number, Spaces, slot_at, cell_or_fresh, found_of}
-use Rattle.address_space.proofs.Insides.{spaces_at}
-use Rattle.address_space.proofs.costs.AccessCosts.{kept, key-stored}
-use Rattle.address_space.proofs.steps.FoundPages.{found_mapped, found_lies, found_real, found_part}
-use Rattle.address_space.proofs.steps.Neighbours.{stored_beside, part_long}
-use Rattle.address_space.proofs.steps.Placing.{place_found}
+use Rattle.address_space.proofs.Lemmas.{spaces_at, kept, key-stored, found_mapped, found_lies, found_real, found_part, stored_beside, part_long, place_found}
 use Rattle.page_words.specs.FiniteMap as map
 use Rattle.address_space.proofs.Spaces.store_part_at.Goals as goal
 

@@ -1,8 +1,5 @@
 use Rattle.address_space.proofs.Prelude.{ℕ, List, ap, sym, ◌∙◌, length, take, drop, arith, is_some, page_number, offset_number, cell_or_fresh, slot_at, found_of}
-use Rattle.address_space.proofs.Insides.{spaces_at}
-use Rattle.address_space.proofs.steps.Bytes.{bytes_by_places, part_in_page}
-use Rattle.address_space.proofs.steps.FoundPages.{found_mapped, found_there, found_lies, found_bytes, found_long, found_loaded}
-use Rattle.address_space.proofs.steps.Placing.{place_found}
+use Rattle.address_space.proofs.Lemmas.{spaces_at, bytes_by_places, part_in_page, found_mapped, found_there, found_lies, found_bytes, found_long, found_loaded, place_found}
 use Rattle.address_space.proofs.Spaces.try_read_part.Goals as goal
 
 pub returns-in_default-clause-mapped : goal.returns-in_default-clause-mapped

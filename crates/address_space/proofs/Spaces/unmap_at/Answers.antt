@@ -1,6 +1,5 @@
 use Rattle.address_space.proofs.Prelude.{arith, ap, sym, ◌∙◌, is_some, found_of}
-use Rattle.address_space.proofs.steps.FoundPages.{found_known, found_mapped}
-use Rattle.address_space.proofs.steps.Placing.{place_found}
+use Rattle.address_space.proofs.Lemmas.{found_known, found_mapped, place_found}
 use Rattle.address_space.proofs.Spaces.unmap_at.Goals as goal
 
 pub unwrap-found-requires : goal.unwrap-found-requires

@@ -1,10 +1,7 @@
 use Rattle.address_space.proofs.Prelude.{arith, frame_bytes, SlotRemoved, ap, ◌∙◌, ◌+◌, cost, without, is_slot}
-use Rattle.address_space.proofs.Insides.{spaces_at}
-use Rattle.address_space.proofs.steps.Steps.{page_map_of}
+use Rattle.address_space.proofs.Lemmas.{spaces_at, page_map_of, frames_stay, loose_gone}
 use Rattle.address_space.proofs.steps.GonePages.{home_table, home_entry, home_count, home_positive, home_counts, home_relief, home_in_use, gone_table, gone_page, gone_kept}
 use Rattle.address_space.proofs.steps.RegionDrops.{entry_gone}
-use Rattle.address_space.proofs.standing.FramesStand.{frames_stay}
-use Rattle.address_space.proofs.steps.LooseFrames.{loose_gone}
 use Rattle.address_space.proofs.Spaces.unmap_found.Goals as goal
 
 pub uncount_page-mapped-requires-clause-inside : goal.uncount_page-mapped-requires-clause-inside

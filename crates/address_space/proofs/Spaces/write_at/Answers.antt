@@ -1,7 +1,5 @@
 use Rattle.address_space.proofs.Prelude.{◌≡◌, ◌≤◌, ◌+◌, ◌-◌, ◌∙◌, ℕ, List, length, take, ap, sym, arith, slice_range, length-take-le, page_number, offset_number, second_page, crosses, some_bytes, Spaces, slot_at, stored, all_stored, place_in}
-use Rattle.address_space.proofs.steps.Bytes.{stored_in_page, stored_two, two_parts, first_bytes, length-part}
-use Rattle.address_space.proofs.steps.Neighbours.{second_none, second_there}
-use Rattle.address_space.proofs.standing.FramesStand.{stays_then}
+use Rattle.address_space.proofs.Lemmas.{first_bytes, length-part, second_none, second_there, stays_then, stored_in_page, stored_two, two_parts}
 use Rattle.address_space.proofs.Spaces.write_at.Goals as goal
 
 pub returns-in-None-clause-spaces : goal.returns-in-None-clause-spaces

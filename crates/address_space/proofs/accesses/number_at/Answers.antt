@@ -1,6 +1,5 @@
 use Rattle.address_space.proofs.Prelude.{◌≡◌, ◌+◌, ◌*◌, ◌≤◌, ◌<◌, [], ◌∷◌, ap, ◌∙◌, arith, slice_index, word_at, frame_bytes, some_bytes, value_of}
-use Rattle.address_space.proofs.entries.Readings.{word_read_in, byte_read_in, byte_in_frame}
-use Rattle.address_space.proofs.steps.Bytes.{value_by_places}
+use Rattle.address_space.proofs.Lemmas.{word_read_in, byte_read_in, byte_in_frame, value_by_places}
 use Rattle.address_space.proofs.accesses.number_at.Goals as goal
 
 pub place_of-place-requires-clause-inside : goal.place_of-place-requires-clause-inside

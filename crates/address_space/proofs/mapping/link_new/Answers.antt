@@ -1,6 +1,5 @@
 use Rattle.address_space.proofs.Prelude.{◌≤◌, arith, free_frames, slice_get_within, subst, table_need}
-use Rattle.address_space.proofs.costs.Costed.{room_for_table}
-use Rattle.address_space.proofs.steps.Steps.{page_map_of}
+use Rattle.address_space.proofs.Lemmas.{room_for_table, page_map_of}
 use Rattle.address_space.proofs.mapping.link_new.Goals as goal
 
 pub take-table-requires-clause-free : goal.take-table-requires-clause-free

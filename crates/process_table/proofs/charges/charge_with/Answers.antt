@@ -1,6 +1,5 @@
 use Rattle.process_table.proofs.Prelude.{arith}
-use Rattle.process_table.proofs.Charged.{used-container}
-use Rattle.process_table.proofs.Overdrawn.{extra_new}
+use Rattle.process_table.proofs.Lemmas.{used-container, extra_new}
 use Rattle.process_table.proofs.charges.charge_with.Goals as goal
 
 pub returns : goal.returns

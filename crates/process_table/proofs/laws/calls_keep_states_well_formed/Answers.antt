@@ -1,7 +1,4 @@
-use Rattle.process_table.proofs.BookLaws.{well_formed-open, well_formed-unmap, well_formed-spawn, well_formed-exit, root-spawn, root-exit, total-within}
-use Rattle.process_table.proofs.Forks.{well_formed-fork, root-fork}
-use Rattle.process_table.proofs.SpaceLaws.{well_formed-map, well_formed-load, well_formed-store}
-use Rattle.process_table.proofs.SharingLaws.{well_formed-protect, well_formed-offer, well_formed-withdraw, well_formed-accept}
+use Rattle.process_table.proofs.Lemmas.{well_formed-open, well_formed-unmap, well_formed-spawn, well_formed-exit, root-spawn, root-exit, total-within, well_formed-fork, root-fork, well_formed-map, well_formed-load, well_formed-store, well_formed-protect, well_formed-offer, well_formed-withdraw, well_formed-accept}
 use Rattle.process_table.proofs.laws.calls_keep_states_well_formed.Goals as goal
 
 pub returns : goal.returns

@@ -1,7 +1,6 @@
 use Rattle.process_table.proofs.Prelude.{◌≡◌, ℕ, ◌+◌, ◌-◌, ◌≤◌, ap, sym, ◌∙◌, length, arith, is_some, directory_of, Containers, open_with}
 use Rattle.address_space.proofs.steps.Openings.{no_directory}
-use Rattle.process_table.proofs.BookLaws.{well_formed-open}
-use Rattle.process_table.proofs.Keeping.{whole}
+use Rattle.process_table.proofs.Lemmas.{well_formed-open, whole}
 use Rattle.process_table.proofs.Spawns.{charged-root}
 use Rattle.process_table.proofs.processes.opened.Goals as goal
 

@@ -1,10 +1,5 @@
 use Rattle.process_table.proofs.Prelude.{◌≡◌, ◌≢◌, ℕ, ◌+◌, true, false, [], ◌∷◌, arith, refl, Some, None, rules, sym, ap, subst, ◌∙◌, Ok, Err, is_some, IsOk, if◌then◌else◌, Mapped, Quota, IsUserPage, offer_key, is_live, is_mapped, overdrawn, State, no_value, place_in, Slot, cost, need, joined, at_page, cost-joined, cost-joined_other, used_of, accept_answer, accept_refusal, after_accept, View, IsProcesses, state_of, IsWellFormed, stays_then, stays_most}
-use Rattle.process_table.proofs.Placed.{page_is_user}
-use Rattle.process_table.proofs.Charged.{charged-one}
-use Rattle.process_table.proofs.Keeping.{whole, keeps-accept}
-use Rattle.process_table.proofs.SpaceLaws.{new_fits}
-use Rattle.process_table.proofs.Refusals.{no_cause, may_accept, test_accept}
-use Rattle.process_table.proofs.SharingLaws.{giver_mapped}
+use Rattle.process_table.proofs.Lemmas.{page_is_user, charged-one, whole, keeps-accept, new_fits, no_cause, may_accept, test_accept, giver_mapped}
 use Rattle.page_words.specs.FiniteMap as map
 use Rattle.process_table.proofs.processes.Processes.accept_offered.Goals as goal
 

@@ -1,8 +1,6 @@
 use Rattle.process_table.proofs.Prelude.{◌≡◌, ℕ, rules, ap, sym, subst, is_some, ◌∙◌, option_map, place_in, Size, IsUserPage, second_page, arith, EachTouched, page_number, IsThere, Read, Write, State, View, state_of, access_places}
 use Rattle.process_table.specs.declared.places.Places.{Places}
-use Rattle.process_table.proofs.Keeping.{whole-access}
-use Rattle.process_table.proofs.Placed.{has_place, placed_second}
-use Rattle.process_table.proofs.SharingLaws.{touched_user}
+use Rattle.process_table.proofs.Lemmas.{whole-access, has_place, placed_second, touched_user}
 use Rattle.process_table.proofs.processes.Processes.access_at.Goals as goal
 
 pub unwrap-first-requires : goal.unwrap-first-requires

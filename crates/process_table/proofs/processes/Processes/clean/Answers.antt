@@ -1,7 +1,5 @@
 use Rattle.process_table.proofs.Prelude.{◌≡◌, refl, sym, subst, ap, ◌∙◌, length, true, Spaces, cost, at_page, cost-same, kept, State, is_mapped, View, state_of}
-use Rattle.process_table.proofs.Charged.{charged-same}
-use Rattle.process_table.proofs.Keeping.{whole}
-use Rattle.process_table.proofs.SpaceLaws.{cleaned_state, well_formed-cleaned}
+use Rattle.process_table.proofs.Lemmas.{charged-same, whole, cleaned_state, well_formed-cleaned}
 use Rattle.process_table.proofs.processes.Processes.clean.Goals as goal
 
 pub invariant_of-self : goal.invariant_of-self

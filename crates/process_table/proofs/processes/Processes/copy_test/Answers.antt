@@ -1,6 +1,5 @@
 use Rattle.process_table.proofs.Prelude.{arith}
-use Rattle.process_table.proofs.Charged.{used-container}
-use Rattle.process_table.proofs.Forks.{fork-by}
+use Rattle.process_table.proofs.Lemmas.{used-container, fork-by}
 use Rattle.process_table.proofs.processes.Processes.copy_test.Goals as goal
 
 pub returns-clause-copy : goal.returns-clause-copy

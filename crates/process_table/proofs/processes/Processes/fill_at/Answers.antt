@@ -1,7 +1,5 @@
 use Rattle.process_table.proofs.Prelude.{arith, refl, ap, State, state_of, cost}
-use Rattle.process_table.proofs.Charged.{charged-same}
-use Rattle.process_table.proofs.Keeping.{whole}
-use Rattle.process_table.proofs.SharingLaws.{mapped_user}
+use Rattle.process_table.proofs.Lemmas.{charged-same, whole, mapped_user}
 use Rattle.process_table.proofs.processes.Processes.fill_at.Goals as goal
 
 pub fill_at-requires-clause-user : goal.fill_at-requires-clause-user

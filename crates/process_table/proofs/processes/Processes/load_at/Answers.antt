@@ -1,6 +1,5 @@
 use Rattle.process_table.proofs.Prelude.{arith, ◌≡◌, ◌∙◌, ap, sym, subst, length, true, cost, slot_at, cost-accessed_of, State, is_mapped, View, state_of, load_in_page}
-use Rattle.process_table.proofs.Charged.{charged-same}
-use Rattle.process_table.proofs.SpaceLaws.{well_formed-read_at}
+use Rattle.process_table.proofs.Lemmas.{charged-same, well_formed-read_at}
 use Rattle.process_table.proofs.processes.Processes.load_at.Goals as goal
 
 pub invariant_of-self : goal.invariant_of-self

@@ -1,8 +1,5 @@
 use Rattle.process_table.proofs.Prelude.{rules, arith, refl, sym, subst, ap, ◌+◌, ◌∙◌, IsOk, Slot, cost, need, fresh, at_page, cost-insert, used_of, State, map_answer, after_map, map_refusal, View, IsProcesses, state_of, cost-insert_other}
-use Rattle.process_table.proofs.Charged.{charged-one}
-use Rattle.process_table.proofs.Keeping.{whole, keeps-map}
-use Rattle.process_table.proofs.SpaceLaws.{new_fits}
-use Rattle.process_table.proofs.Refusals.{no_cause, may_map}
+use Rattle.process_table.proofs.Lemmas.{charged-one, whole, keeps-map, new_fits, no_cause, may_map}
 use Rattle.process_table.proofs.processes.Processes.map_at.Goals as goal
 
 pub invariant_of-self : goal.invariant_of-self

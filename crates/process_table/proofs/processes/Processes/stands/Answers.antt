@@ -1,7 +1,6 @@
 use Rattle.process_table.proofs.Prelude.{arith, subst, IsWellFormed, memory_of, View}
 use Rattle.address_space.specs.Walks.{WalksAgree}
-use Rattle.process_table.proofs.ImageStanding.{image_stands}
-use Rattle.process_table.proofs.Ranges.{total-book}
+use Rattle.process_table.proofs.Lemmas.{image_stands, total-book}
 use Rattle.process_table.proofs.processes.Processes.stands.Goals as goal
 
 pub returns-clause-image : goal.returns-clause-image

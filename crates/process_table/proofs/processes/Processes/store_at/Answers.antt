@@ -1,7 +1,5 @@
 use Rattle.process_table.proofs.Prelude.{arith, ◌≡◌, ◌∙◌, ap, sym, subst, length, true, offset_number, byte_count, image_of, takes_stores, cost, slot_at, bytes_of, cost-stored_of, memory_of, State, View, state_of, IsWellFormed, store_in_page}
-use Rattle.process_table.proofs.Charged.{charged-same}
-use Rattle.process_table.proofs.Keeping.{keeps-store_in_page}
-use Rattle.process_table.proofs.Placed.{takes_mapped, takes_real}
+use Rattle.process_table.proofs.Lemmas.{charged-same, keeps-store_in_page, takes_mapped, takes_real}
 use Rattle.process_table.proofs.processes.Processes.store_at.Goals as goal
 
 pub store_at-requires-clause-mapped : goal.store_at-requires-clause-mapped

@@ -1,6 +1,5 @@
 use Rattle.process_table.proofs.Prelude.{arith, rules, refl, sym, subst, ◌∙◌, IsOk, State, exit_answer, after_exit, View, IsProcesses, state_of, image_of, memory_of, LooseStay}
-use Rattle.process_table.proofs.Charged.{charged-exit}
-use Rattle.process_table.proofs.Keeping.{whole, keeps-exit}
+use Rattle.process_table.proofs.Lemmas.{charged-exit, whole, keeps-exit}
 use Rattle.process_table.proofs.processes.Processes.try_exit.Goals as goal
 
 pub invariant_of-self : goal.invariant_of-self

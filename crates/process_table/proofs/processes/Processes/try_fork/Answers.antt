@@ -1,6 +1,5 @@
 use Rattle.process_table.proofs.Prelude.{◌≡◌, ◌≢◌, ◌≤◌, ◌<◌, ◌+◌, ℕ, Ok, refl, ap, sym, subst, ◌∙◌, is_some, length, arith, no_value, image_of, is_lazy_at, cost, at_page, copied, directory_of, total_cost, cost-copied, cost-copied_other, quota_of, Containers, IsLive, total_used, used_of, split_answer, after_split, with_used, after_fork, memory_of, State, fork_answer, View, IsProcesses, state_of, stays_then}
-use Rattle.process_table.proofs.Forks.{may_fork, fork-ok, fork-spawns, well_formed-fork}
-use Rattle.process_table.proofs.Keeping.{whole}
+use Rattle.process_table.proofs.Lemmas.{may_fork, fork-ok, fork-spawns, well_formed-fork, whole}
 use Rattle.process_table.proofs.Spawns.{spawn-may, child-is, child-absent, child-has_none, nothing-mapped, room-child, charged-child, used-before}
 use Rattle.page_words.specs.FiniteMap as map
 use Rattle.address_space.specs.View as frames

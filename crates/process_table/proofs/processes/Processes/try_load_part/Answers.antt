@@ -1,6 +1,5 @@
 use Rattle.process_table.proofs.Prelude.{arith, cost-accessed_of}
-use Rattle.process_table.proofs.Charged.{charged-same}
-use Rattle.process_table.proofs.SpaceLaws.{well_formed-read_at}
+use Rattle.process_table.proofs.Lemmas.{charged-same, well_formed-read_at}
 use Rattle.process_table.proofs.processes.Processes.try_load_part.Goals as goal
 
 pub invariant_of-self : goal.invariant_of-self

@@ -1,6 +1,5 @@
 use Rattle.process_table.proofs.Prelude.{◌≡◌, refl, sym, subst, ◌∙◌, None, State, View, after_offer, offer_refusal, state_of}
-use Rattle.process_table.proofs.Keeping.{whole}
-use Rattle.process_table.proofs.SharingLaws.{well_formed-offer}
+use Rattle.process_table.proofs.Lemmas.{whole, well_formed-offer}
 use Rattle.process_table.proofs.processes.Processes.try_offer.Goals as goal
 
 pub invariant_of-self : goal.invariant_of-self

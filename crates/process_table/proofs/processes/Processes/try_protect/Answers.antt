@@ -1,8 +1,5 @@
 use Rattle.process_table.proofs.Prelude.{refl, sym, subst, ap, ◌∙◌, length, ◌≡◌, None, first_cause, State, cost, at_page, after_protect, protect_refusal, View, state_of, cost-protected_of, is_ok}
-use Rattle.process_table.proofs.Charged.{charged-same}
-use Rattle.process_table.proofs.Keeping.{whole}
-use Rattle.process_table.proofs.Refusals.{may_be, may_protect}
-use Rattle.process_table.proofs.SharingLaws.{well_formed-protect}
+use Rattle.process_table.proofs.Lemmas.{charged-same, whole, may_be, may_protect, well_formed-protect}
 use Rattle.process_table.proofs.processes.Processes.try_protect.Goals as goal
 
 pub invariant_of-self : goal.invariant_of-self

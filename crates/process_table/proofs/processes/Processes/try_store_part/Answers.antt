@@ -1,6 +1,5 @@
 use Rattle.process_table.proofs.Prelude.{◌≡◌, ◌∙◌, ap, sym, subst, refl, Bool, true, false, length, arith, and_parts, offset_number, cost, slot_at, cost-stored_of, State, is_mapped, IsWhole, state_of, IsWellFormed, get_or_default}
-use Rattle.process_table.proofs.Charged.{charged-same}
-use Rattle.process_table.proofs.SpaceLaws.{well_formed-part}
+use Rattle.process_table.proofs.Lemmas.{charged-same, well_formed-part}
 use Rattle.address_space.specs.View as frames
 use Rattle.process_table.proofs.processes.Processes.try_store_part.Goals as goal
 

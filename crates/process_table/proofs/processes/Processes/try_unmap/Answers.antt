@@ -1,8 +1,5 @@
 use Rattle.process_table.proofs.Prelude.{rules, ◌≡◌, ℕ, ◌+◌, ◌-◌, sym, subst, ap, ◌∙◌, arith, ne_eqb, cost, without, is_slot, at_page, cost-without_other, used_of, State, after_unmap, unmap_refusal, View, IsProcesses, state_of, image_of, memory_of, slot_of_process, first_cause, None, LooseStay, is_ok}
-use Rattle.process_table.proofs.BookLaws.{well_formed-unmap}
-use Rattle.process_table.proofs.Charged.{charged-one}
-use Rattle.process_table.proofs.Keeping.{whole}
-use Rattle.process_table.proofs.Refusals.{may_be}
+use Rattle.process_table.proofs.Lemmas.{well_formed-unmap, charged-one, whole, may_be}
 use Rattle.process_table.proofs.processes.Processes.try_unmap.Goals as goal
 
 less : (u k n m : ℕ) → u ≡ n → m + k ≡ n → u - k ≡ m

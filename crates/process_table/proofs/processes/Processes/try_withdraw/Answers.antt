@@ -1,6 +1,5 @@
 use Rattle.process_table.proofs.Prelude.{rules, refl, State, after_withdraw, state_of}
-use Rattle.process_table.proofs.Keeping.{whole}
-use Rattle.process_table.proofs.SharingLaws.{well_formed-withdraw}
+use Rattle.process_table.proofs.Lemmas.{whole, well_formed-withdraw}
 use Rattle.process_table.proofs.processes.Processes.try_withdraw.Goals as goal
 
 pub invariant_of-self-2 : goal.invariant_of-self-2
