@@ -1,6 +1,5 @@
 -- A process and all that descend from it exit, children first.
-use Rattle.kernel_acts.proofs.Prelude
-use Prelude.{◌≡◌, ◌≢◌, ℕ, ◌≤◌, Bool, true, false, cond, not, ◌&&◌, ◌||◌, ◌==◌, List, [], ◌∷◌, ◌++◌, refl, sym, ap, subst, ◌∙◌, is_some, Option, Some, None, unwrap_or, arith, inl, inr, ◌⊎◌, if◌then◌else◌, option_map, ne_eqb, map-append, list_any-append, Set, same_map, same_set, get-retain_keys, contains-retain, some_value, get-remove, get-remove_other, Slot, slot_order, Cell, Spaces, without, with_holders, is_of, left, get-without, Member, is_child, given, quota_of, number_of_children, given-remove, without_process, State, is_live, after_exit, View, IsWellFormed, exit_of, exits, Descends, itself, child, ungrouped, EndsFamily, is_child_of, answer, answers, next, end_of, completes, ended_by, CarriesOut, EndAlong, Event, Ended, eqb-true, eq-eqb, or-true, and-true, or-false, all_done, is_among, ChildrenFirst, without_processes, unsigned_tied, next-goes, answers-append, end_of-append}
+use Rattle.kernel_acts.proofs.Prelude.{◌≡◌, ◌≢◌, ℕ, ◌≤◌, Bool, true, false, cond, not, ◌&&◌, ◌||◌, ◌==◌, List, [], ◌∷◌, ◌++◌, refl, sym, ap, subst, ◌∙◌, is_some, Option, Some, None, unwrap_or, arith, inl, inr, ◌⊎◌, if◌then◌else◌, option_map, ne_eqb, map-append, list_any-append, Set, same_map, same_set, get-retain_keys, contains-retain, some_value, get-remove, get-remove_other, Slot, slot_order, Cell, Spaces, without, with_holders, is_of, left, get-without, Member, is_child, given, quota_of, number_of_children, given-remove, without_process, State, is_live, after_exit, View, IsWellFormed, exit_of, exits, Descends, itself, child, ungrouped, EndsFamily, is_child_of, answer, answers, next, end_of, completes, ended_by, CarriesOut, EndAlong, Event, Ended, eqb-true, eq-eqb, or-true, and-true, or-false, all_done, is_among, ChildrenFirst, without_processes, unsigned_tied, next-goes, answers-append, end_of-append}
 use Rattle.kernel_acts.proofs.Members.{child_entry, quota_below}
 use Rattle.kernel_calls.proofs.SeenTogether.{no_parent}
 use Rattle.page_words.specs.FiniteMap as map
