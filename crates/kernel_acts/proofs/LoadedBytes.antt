@@ -6,14 +6,16 @@ use Rattle.page_words.specs.FiniteSet as set
 -- ---- Lists
 
 pub written_inside : (xs new : List ℕ) (at k : ℕ) → at ≤ length xs → k < length new → slice_index (write_at xs at new) (at + k) ≡ slice_index new k
-written_inside xs new at k long few = grind (arith, length-take-le, length-append, get_or_append_left, get_or-append-add)
+written_inside xs new at k long few =
+    grind (arith, length-take-le, length-append, get_or_append_left, get_or-append-add)
 
 -- a place outside of these
 abbrev pub Outside : ℕ → ℕ → ℕ → Type 0
 Outside at count place = (place < at) ⊎ (at + count ≤ place)
 
 pub written_outside : (xs new : List ℕ) (at place : ℕ) → at ≤ length xs → Outside at (length new) place → slice_index (write_at xs at new) place ≡ slice_index xs place
-written_outside xs new at place long x5 = grind (arith, length-take-le, length-append, get_or_append_left, get_or-take, get_or-append_right, get_or-drop)
+written_outside xs new at place long x5 =
+    grind (arith, length-take-le, length-append, get_or_append_left, get_or-take, get_or-append_right, get_or-drop)
 
 -- ---- A slot after an install
 

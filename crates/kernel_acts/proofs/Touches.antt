@@ -142,7 +142,19 @@ record Wrote (v w : View) (p a : ℕ) : Type 0 where
 
 wrote : (v w : View) (p a b : ℕ) → IsCore v → IsCore w → completes (answer v.state (store_byte p a b)) ≡ true → w.state ≡ next v.state (store_byte p a b)
     → b % 256 ≡ byte_at v.state.spaces p a → Wrote v w p a
-wrote v w p a b now later done state same = grind (arith, first_stored, takes_here, stored_state, stored-flags, bytes_in, own_same, finds_here, stored_alike, same_cells)
+wrote v w p a b now later done state same =
+    grind (
+      arith,
+      first_stored,
+      takes_here,
+      stored_state,
+      stored-flags,
+      bytes_in,
+      own_same,
+      finds_here,
+      stored_alike,
+      same_cells,
+    )
 
 -- ---- A page that takes stores is marked
 
@@ -198,7 +210,8 @@ marks_touch v w p a now later live user taken after stay =
 -- a lazy page has zeros
 lazy_zero : (v : View) → IsCore v → frame_bytes v.bytes 0 ≡ zeros → (p a : ℕ) → IsUserPage (page_number a) → is_mapped v.state (slot_at p a) ≡ true → is_lazy_at (memory_of v) (slot_at p a) ≡ true
     → bytes_in v.state.spaces (slot_at p a) ≡ zeros
-lazy_zero v now zero_frame p a user there lazy = grind (arith, mapped_way, way_parts, some_value, ways_of, walks_of, nat_tests)
+lazy_zero v now zero_frame p a user there lazy =
+    grind (arith, mapped_way, way_parts, some_value, ways_of, walks_of, nat_tests)
 
 -- where a store completes in such a page, the byte there is 0
 byte_zero : (v : View) → IsCore v → frame_bytes v.bytes 0 ≡ zeros → (p a : ℕ) → TakesNoStore v p a → completes (answer v.state (store_byte p a 0)) ≡ true → byte_at v.state.spaces p a ≡ 0

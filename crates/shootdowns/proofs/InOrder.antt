@@ -1,6 +1,5 @@
 -- Steps of windows are events in an order.
-use Rattle.shootdowns.proofs.Prelude
-use Prelude.{◌≡◌, ◌≢◌, ℕ, arith, true, false, List, [], ◌∷◌, length, refl, ap, sym, ◌∙◌, subst, Option, Some, None, ◌⊎◌, slice_get, option_map, slice_get_within, same_map, frame_number, frame_bytes, frames-with_word, with_frame-other, Role, Free, Directory, Page, page_word, directory_of, Slot, Cell, Spaces, with_bytes, memory_of, State, View, IsWellFormed, answers, next, end_of, IsCore, Processors, with_kept, AllAreRead, AreAmong, IsWalked, IsMarked, Kept, IsRead, AreRead, Ends, ended_by, left_by, Event, Reply, Ended, left_read, walks_leave_cores, marks_leave_cores, among_read, read_with, one, kept-next, only_takes, Acknowledged, nobody, usable, Moment, acknowledged, ended_in, settled, under_way, Step, begun, loaded, walked, marked, ordered, usual, refilled, forgotten, invalidated, told, Steps, none, first, memory_in, state_of, Stands, ShootdownsMakeEvents, stored_clean}
+use Rattle.shootdowns.proofs.Prelude.{◌≡◌, ◌≢◌, ℕ, arith, true, false, List, [], ◌∷◌, length, refl, ap, sym, ◌∙◌, subst, Option, Some, None, ◌⊎◌, slice_get, option_map, slice_get_within, same_map, frame_number, frame_bytes, frames-with_word, with_frame-other, Role, Free, Directory, Page, page_word, directory_of, Slot, Cell, Spaces, with_bytes, memory_of, State, View, IsWellFormed, answers, next, end_of, IsCore, Processors, with_kept, AllAreRead, AreAmong, IsWalked, IsMarked, Kept, IsRead, AreRead, Ends, ended_by, left_by, Event, Reply, Ended, left_read, walks_leave_cores, marks_leave_cores, among_read, read_with, one, kept-next, only_takes, Acknowledged, nobody, usable, Moment, acknowledged, ended_in, settled, under_way, Step, begun, loaded, walked, marked, ordered, usual, refilled, forgotten, invalidated, told, Steps, none, first, memory_in, state_of, Stands, ShootdownsMakeEvents, stored_clean}
 use Rattle.std.specs.Prelude.{◌*◌, is_some}
 use Rattle.shootdowns.specs.Windows.{stored}
 use Rattle.shootdowns.proofs.Accesses.{frame_at}
@@ -151,8 +150,7 @@ more_kept (under_way x done e r s w) keeps i k read good = record {
 
 -- a processor invalidates
 same_state : (m : Moment) (i : ℕ) → state_of (acknowledged m i) ≡ state_of m
-same_state (settled x done w) i = refl
-same_state (under_way x done e r s w) i = refl
+same_state x0 i = grind arith
 
 done_kept : (m : Moment) (keeps : Processors) (i : ℕ) → Good m keeps → Good (acknowledged m i) (with_kept keeps i (left_by (ended_in m) (keeps i)))
 done_kept (settled x done w) keeps i good = record {
