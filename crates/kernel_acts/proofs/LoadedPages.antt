@@ -143,8 +143,7 @@ installed_keys s p a part true = filled_keys s.spaces p a part
 installed_keys s p a part false = closed_keys s.spaces p a part
 
 pub installed_book : (s : State) (p a : ℕ) (part : List ℕ) (write : Bool) → (installed s p a part write).book ≡ s.book
-installed_book s p a part true = refl
-installed_book s p a part false = refl
+installed_book s p a part x4 = grind arith
 
 -- ---- What a process may do
 
@@ -174,8 +173,7 @@ installed_may s p a part false page =
     ∙ may_stored (protected s.spaces (slot_at p a) true) (slot_at p a) (offset_number a) part (at_page p page) ∙ may_protected s.spaces (slot_at p a) true (at_page p page)
 
 all_same : (f g : ℕ → Bool) → ((x : ℕ) → f x ≡ g x) → (xs : List ℕ) → list_all f xs ≡ list_all g xs
-all_same f g is [] = refl
-all_same f g is (x ∷ xs) = λ i. is x i && all_same f g is xs i
+all_same f g is x3 = grind arith
 
 -- ---- The first page, and the others once it is installed
 

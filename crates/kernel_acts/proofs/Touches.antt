@@ -199,8 +199,7 @@ marks_touch v w p a now later live user taken after stay =
     }
   where
     one_small : (b : ℕ) → b < 256 → (i : ℕ) → slice_index (b ∷ []) i < 256
-    one_small b small zero = small
-    one_small b small (suc i) = grind arith
+    one_small b small x2 = grind arith
 
     carried_one : (s : State) (e : Event) → carried s (e ∷ []) ≡ e ∷ [] → completes (answer s e) ≡ true
     carried_one s e h = grind arith

@@ -258,8 +258,7 @@ taken_stores v t p a bytes live user taken some fits small after =
 
 -- the first byte, which was stored by a call, and the others
 pub first_stores : (s t u : State) (p a : ℕ) (part rest : List ℕ) → FirstStored s t p a (slice_index part 0) → 0 < length part → rest ≡ drop 1 part → AreStored t p (a + 1) rest u → AreStored s p a part u
-first_stores s t u p a [] rest f some is stored = absurd (omega (arith, some))
-first_stores s t u p a (b ∷ bytes) rest f some is stored = grind (arith, stored-first)
+first_stores s t u p a x5 rest f some is stored = grind (arith, stored-first)
 
 -- the page takes the others
 pub record RestTaken (v : View) (p a : ℕ) : Type 0 where
