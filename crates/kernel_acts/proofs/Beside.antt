@@ -1,6 +1,5 @@
 -- Two slots of one group lead to one frame.
-use Rattle.kernel_acts.proofs.Prelude
-use Prelude.{◌≡◌, ◌<◌, ◌≤◌, ◌+◌, ◌*◌, ◌^◌, ℕ, [], length, Err, inl, inr, arith, Bool, true, false, not, ◌&&◌, ◌==◌, refl, sym, ap, subst, ◌∙◌, is_some, Option, Some, None, unwrap_or, Ok, ◌↔◌, IsTrue, MatchBool, ◌⊎◌, option_map, option_and_then, cases_lt, page_number, start_number, IsUserPage, frame_bytes, frame_past, walk_of, Read, is_lazy_at, directory_at, page_word, page_frame, CellStands, Slot, slot_order, Cell, is_slot, at_page, slot_at, way_of, IsCore, WalkEndsBy, way_parts, owned, own_is, memory_of, State, is_mapped, View, IsWellFormed, same_itself, shares, Leads, is_beside, eqb-true, eq-eqb, walks_of, ways_of, way_mapped}
+use Rattle.kernel_acts.proofs.Prelude.{◌≡◌, ◌<◌, ◌≤◌, ◌+◌, ◌*◌, ◌^◌, ℕ, [], length, Err, inl, inr, arith, Bool, true, false, not, ◌&&◌, ◌==◌, refl, sym, ap, subst, ◌∙◌, is_some, Option, Some, None, unwrap_or, Ok, ◌↔◌, IsTrue, MatchBool, ◌⊎◌, option_map, option_and_then, cases_lt, page_number, start_number, IsUserPage, frame_bytes, frame_past, walk_of, Read, is_lazy_at, directory_at, page_word, page_frame, CellStands, Slot, slot_order, Cell, is_slot, at_page, slot_at, way_of, IsCore, WalkEndsBy, way_parts, owned, own_is, memory_of, State, is_mapped, View, IsWellFormed, same_itself, shares, Leads, is_beside, eqb-true, eq-eqb, walks_of, ways_of, way_mapped}
 use Rattle.table_walk.specs.declared.WalkEnd.{WalkEnd}
 use Rattle.page_words.specs.FiniteMap as map
 use Rattle.page_words.specs.FiniteSet as set

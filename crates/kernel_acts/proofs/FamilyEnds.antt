@@ -1,6 +1,5 @@
 -- A process and all that descend from it exit, children first.
-use Rattle.kernel_acts.proofs.Prelude
-use Prelude.{◌≡◌, ◌≢◌, ℕ, ◌≤◌, Bool, true, false, cond, not, ◌&&◌, ◌||◌, ◌==◌, List, [], ◌∷◌, ◌++◌, refl, sym, ap, subst, ◌∙◌, is_some, Option, Some, None, unwrap_or, arith, inl, inr, ◌⊎◌, if◌then◌else◌, option_map, ne_eqb, map-append, list_any-append, Set, same_map, same_set, get-retain_keys, contains-retain, some_value, get-remove, get-remove_other, Slot, slot_order, Cell, Spaces, without, with_holders, is_of, left, get-without, Member, is_child, given, quota_of, number_of_children, given-remove, without_process, State, is_live, after_exit, View, IsWellFormed, exit_of, exits, Descends, itself, child, ungrouped, EndsFamily, is_child_of, answer, answers, next, end_of, completes, ended_by, CarriesOut, EndAlong, Event, Ended, eqb-true, eq-eqb, or-true, and-true, or-false, all_done, is_among, ChildrenFirst, without_processes, unsigned_tied, next-goes, answers-append, end_of-append}
+use Rattle.kernel_acts.proofs.Prelude.{◌≡◌, ◌≢◌, ℕ, ◌≤◌, Bool, true, false, cond, not, ◌&&◌, ◌||◌, ◌==◌, List, [], ◌∷◌, ◌++◌, refl, sym, ap, subst, ◌∙◌, is_some, Option, Some, None, unwrap_or, arith, inl, inr, ◌⊎◌, if◌then◌else◌, option_map, ne_eqb, map-append, list_any-append, Set, same_map, same_set, get-retain_keys, contains-retain, some_value, get-remove, get-remove_other, Slot, slot_order, Cell, Spaces, without, with_holders, is_of, left, get-without, Member, is_child, given, quota_of, number_of_children, given-remove, without_process, State, is_live, after_exit, View, IsWellFormed, exit_of, exits, Descends, itself, child, ungrouped, EndsFamily, is_child_of, answer, answers, next, end_of, completes, ended_by, CarriesOut, EndAlong, Event, Ended, eqb-true, eq-eqb, or-true, and-true, or-false, all_done, is_among, ChildrenFirst, without_processes, unsigned_tied, next-goes, answers-append, end_of-append}
 use Rattle.kernel_acts.proofs.Members.{child_entry, quota_below}
 use Rattle.kernel_calls.proofs.Births.{no_parent}
 use Rattle.page_words.specs.FiniteMap as map
@@ -17,12 +16,10 @@ descends_up up itself = itself
 descends_up up (child {q = a} {r = b} d c) = child {q = a} {r = b} (descends_up up d) (up a b c)
 
 pub descends_not_root : {s : State} {p q : ℕ} → p ≢ 0 → Descends s p q → q ≢ 0
-descends_not_root n itself = n
-descends_not_root {s} n (child {q = a} {r = b} d c) = (child_entry s a b c).not_root
+descends_not_root x0 x1 = grind (arith, child_entry)
 
 pub descends_live : {s : State} {p q : ℕ} → is_live s p ≡ true → Descends s p q → is_live s q ≡ true
-descends_live live itself = live
-descends_live {s} live (child {q = a} {r = b} d c) = ap is_some (child_entry s a b c).at
+descends_live x0 x1 = grind (arith, child_entry)
 
 pub descends_quota : {s : State} {p q : ℕ} → IsWellFormed s → Descends s p q → quota_of s.book q ≤ quota_of s.book p
 descends_quota w itself = omega arith
@@ -30,8 +27,7 @@ descends_quota {s} w (child {q = a} {r = b} d c) = grind (arith, (quota_below s 
 
 -- the parent of a descendant descends too
 pub descends_parent : {s : State} {p q : ℕ} → q ≢ p → (m : Member) → map.get s.book q ≡ Some m → Descends s p q → Descends s p m.parent
-descends_parent n m at itself = absurd (n refl)
-descends_parent {s} {p} n m at (child {q = a} {r = b} d c) = grind arith
+descends_parent x0 x1 x2 x3 = grind arith
 
 -- from who has no child nobody else descends
 pub descends_alone : {s : State} {p q : ℕ} → ((r : ℕ) → is_child_of s p r ≡ false) → Descends s p q → q ≡ p
@@ -266,8 +262,7 @@ ending_more s t p a order w u x apart below none done = record {
 -- and then its parent descends from p still
 pub parent_below : (t : State) (p a : ℕ) (m : Member) → map.get t.book a ≡ Some m → a ≢ p → a ≢ 0 → Descends t p a
     → ((r : ℕ) → is_child_of t a r ≡ false) → answer t (exit_of a) ≡ reply.Done → Descends (next t (exit_of a)) p m.parent
-parent_below t p a m at apart not_root below none done =
-    grind (arith, descends_less, exit_after, descends_parent, ne_eqb, eq-eqb)
+parent_below t p a m at apart not_root below x8 done = grind (arith, descends_less, exit_after, descends_parent, ne_eqb)
 
 -- after p itself
 pub ending_last : (s t : State) (p : ℕ) (order : List ℕ) → IsWellFormed s → IsWellFormed t → Ending s p order t

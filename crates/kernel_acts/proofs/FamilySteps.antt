@@ -1,6 +1,5 @@
 -- The loop that ends a family: one Exit more, and the last.
-use Rattle.kernel_acts.proofs.Prelude
-use Prelude.{◌≡◌, ◌≢◌, ℕ, ◌+◌, ◌<◌, ◌≤◌, length, take, set, true, false, List, [], ◌∷◌, ◌++◌, sym, ap, subst, ◌∙◌, Some, arith, take_more_set, map-append, Member, State, is_live, View, IsWellFormed, exit_of, exits, Descends, EndsFamily, is_child_of, answer, next, ended_by, CarriesOut, EndAlong, Event, Ended, spaces_of_all}
+use Rattle.kernel_acts.proofs.Prelude.{◌≡◌, ◌≢◌, ℕ, ◌+◌, ◌<◌, ◌≤◌, length, take, set, true, false, List, [], ◌∷◌, ◌++◌, sym, ap, subst, ◌∙◌, Some, arith, take_more_set, map-append, Member, State, is_live, View, IsWellFormed, exit_of, exits, Descends, EndsFamily, is_child_of, answer, next, ended_by, CarriesOut, EndAlong, Ended, spaces_of_all}
 use Rattle.kernel_acts.proofs.FamilyEnds.{Ending, ending_more, ending_last, parent_below, descends_then, descends_live, descends_not_root, exit_after, along_more}
 use Rattle.kernel_acts.proofs.Members.{len_removed}
 use Rattle.page_words.specs.FiniteMap as map
@@ -41,11 +40,7 @@ module _ (v w u : View) (p at count leaf : ℕ) (list : List ℕ) (not_root : p 
   more = take_more_set list count leaf within
 
   along : EndAlong (exits (take (count + 1) (set list count leaf))) (spaces_of_all (take (count + 1) (set list count leaf))) v u
-  along =
-      subst (λ (o : List ℕ). EndAlong (exits o) (spaces_of_all o) v u) (sym more)
-      (subst (λ (es : List Event). EndAlong es (spaces_of_all (take count list ++ leaf ∷ [])) v u) (sym (map-append exit_of (take count list) (leaf ∷ [])))
-      (subst (λ (xs : List Ended). EndAlong (exits (take count list) ++ exit_of leaf ∷ []) xs v u) (sym (map-append end.Space (take count list) (leaf ∷ [])))
-      (along_more (exits (take count list)) (spaces_of_all (take count list)) v w u (exit_of leaf) (end.Space leaf) g.along l.ended l.carried)))
+  along = grind (arith, more, map-append, along_more)
 
   less : map.len u.state.book + 1 ≡ map.len w.state.book
   less = one_less w u leaf (descends_live g.ending.live below) l.state l.done

@@ -1,6 +1,5 @@
 -- Which frames an event may write, by their roles.
-use Rattle.kernel_acts.proofs.Prelude
-use Prelude.{◌≡◌, ℕ, ◌+◌, ◌≤◌, ◌<◌, ◌==◌, ◌&&◌, Bool, false, not, refl, sym, ap, subst, ◌∙◌, Some, inl, inr, arith, ◌⊎◌, ◌↔◌, IsTrue, slice_get, cases_lt, eqb-true, eq-eqb, same_Some, slot_number, Reserved, Free, Directory, Table, Page, directory_at, table_at, page_frame, is_lazy_at, Slot, at_page, way_of, owned, own_is, memory_of, is_mapped, View, both_true, IsCore, Event}
+use Rattle.kernel_acts.proofs.Prelude.{◌≡◌, ℕ, ◌+◌, ◌≤◌, ◌<◌, ◌==◌, ◌&&◌, Bool, false, not, refl, sym, ap, subst, ◌∙◌, Some, inl, inr, arith, ◌⊎◌, ◌↔◌, IsTrue, slice_get, cases_lt, eqb-true, eq-eqb, same_Some, slot_number, Reserved, Free, Directory, Table, Page, directory_at, table_at, page_frame, is_lazy_at, Slot, at_page, way_of, owned, own_is, memory_of, is_mapped, View, both_true, IsCore, Event}
 use Rattle.kernel_calls.specs.Written.{TakesLazy, MayWrite}
 use Rattle.kernel_acts.proofs.Beside.{led}
 use Rattle.kernel_calls.proofs.Writings.{unmapped_slot}
@@ -29,11 +28,7 @@ module _ (v : View) (e : Event) (f : ℕ) (sound : memory.IsSoundImage (memory_o
   can_be r is (inr (inl (inr (inr page)))) =
       let role = sound.pages (at_page e.pid page.0) f page.1 in
       other_role (Page role.0) r role.1 is page
-  can_be r is (inr (inr taken)) = by taken.leads
-    where
-      by : ((directory_at (memory_of v) taken.giver ≡ Some f) ⊎ (table_at (memory_of v) taken.giver taken.region ≡ Some f)) → CanBe v e f r
-      by (inl directory) = other_role (Directory taken.giver) r ((sound.directories f taken.giver).1 directory) is (inr (taken.region, taken.takes))
-      by (inr table) = other_role (Table taken.giver taken.region) r ((sound.tables f taken.giver taken.region).1 table) is (inr taken.takes)
+  can_be r is (inr (inr taken)) = grind (arith, other_role)
 
   may_be : (r : Role) → slice_get v.roles f ≡ Some r → CanBe v e f r → MayWrite v e f
   may_be Reserved is h = absurd h

@@ -1,6 +1,5 @@
 -- The places of a list that are behind a number of them.
-use Rattle.kernel_acts.proofs.Prelude
-use Prelude.{◌≡◌, ℕ, ◌+◌, ◌≤◌, ◌-◌, ◌∙◌, ◌++◌, Bool, refl, sym, ap, List, [], ◌∷◌, map, filter, drop, set, arith, if◌then◌else◌, range_with_len, drop-set-lt, drop-drop}
+use Rattle.kernel_acts.proofs.Prelude.{◌≡◌, ℕ, ◌+◌, ◌≤◌, ◌-◌, ◌∙◌, ◌++◌, Bool, refl, sym, ap, List, [], ◌∷◌, map, filter, drop, set, arith, if◌then◌else◌, range_with_len, drop-set-lt, drop-drop}
 use Rattle.std.proofs.lemmas.List.FromFn.{filter_of_map_range_with_len_more}
 
 -- they stay, where one place more is used

@@ -1,6 +1,5 @@
 -- What the pages of a load cost together: each is counted once those before it are mapped.
-use Rattle.kernel_acts.proofs.Prelude
-use Prelude.{◌≡◌, ◌≢◌, ℕ, zero, suc, ◌+◌, ◌-◌, ◌<◌, ◌≤◌, ◌==◌, ◌&&◌, Bool, true, false, not, List, [], ◌∷◌, ◌++◌, append_assoc, refl, sym, ap, ◌∙◌, arith, if◌then◌else◌, range_with_len, eqb-true, eq-eqb, append-nil, page_number, slot_number, offset_number, nat_order, range_split, Spaces, at_page, fresh, cost, regions_of, need, page_need, with_page, with_pages, kept, cost-with_page, need-beside, State, extra_cost, get-inserted_other, pages_under}
+use Rattle.kernel_acts.proofs.Prelude.{◌≡◌, ◌≢◌, ℕ, zero, suc, ◌+◌, ◌-◌, ◌<◌, ◌≤◌, ◌==◌, ◌&&◌, Bool, true, false, not, List, [], ◌∷◌, ◌++◌, append_assoc, refl, sym, ap, ◌∙◌, arith, if◌then◌else◌, range_with_len, eqb-true, eq-eqb, append-nil, page_number, slot_number, offset_number, nat_order, range_split, Spaces, at_page, fresh, cost, regions_of, need, page_need, with_page, with_pages, kept, cost-with_page, need-beside, State, extra_cost, get-inserted_other, pages_under}
 use Rattle.kernel_acts.proofs.LoadedPages.{pages_more}
 use Rattle.page_words.specs.FiniteMap as map
 use Rattle.page_words.specs.FiniteSet as set
@@ -47,12 +46,7 @@ need_far S p f (suc k) y h ends =
     need_far (with_page S p f) p (f + 1) k y (omega (arith, h)) ends ∙ need_apart S p f y (region_ends f y (omega (arith, h)) ends)
 
 need_close : (S : Spaces) (p f k y : ℕ) → y ≡ f + suc k → (slot_number (y - 1) == slot_number y) ≡ true → need (with_pages S p (range_with_len f (suc k))) p y ≡ 1
-need_close S p f k y here one =
-    let long : suc k ≡ k + 1 = omega arith in
-    let x : y - 1 ≡ f + k = omega (arith, here) in
-    ap (λ n. need (with_pages S p (range_with_len f n)) p y) long
-    ∙ ap (λ xs. need (with_pages S p xs) p y) (range_split f k 1) ∙ ap (λ (T : Spaces). need T p y) (with_pages-append S p (range_with_len f k) ((f + k) ∷ []))
-    ∙ need_together (with_pages S p (range_with_len f k)) p (f + k) y (ap (λ n. slot_number n == slot_number y) (sym x) ∙ one)
+need_close S p f k y here one = grind (arith, range_split, with_pages-append, need_together)
 
 -- what it costs in addition
 abbrev pub behind : Spaces → ℕ → ℕ → Bool → ℕ

@@ -1,6 +1,5 @@
 -- The loop that loads page by page: one page more.
-use Rattle.kernel_acts.proofs.Prelude
-use Prelude.{◌≡◌, ◌≢◌, ℕ, ◌+◌, ◌-◌, ◌<◌, ◌≤◌, Bool, false, length, take, drop, List, ◌++◌, refl, sym, ap, subst, ◌∙◌, Some, inl, inr, arith, length-drop, slice_index, cases_lt, cases_eq, length-take-le, get_or-take, get_or-drop, page_number, offset_number, page_stays, Slot, slot_order, at_page, slot_at, write_at, IsCore, byte_at, State, View, IsWellFormed, shares, EndsMarks, installed, Installs, Loads, no_page, page_more, IsLastThere, group_at}
+use Rattle.kernel_acts.proofs.Prelude.{◌≡◌, ◌≢◌, ℕ, ◌+◌, ◌-◌, ◌<◌, ◌≤◌, Bool, false, length, take, drop, List, ◌++◌, refl, sym, ap, subst, ◌∙◌, Some, inl, inr, arith, length-drop, slice_index, cases_lt, cases_eq, length-take-le, get_or-take, get_or-drop, page_number, offset_number, page_stays, Slot, slot_order, at_page, slot_at, write_at, IsCore, byte_at, State, View, IsWellFormed, shares, EndsMarks, installed, Installs, Loads, no_page, page_more, IsLastThere, group_at}
 use Rattle.std.proofs.Math.Seq.{take-add}
 use Rattle.kernel_acts.proofs.LoadedBytes.{written_inside, written_outside, Outside, bytes_in, right_in, shares_group, page_long, alike, installed_groups, installed_rights, installed_right, own_written, beside_written}
 use Rattle.page_words.specs.FiniteSet as set

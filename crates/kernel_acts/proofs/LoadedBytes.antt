@@ -1,6 +1,5 @@
 -- What stands where bytes were loaded: the bytes, and the right of each page.
-use Rattle.kernel_acts.proofs.Prelude
-use Prelude.{◌≡◌, ◌≢◌, ℕ, ◌+◌, ◌<◌, ◌≤◌, ◌||◌, Bool, true, false, length, take, drop, List, ◌++◌, refl, sym, ap, ◌∙◌, Option, Some, None, unwrap_or, inl, inr, arith, ◌⊎◌, if◌then◌else◌, slice_index, option_map, length-take-le, length-append, get_or_append_left, get_or-append-add, get_or-append_right, get_or-take, get_or-drop, offset_number, same, get-map_values, contains-insert, same_cases, same_apart, Slot, slot_order, Spaces, Cell, slot_at, fresh, cell_or_fresh, with_bytes, set_bytes, write_at, protected, stored, State, IsWellFormed, get-inserted, get-inserted_other, shares, installed, group_at, group_stored}
+use Rattle.kernel_acts.proofs.Prelude.{◌≡◌, ◌≢◌, ℕ, ◌+◌, ◌<◌, ◌≤◌, ◌||◌, Bool, true, false, length, List, refl, sym, ap, ◌∙◌, Option, Some, None, unwrap_or, inl, inr, arith, ◌⊎◌, if◌then◌else◌, slice_index, option_map, length-take-le, length-append, get_or_append_left, get_or-append-add, get_or-append_right, get_or-take, get_or-drop, offset_number, same, get-map_values, contains-insert, same_cases, same_apart, Slot, slot_order, Spaces, Cell, slot_at, fresh, cell_or_fresh, with_bytes, set_bytes, write_at, protected, stored, State, IsWellFormed, get-inserted, get-inserted_other, shares, installed, group_at, group_stored}
 use Rattle.page_words.specs.FiniteMap as map
 use Rattle.page_words.specs.FiniteSet as set
 
@@ -8,20 +7,15 @@ use Rattle.page_words.specs.FiniteSet as set
 
 pub written_inside : (xs new : List ℕ) (at k : ℕ) → at ≤ length xs → k < length new → slice_index (write_at xs at new) (at + k) ≡ slice_index new k
 written_inside xs new at k long few =
-    let head : length (take at xs) ≡ at = length-take-le at xs long in
-    let both = length-append (take at xs) new in
-    get_or_append_left (take at xs ++ new) (drop (at + length new) xs) 0 (at + k) (omega (arith, head, both, few))
-    ∙ ap (λ n. slice_index (take at xs ++ new) (n + k)) (sym head) ∙ get_or-append-add (take at xs) new k 0
+    grind (arith, length-take-le, length-append, get_or_append_left, get_or-append-add)
 
 -- a place outside of these
 abbrev pub Outside : ℕ → ℕ → ℕ → Type 0
 Outside at count place = (place < at) ⊎ (at + count ≤ place)
 
 pub written_outside : (xs new : List ℕ) (at place : ℕ) → at ≤ length xs → Outside at (length new) place → slice_index (write_at xs at new) place ≡ slice_index xs place
-written_outside xs new at place long (inl below) =
-    grind (arith, length-take-le, length-append, get_or_append_left, get_or-take)
-written_outside xs new at place long (inr above) =
-    grind (arith, length-take-le, length-append, get_or-append_right, get_or-drop)
+written_outside xs new at place long x5 =
+    grind (arith, length-take-le, length-append, get_or_append_left, get_or-take, get_or-append_right, get_or-drop)
 
 -- ---- A slot after an install
 

@@ -1,6 +1,5 @@
 -- The pages of a load, one after another: what is against it, before and after each page.
-use Rattle.kernel_acts.proofs.Prelude
-use Prelude.{◌≡◌, ℕ, zero, suc, ◌+◌, ◌-◌, ◌<◌, ◌≤◌, ◌&&◌, Bool, true, false, not, List, [], ◌∷◌, refl, sym, ap, subst, ◌∙◌, is_some, Option, Some, None, unwrap_or, Err, inl, inr, arith, nat_lt, Result, Ok, ◌↔◌, if◌then◌else◌, IsTrue, IsOk, IfErr, list_all, range_with_len, option_map, cases_lt, leb-true, ltb-false, le-ltb, page_number, offset_number, is_user_page, IsUserPage, get-map_values, same_cases, Slot, slot_order, Spaces, Cell, at_page, slot_at, fresh, cell_or_fresh, with_bytes, set_bytes, write_at, protected, stored, cost, with_page, with_pages, cost-same, key-stored, kept, cost-with_page, Book, given, quota_of, State, is_live, is_mapped, overdrawn, both_true, get-inserted, get-inserted_other, page_is_user, pages_under, may_at, load_refusal, answer, completes, Reply, map_of, protect_of, is_writable_at, installed, IsNotOpened, key-insert}
+use Rattle.kernel_acts.proofs.Prelude.{◌≡◌, ℕ, zero, suc, ◌+◌, ◌-◌, ◌<◌, ◌≤◌, ◌&&◌, Bool, true, false, List, [], ◌∷◌, refl, sym, ap, subst, ◌∙◌, is_some, None, Err, inl, inr, arith, nat_lt, Result, Ok, ◌↔◌, if◌then◌else◌, IsTrue, IsOk, IfErr, list_all, range_with_len, cases_lt, leb-true, ltb-false, le-ltb, page_number, offset_number, is_user_page, IsUserPage, get-map_values, same_cases, Slot, slot_order, Spaces, Cell, at_page, slot_at, fresh, cell_or_fresh, set_bytes, write_at, protected, stored, cost, with_page, with_pages, cost-same, key-stored, kept, cost-with_page, Book, given, quota_of, State, is_live, is_mapped, overdrawn, both_true, get-inserted, get-inserted_other, page_is_user, pages_under, may_at, load_refusal, answer, completes, Reply, map_of, protect_of, is_writable_at, installed, IsNotOpened, key-insert}
 use Rattle.page_words.specs.FiniteMap as map
 use Rattle.page_words.specs.FiniteSet as set
 use Rattle.process_table.specs.declared.causes.Cause.TheVariants as cause
@@ -75,27 +74,16 @@ pub record Unrefused (s : State) (p : ℕ) (pages : List ℕ) : Type 0 where
   pub room : overdrawn s p pages ≡ false
 
 pub unrefused : (s : State) (p : ℕ) (pages : List ℕ) → load_refusal s p pages ≡ None → Unrefused s p pages
-unrefused s p pages h = by (is_live s p) refl (list_all is_user_page pages) refl (list_all (may_at s p) pages) refl (overdrawn s p pages) refl h
-  where
-    by : (a : Bool) → is_live s p ≡ a → (b : Bool) → list_all is_user_page pages ≡ b → (c : Bool) → list_all (may_at s p) pages ≡ c
-        → (d : Bool) → overdrawn s p pages ≡ d
-        → (if not a then Some cause.NoProcess else if not b then Some cause.BadPage else if not c then Some cause.Rights else if d then Some cause.Quota else None) ≡ None
-        → Unrefused s p pages
-    by a l b u c m d r k = grind arith
+unrefused s p pages h = grind arith
 
 pub refusal_none : (s : State) (p : ℕ) (pages : List ℕ) → Unrefused s p pages → load_refusal s p pages ≡ None
-refusal_none s p pages u = λ i.
-    if not (u.live i) then Some cause.NoProcess else if not (u.user i) then Some cause.BadPage else if not (u.may i) then Some cause.Rights else
-    if u.room i then Some cause.Quota else None
+refusal_none s p pages u = grind arith
 
 -- ---- Costs
 
 pub cost_grows : (S : Spaces) (p : ℕ) (pages : List ℕ) → cost S p ≤ cost (with_pages S p pages) p
 cost_grows S p [] = omega arith
-cost_grows S p (page ∷ pages) =
-    let a = cost-with_page S p page in
-    let b = cost_grows (with_page S p page) p pages in
-    omega (arith, a, b)
+cost_grows S p (page ∷ pages) = grind (arith, cost-with_page, (cost_grows (with_page S p page) p pages))
 
 room_first : (q g c d e : ℕ) → c ≤ d → d ≤ e → nat_lt (q - c - g) (e - c) ≡ false → nat_lt (q - c - g) (d - c) ≡ false
 room_first q g c d e below above fits = grind (arith, ltb-false, le-ltb)
@@ -105,9 +93,7 @@ room_rest q g c d e below above fits = grind (arith, ltb-false, le-ltb)
 
 -- room for some pages is room for the first
 pub first_fits : (s : State) (p page : ℕ) (pages : List ℕ) → overdrawn s p (page ∷ pages) ≡ false → overdrawn s p (page ∷ []) ≡ false
-first_fits s p page pages fits =
-    room_first (quota_of s.book p) (given s.book p) (cost s.spaces p) (cost (with_page s.spaces p page) p) (cost (with_pages s.spaces p (page ∷ pages)) p)
-    (cost_grows s.spaces p (page ∷ [])) (cost_grows (with_page s.spaces p page) p pages) fits
+first_fits s p page pages fits = grind (arith, room_first, cost_grows)
 
 -- ---- Which slots are mapped
 
@@ -139,9 +125,7 @@ module _ (S : Spaces) (p a : ℕ) (part : List ℕ) where
   filled = stored opened own (offset_number a) part
 
   opened_keys : SameKeys opened (with_page S p (page_number a))
-  opened_keys q =
-      let c = record (cell_or_fresh S own) { write = true } in
-      sym (with_page-keys S p (page_number a) c q)
+  opened_keys q = grind (arith, with_page-keys)
 
   filled_keys : SameKeys filled (with_page S p (page_number a))
   filled_keys q =
@@ -159,8 +143,7 @@ installed_keys s p a part true = filled_keys s.spaces p a part
 installed_keys s p a part false = closed_keys s.spaces p a part
 
 pub installed_book : (s : State) (p a : ℕ) (part : List ℕ) (write : Bool) → (installed s p a part write).book ≡ s.book
-installed_book s p a part true = refl
-installed_book s p a part false = refl
+installed_book s p a part x4 = grind arith
 
 -- ---- What a process may do
 
@@ -171,12 +154,7 @@ may_insert : (S : Spaces) (slot : Slot) (c : Cell) → c.may ≡ may_of S slot �
 may_insert S slot c is q = grind (arith, same_cases, get-inserted, get-inserted_other)
 
 may_set_bytes : (S : Spaces) (group : set.Set slot_order) (bytes : List ℕ) (q : Slot) → may_of (set_bytes S group bytes) q ≡ may_of S q
-may_set_bytes S group bytes q =
-    ap (λ (x : Option Cell). (unwrap_or x (fresh q true)).may) (get-map_values slot_order (λ slot cell. if set.contains group slot then with_bytes cell bytes else cell) S q)
-    ∙ by (map.get S q) (set.contains group q)
-  where
-    by : (x : Option Cell) (b : Bool) → (unwrap_or (option_map (λ (cell : Cell). if b then with_bytes cell bytes else cell) x) (fresh q true)).may ≡ (unwrap_or x (fresh q true)).may
-    by x b = grind arith
+may_set_bytes S group bytes q = grind (arith, get-map_values)
 
 may_protected : (S : Spaces) (slot : Slot) (write : Bool) (q : Slot) → may_of (protected S slot write) q ≡ may_of S q
 may_protected S slot write q = may_insert S slot (record (cell_or_fresh S slot) { write = write }) refl q
@@ -195,18 +173,12 @@ installed_may s p a part false page =
     ∙ may_stored (protected s.spaces (slot_at p a) true) (slot_at p a) (offset_number a) part (at_page p page) ∙ may_protected s.spaces (slot_at p a) true (at_page p page)
 
 all_same : (f g : ℕ → Bool) → ((x : ℕ) → f x ≡ g x) → (xs : List ℕ) → list_all f xs ≡ list_all g xs
-all_same f g is [] = refl
-all_same f g is (x ∷ xs) = λ i. is x i && all_same f g is xs i
+all_same f g is x3 = grind arith
 
 -- ---- The first page, and the others once it is installed
 
 pub first_unrefused : (s : State) (p page : ℕ) (pages : List ℕ) → Unrefused s p (page ∷ pages) → Unrefused s p (page ∷ [])
-first_unrefused s p page pages u = record {
-  live = u.live;
-  user = ap (λ b. b && true) (both_true (is_user_page page) (list_all is_user_page pages) u.user).0;
-  may = ap (λ b. b && true) (both_true (may_at s p page) (list_all (may_at s p) pages) u.may).0;
-  room = first_fits s p page pages u.room;
-}
+first_unrefused s p page pages u = grind (arith, both_true, first_fits)
 
 pub rest_unrefused : (s t : State) (p a : ℕ) (part : List ℕ) (write : Bool) (pages : List ℕ) → t ≡ installed s p a part write
     → Unrefused s p (page_number a ∷ pages) → Unrefused t p pages

@@ -1,6 +1,5 @@
 -- The entries of the book: the processes without a child, how many there are, and the entry of a child.
-use Rattle.kernel_acts.proofs.Prelude
-use Prelude.{◌≡◌, ◌≢◌, ℕ, ◌+◌, ◌<◌, ◌≤◌, length, Bool, true, false, cond, ◌&&◌, ◌==◌, T, List, [], ◌∷◌, refl, sym, ap, ◌∙◌, Option, Some, unwrap_or, filter, arith, option_map, ne_eqb, eqb-false, Book, Member, is_child, quota_of, number_of_children, given-remove, number-remove, cost, same_Some, State, is_live, container_of, IsWellFormed, is_child_of, eqb-true, eq-eqb, unsigned_tied, nat_cmp_total, find, below_all, is_sorted, length_without}
+use Rattle.kernel_acts.proofs.Prelude.{◌≡◌, ◌≢◌, ℕ, ◌+◌, ◌<◌, ◌≤◌, length, Bool, true, false, cond, ◌&&◌, ◌==◌, T, List, [], ◌∷◌, refl, sym, ap, ◌∙◌, Option, Some, unwrap_or, filter, arith, option_map, ne_eqb, eqb-false, Book, Member, is_child, quota_of, number_of_children, given-remove, number-remove, cost, same_Some, State, is_live, container_of, IsWellFormed, is_child_of, eqb-true, eq-eqb, unsigned_tied, nat_cmp_total, find, below_all, is_sorted, length_without}
 use Rattle.std.specs.Ordering.{nat_cmp, is_lt}
 use Rattle.quota_tree.specs.declared.Container.{Container}
 use Rattle.page_words.specs.FiniteMap as map
@@ -32,10 +31,7 @@ found_first e es = ap (λ b. cond b (Some e.1) (find nat_cmp e.0 es)) (unsigned_
 -- what is found behind the first entry is found with it
 found_behind : (e : Entry) (es : List Entry) → T (is_sorted nat_cmp (e ∷ es)) → (k : ℕ) (v : Member) → find nat_cmp k es ≡ Some v
     → (find nat_cmp k (e ∷ es) ≡ Some v) × (e.0 < k)
-found_behind e es h k v found =
-    let after : e.0 < k = found_after e.0 k v es (first_of _ _ h) found in
-    let apart : k ≢ e.0 = λ is. absurd (omega (arith, is, after)) in
-    (ap (λ b. cond b (Some e.1) (find nat_cmp k es)) (unsigned_tied k e.0 ∙ ne_eqb k e.0 apart) ∙ found, after)
+found_behind e es h k v found = grind (arith, found_after, first_of, ne_eqb)
 
 none_passes : (t : Entry → Bool) (es : List Entry) → T (is_sorted nat_cmp es)
     → ((k : ℕ) (v : Member) → find nat_cmp k es ≡ Some v → t (k, v) ≡ false) → filter t es ≡ []

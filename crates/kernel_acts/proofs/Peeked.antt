@@ -1,6 +1,5 @@
 -- Bytes that are copied as they stand, and pages that are dirty.
-use Rattle.kernel_acts.proofs.Prelude
-use Prelude.{◌≡◌, ℕ, ◌+◌, ◌<◌, ◌≤◌, true, false, length, length-drop, take, drop, map, List, sym, ap, ◌∙◌, Option, unwrap_or, arith, range_with_len, option_map, cases_lt, map-append, length-take-le, drop-drop, offset_number, range_split, page_stays, no_value, some_value, Cell, Spaces, fresh, cell_or_fresh, at_page, slot_at, byte_at, bytes_at, State, is_mapped, IsWellFormed, is_dirty_at, put_mid, bytes_by_places, part_in_page}
+use Rattle.kernel_acts.proofs.Prelude.{◌≡◌, ℕ, ◌+◌, ◌<◌, ◌≤◌, true, false, length, length-drop, take, drop, map, List, sym, ap, ◌∙◌, Option, unwrap_or, arith, range_with_len, option_map, cases_lt, map-append, length-take-le, drop-drop, offset_number, range_split, page_stays, no_value, some_value, Cell, Spaces, fresh, cell_or_fresh, at_page, slot_at, byte_at, bytes_at, State, is_mapped, IsWellFormed, is_dirty_at, put_mid, bytes_by_places, part_in_page}
 use Rattle.kernel_acts.proofs.TransferLemmas.{mid_take, mid_drop, mid_long}
 use Rattle.page_words.specs.FiniteMap as map
 

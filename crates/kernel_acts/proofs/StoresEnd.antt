@@ -1,6 +1,5 @@
 -- What changes of one page leave of the translations that processors keep.
-use Rattle.kernel_acts.proofs.Prelude
-use Prelude.{◌≡◌, ◌≢◌, ℕ, ◌+◌, ◌-◌, ◌<◌, ◌≤◌, ◌==◌, ◌&&◌, Bool, true, false, List, refl, sym, ap, ◌∙◌, is_some, Option, Some, None, length, arith, if◌then◌else◌, nat_le, option_map, eq-eqb, leb-true, same_Some, page_number, offset_number, same_itself, get-map_values, some_value, walk_of, Slot, slot_order, Cell, Spaces, cell_or_fresh, with_bytes, set_bytes, write_at, stored, is_slot, at_page, slot_at, Gone, FramesStay, StandsFor, image_of, memory_of, View, get-inserted_other, EndsMarks, of_lazy_pages, is_ended, is_all_of, Ended, and-false, IsCore, ways_of, mapped_way, tables_map, walk_takes, walk_finds, has_right}
+use Rattle.kernel_acts.proofs.Prelude.{◌≡◌, ◌≢◌, ℕ, ◌+◌, ◌-◌, ◌<◌, ◌≤◌, ◌==◌, ◌&&◌, Bool, true, false, List, sym, ap, ◌∙◌, is_some, Option, length, arith, if◌then◌else◌, nat_le, option_map, eq-eqb, leb-true, same_Some, page_number, offset_number, same_itself, get-map_values, some_value, walk_of, Slot, slot_order, Cell, Spaces, cell_or_fresh, with_bytes, set_bytes, write_at, stored, is_slot, at_page, slot_at, Gone, FramesStay, StandsFor, image_of, memory_of, View, get-inserted_other, EndsMarks, of_lazy_pages, is_ended, is_all_of, Ended, and-false, IsCore, ways_of, mapped_way, tables_map, walk_takes, walk_finds, has_right}
 use Rattle.kernel_calls.proofs.Flags.{has}
 use Rattle.kernel_acts.proofs.Unmaps.{slot_test}
 use Rattle.page_words.specs.FiniteMap as map
@@ -92,9 +91,7 @@ marks_stored S at place bytes slot apart =
     ∙ by (set.contains c.holders slot) new (map.get S slot)
   where
     by : (b : Bool) (new : List ℕ) (x : Option Cell) → option_map marks_of (option_map (λ (y : Cell). if b then with_bytes y new else y) x) ≡ option_map marks_of x
-    by b new None = refl
-    by true new (Some y) = refl
-    by false new (Some y) = refl
+    by x0 new x2 = grind arith
 
 -- the lazy pages in which bytes of one page lie are that page
 lazy_apart : (p a count : ℕ) (slot : Slot) (f : ℕ) → offset_number a + count ≤ 4096 → 0 < count → is_slot p (page_number a) slot ≡ false

@@ -1,6 +1,5 @@
 -- Slots that are taken back in two parts, one after the other.
-use Rattle.kernel_acts.proofs.Prelude
-use Prelude.{◌≡◌, ℕ, Bool, true, cond, not, ◌||◌, List, [], ◌∷◌, ◌++◌, refl, sym, ap, subst, ◌∙◌, None, arith, map-append, All-append, All-weaker, list_any-append, same_map, get-retain_keys, Slot, at_page, is_slot, OfferKey, State, View, answer, completes, info_of_page, is_beside, is_held, without_slots, TakesBack, Taking, EndAlong, Event, Holder, Ended, answers-append, end_of-append}
+use Rattle.kernel_acts.proofs.Prelude.{◌≡◌, ℕ, Bool, true, cond, not, ◌||◌, List, [], ◌∷◌, ◌++◌, refl, sym, ap, subst, ◌∙◌, None, arith, map-append, All-append, All-weaker, list_any-append, same_map, get-retain_keys, Slot, at_page, is_slot, OfferKey, State, View, answer, completes, info_of_page, is_beside, is_held, without_slots, TakesBack, Taking, EndAlong, Event, Holder, Ended, answers-append, end_of-append}
 use Rattle.kernel_acts.proofs.FamilyEnds.{without_both, stays_twice}
 use Rattle.kernel_acts.proofs.Unmaps.{beside_before, takes_none}
 use Rattle.page_words.specs.FiniteMap as map

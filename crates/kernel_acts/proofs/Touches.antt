@@ -1,6 +1,5 @@
 -- The access of one byte that changes none.
-use Rattle.kernel_acts.proofs.Prelude
-use Prelude.{◌≡◌, ℕ, zero, suc, ◌+◌, ◌%◌, ◌<◌, ◌^◌, ◌==◌, ◌&&◌, Bool, true, false, not, length, List, [], ◌∷◌, ◌++◌, take, drop, refl, sym, ap, subst, ◌∙◌, Option, Some, None, unwrap_or, inl, inr, arith, if◌then◌else◌, slice_index, option_map, some_value, nat_lt, page_number, offset_number, page_and, touched, IsUserPage, same_cases, walk_of, Read, Write, is_lazy_at, takes_stores, Slot, slot_order, Cell, Spaces, slot_at, fresh, cell_or_fresh, byte_at, accessed, stored, write_at, with_pages, all_accessed, way_parts, FramesStay, none_goes, WalkEndsBy, stays_most, memory_of, State, is_live, is_mapped, View, after_stores, IsWellFormed, get-inserted, plan_of, step_of, Goes, ready, all_user, same_cells, answer, answer_of, next, completes, carried, is_some, ended_by, Ends, load_byte, store_byte, Event, Reply, Ended, cases_Bool, get_or-replicate, All-get_or, One, is_write, zeros, store_in, write_at-nothing, stored-flags, each_right, next-goes, next-stays, IsCore, walks_of, ways_of, mapped_way, went-on, walk_finds, has_right, option_and_then, if_lazy, of_call, of_pages, gone_by}
+use Rattle.kernel_acts.proofs.Prelude.{◌≡◌, ℕ, zero, suc, ◌%◌, ◌<◌, ◌^◌, ◌&&◌, true, false, length, List, [], ◌∷◌, refl, sym, ap, subst, ◌∙◌, Option, Some, None, unwrap_or, inl, inr, arith, slice_index, option_map, some_value, nat_lt, page_number, offset_number, touched, IsUserPage, same_cases, walk_of, Read, Write, is_lazy_at, takes_stores, Slot, slot_order, Cell, Spaces, slot_at, fresh, cell_or_fresh, byte_at, accessed, stored, write_at, with_pages, way_parts, FramesStay, none_goes, stays_most, memory_of, State, is_live, is_mapped, View, after_stores, IsWellFormed, get-inserted, plan_of, step_of, Goes, ready, all_user, same_cells, answer, answer_of, next, completes, carried, is_some, ended_by, Ends, load_byte, store_byte, Event, Reply, Ended, cases_Bool, get_or-replicate, All-get_or, One, is_write, zeros, write_at-nothing, stored-flags, each_right, next-goes, next-stays, IsCore, walks_of, ways_of, mapped_way, went-on, walk_finds, has_right, gone_by}
 use Rattle.std.specs.Result.{is_ok}
 use Rattle.std.proofs.lemmas.Bool.Decides.{nat_tests}
 use Rattle.page_words.specs.FiniteMap as map
@@ -38,9 +37,7 @@ finds_here v now p a access user there right =
 put_back : (xs : List ℕ) (at : ℕ) → at < length xs → write_at xs at (slice_index xs at ∷ []) ≡ xs
 put_back [] at inside = absurd (omega (arith, inside))
 put_back (x ∷ xs) zero inside = refl
-put_back (x ∷ xs) (suc at) inside =
-    let e : suc at + 1 ≡ suc (at + 1) = omega arith in
-    ap (λ k. (x ∷ take at xs) ++ (slice_index xs at ∷ []) ++ drop k (x ∷ xs)) e ∙ ap (λ ys. x ∷ ys) (put_back xs at (omega (arith, inside)))
+put_back (x ∷ xs) (suc at) inside = grind (arith, (put_back xs at (omega (arith, inside))))
 
 -- a byte of a page is below 256
 byte_small : (s : State) (p a : ℕ) → IsWellFormed s → byte_at s.spaces p a < 256
@@ -61,9 +58,7 @@ byte_whole s p a w = let small = byte_small s p a w in omega (arith, small)
 
 -- a store of it leaves the page's bytes
 own_same : (s : State) (p a : ℕ) → IsWellFormed s → write_at (bytes_in s.spaces (slot_at p a)) (offset_number a) (byte_at s.spaces p a ∷ []) ≡ bytes_in s.spaces (slot_at p a)
-own_same s p a w =
-    let long = page_long s (slot_at p a) w in
-    put_back (bytes_in s.spaces (slot_at p a)) (offset_number a) (omega (arith, long))
+own_same s p a w = grind (arith, page_long, put_back, bytes_in)
 
 -- and those of every other page
 stored_alike : (s : State) (W : Spaces) (own : Slot) (at : ℕ) (new : List ℕ) → IsWellFormed s → ((q : Slot) → cell_or_fresh W q ≡ cell_or_fresh s.spaces q)
@@ -87,9 +82,7 @@ accessed_set S slot = ap (λ (o : Option Cell). (unwrap_or o (fresh slot true)).
 -- the state after the load of a byte
 loaded_state : (s : State) (p a : ℕ) → completes (answer s (load_byte p a)) ≡ true
     → next s (load_byte p a) ≡ record s { spaces = accessed (with_pages s.spaces p (touched a One)) (slot_at p a) }
-loaded_state s p a done =
-    next-goes s (load_byte p a) done
-    ∙ ap (λ x. record s { spaces = all_accessed (with_pages s.spaces p (touched a One)) p (page_and (page_number a) x) }) (one_page a)
+loaded_state s p a done = grind (arith, next-goes, one_page)
 
 pub read_touches : (v w : View) (p a : ℕ) (told : Reply) (ended : Ended) → IsCore v → IsCore w → told ≡ answer v.state (load_byte p a) → ended ≡ ended_by v (load_byte p a)
     → w.state ≡ next v.state (load_byte p a) → Ends ended v w → FramesStay (gone_by v.state (load_byte p a)) (memory_of v) (memory_of w) → (completes told ≡ false → w ≡ v) → Touches v (load_byte p a) p a Read told ended w
@@ -150,49 +143,31 @@ record Wrote (v w : View) (p a : ℕ) : Type 0 where
 wrote : (v w : View) (p a b : ℕ) → IsCore v → IsCore w → completes (answer v.state (store_byte p a b)) ≡ true → w.state ≡ next v.state (store_byte p a b)
     → b % 256 ≡ byte_at v.state.spaces p a → Wrote v w p a
 wrote v w p a b now later done state same =
-    let f = first_stored v.state w.state p a b done state in
-    let taken = takes_here v.state w p a b f later in
-    let s = v.state in
-    let W = with_pages s.spaces p (touched a One) in
-    let slot = slot_at p a in
-    let after = state ∙ stored_state s p a b done in
-    let flags = stored-flags W slot (offset_number a) (b % 256 ∷ []) in
-    let back : write_at (bytes_in s.spaces slot) (offset_number a) (b % 256 ∷ []) ≡ bytes_in s.spaces slot =
-    ap (λ x. write_at (bytes_in s.spaces slot) (offset_number a) (x ∷ [])) same ∙ own_same s p a now.well_formed in
-    record {
-      user = f.user;
-      finds = finds_here w later p a Write f.user f.there (λ is. taken);
-      marked = record {
-        accessed = ap (λ (t : State). (cell_or_fresh t.spaces slot).accessed) after ∙ flags.0;
-        dirty = λ is. ap (λ (t : State). (cell_or_fresh t.spaces slot).dirty) after ∙ flags.1;
-      };
-      bytes = λ q x.
-          ap (λ (t : State). byte_at t.spaces q x) after
-          ∙ ap (λ xs. slice_index xs (offset_number x)) (stored_alike s W slot (offset_number a) (b % 256 ∷ []) now.well_formed (same_cells s.spaces p (touched a One)) back (slot_at q x));
-    }
+    grind (
+      arith,
+      first_stored,
+      takes_here,
+      stored_state,
+      stored-flags,
+      bytes_in,
+      own_same,
+      finds_here,
+      stored_alike,
+      same_cells,
+    )
 
 -- ---- A page that takes stores is marked
 
 -- the store of the byte that is there, and the marks alone, leave one state
 marks_only : (s : State) (p a : ℕ) → IsWellFormed s → after_stores s p a [] ≡ after_stores s p a (byte_at s.spaces p a ∷ [])
-marks_only s p a w =
-    let slot = slot_at p a in
-    ap (λ xs. record s { spaces = store_in s.spaces slot (cell_or_fresh s.spaces slot) xs })
-    (write_at-nothing (bytes_in s.spaces slot) (offset_number a) ∙ sym (own_same s p a w))
+marks_only s p a w = grind (arith, write_at-nothing, bytes_in, own_same)
 
 -- a page that takes stores isn't lazy
 taken_real : (v : View) (p a : ℕ) → takes_stores v.state.spaces (memory_of v) (slot_at p a) ≡ true → is_lazy_at (memory_of v) (slot_at p a) ≡ false
 taken_real v p a taken = grind arith
 
 marked_ends : (v : View) (p a b : ℕ) → takes_stores v.state.spaces (memory_of v) (slot_at p a) ≡ true → end.Nothing ≡ ended_by v (store_byte p a b)
-marked_ends v p a b taken = by (completes (answer v.state (store_byte p a b)))
-  where
-    first : if_lazy (memory_of v) p (page_number a) ≡ None
-    first = ap (λ lazy. if lazy then Some (page_number a) else None) (taken_real v p a taken)
-
-    by : (done : Bool) → end.Nothing ≡ (if done then of_call v p (store_byte p a b).call else end.Nothing)
-    by false = refl
-    by true = (λ i. of_pages p (sym first i) (option_and_then (if_lazy (memory_of v) p) (sym (one_page a) i)))
+marked_ends v p a b taken = grind (arith, taken_real, one_page)
 
 pub marks_touch : (v w : View) (p a : ℕ) → IsCore v → IsCore w → is_live v.state p ≡ true → IsUserPage (page_number a) → takes_stores v.state.spaces (memory_of v) (slot_at p a) ≡ true
     → w.state ≡ after_stores v.state p a [] → FramesStay none_goes (memory_of v) (memory_of w) → Touches v (access_of_byte v.state p a Write) p a Write reply.Done end.Nothing w
@@ -224,15 +199,10 @@ marks_touch v w p a now later live user taken after stay =
     }
   where
     one_small : (b : ℕ) → b < 256 → (i : ℕ) → slice_index (b ∷ []) i < 256
-    one_small b small zero = small
-    one_small b small (suc i) = grind arith
+    one_small b small x2 = grind arith
 
     carried_one : (s : State) (e : Event) → carried s (e ∷ []) ≡ e ∷ [] → completes (answer s e) ≡ true
-    carried_one s e h = by (completes (answer s e)) refl h
-      where
-        by : (x : Bool) → completes (answer s e) ≡ x → (if x then e ∷ carried (next s e) [] else []) ≡ e ∷ [] → completes (answer s e) ≡ true
-        by true is k = is
-        by false is k = cc
+    carried_one s e h = grind arith
 
 -- ---- A page that takes no store
 
@@ -240,23 +210,7 @@ marks_touch v w p a now later live user taken after stay =
 lazy_zero : (v : View) → IsCore v → frame_bytes v.bytes 0 ≡ zeros → (p a : ℕ) → IsUserPage (page_number a) → is_mapped v.state (slot_at p a) ≡ true → is_lazy_at (memory_of v) (slot_at p a) ≡ true
     → bytes_in v.state.spaces (slot_at p a) ≡ zeros
 lazy_zero v now zero_frame p a user there lazy =
-    let slot = slot_at p a in
-    let way = mapped_way v now.image slot there in
-    let d = way.0 in
-    let f = way.1 in
-    let small : a < 2 ^ 32 = omega (arith, user.1) in
-    let live = (way_parts (memory_of v) slot d f way.2).live in
-    let c = some_value (map.get v.state.spaces slot) there in
-    let none : (f == 0) ≡ true = sym ((ways_of now).lazy slot d f way.2) ∙ lazy in
-    let ends : WalkEndsBy v.bytes d a Read (is_lazy_at (memory_of v) slot) (Some c.0) =
-    subst (λ (x : Option Cell). WalkEndsBy v.bytes d a Read (is_lazy_at (memory_of v) slot) x) c.1 (walks_of now p d a Read live small) in
-    let same : ◌≡◌ {A = Option (ℕ × ℕ)} (Some (d, ends.frame)) (Some (d, f)) = sym ((ways_of now).lead p d a ends.frame Read live small ends.found) ∙ way.2 in
-    let frame : ◌≡◌ {A = Option ℕ} (Some ends.frame) (Some f) = ap (option_map (λ (q : ℕ × ℕ). q.1)) same in
-    let at_zero : ends.frame ≡ 0 = zero_of ends.frame f frame none in
-    ap (λ (x : Option Cell). (unwrap_or x (fresh slot true)).bytes) c.1 ∙ sym ends.same ∙ ap (frame_bytes v.bytes) at_zero ∙ zero_frame
-  where
-    zero_of : (g f : ℕ) → ◌≡◌ {A = Option ℕ} (Some g) (Some f) → (f == 0) ≡ true → g ≡ 0
-    zero_of g f same none = grind (arith, nat_tests)
+    grind (arith, mapped_way, way_parts, some_value, ways_of, walks_of, nat_tests)
 
 -- where a store completes in such a page, the byte there is 0
 byte_zero : (v : View) → IsCore v → frame_bytes v.bytes 0 ≡ zeros → (p a : ℕ) → TakesNoStore v p a → completes (answer v.state (store_byte p a 0)) ≡ true → byte_at v.state.spaces p a ≡ 0
@@ -275,11 +229,7 @@ byte_zero v now zero_frame p a none done = by (map.get v.state.spaces slot) refl
     inside = omega arith
 
     goes : completes (answer_of s p e.call) ≡ true
-    goes = live_goes (is_live s p) done
-      where
-        live_goes : (live : Bool) → completes (if live then answer_of s p e.call else reply.Refused cause.NoProcess) ≡ true → completes (answer_of s p e.call) ≡ true
-        live_goes true h = h
-        live_goes false h = cc
+    goes = grind (arith, s)
 
     plan : Goes (step_of s p) s p a One Write
     plan = ready (step_of s p) s p a One Write (went-on (plan_of s p a One Write) _ goes)
@@ -291,10 +241,7 @@ byte_zero v now zero_frame p a none done = by (map.get v.state.spaces slot) refl
     right = (each_right s p a One Write plan.allowed refl).0
 
     lazy_where : is_mapped s slot ≡ true → is_lazy_at (memory_of v) slot ≡ true
-    lazy_where there = not_taken (is_mapped s slot) (cell_or_fresh s.spaces slot).write (is_lazy_at (memory_of v) slot) there right (none user)
-      where
-        not_taken : (x y z : Bool) → x ≡ true → y ≡ true → (x && (y && not z)) ≡ false → z ≡ true
-        not_taken x y z a b h = grind arith
+    lazy_where there = grind (arith, s, slot, right, user)
 
     by : (x : Option Cell) → map.get s.spaces slot ≡ x → byte_at s.spaces p a ≡ 0
     by None is = ap (λ (x : Option Cell). slice_index (unwrap_or x (fresh slot true)).bytes (offset_number a)) is ∙ get_or-replicate {A = ℕ} 4096 (offset_number a) 0 0 inside
@@ -304,10 +251,7 @@ byte_zero v now zero_frame p a none done = by (map.get v.state.spaces slot) refl
 
 -- the store of a zero is then the store of the byte that is there
 zero_next : (s : State) (p a b : ℕ) → (completes (answer s (store_byte p a 0)) ≡ true → b ≡ 0) → next s (store_byte p a 0) ≡ next s (store_byte p a b)
-zero_next s p a b zero_there = elim (cases_Bool (completes (answer s (store_byte p a 0)))) [
-  | inl done ↦ ap (λ x. next s (store_byte p a x)) (sym (zero_there done))
-  | inr stops ↦ next-stays s (store_byte p a 0) stops ∙ sym (next-stays s (store_byte p a b) stops)
-]
+zero_next s p a b zero_there = grind (arith, cases_Bool, next-stays)
 
 pub zero_touches : (v w : View) (p a : ℕ) (told : Reply) (ended : Ended) → IsCore v → IsCore w → frame_bytes v.bytes 0 ≡ zeros → TakesNoStore v p a
     → told ≡ answer v.state (store_byte p a 0) → ended ≡ ended_by v (store_byte p a 0) → w.state ≡ next v.state (store_byte p a 0) → Ends ended v w → FramesStay (gone_by v.state (store_byte p a 0)) (memory_of v) (memory_of w) → (completes told ≡ false → w ≡ v)

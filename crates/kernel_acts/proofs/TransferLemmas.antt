@@ -1,6 +1,5 @@
 -- Runs that stop at the first event that is refused or faults, and transfers one behind another.
-use Rattle.kernel_acts.proofs.Prelude
-use Prelude.{◌≡◌, ℕ, zero, suc, ◌+◌, ◌<◌, Bool, true, false, List, [], ◌∷◌, ◌++◌, length, take, drop, refl, ap, sym, ◌∙◌, subst, arith, ◌-◌, ◌≤◌, Option, Some, None, length-drop, append_assoc, length-append, append-nil, take-append-drop, length-take-le, take_at, drop_at, drop-drop, if◌then◌else◌, slice_index, State, answer, next, end_of, completes, load_byte, store_byte, loads, stores, carried, stop_of, value_in, values, AreLoaded, AreStored, Reads, Writes, Event, Reply, put_mid, answers-append, end_of-append}
+use Rattle.kernel_acts.proofs.Prelude.{◌≡◌, ℕ, zero, suc, ◌+◌, ◌<◌, true, false, List, [], ◌∷◌, ◌++◌, length, take, drop, refl, ap, sym, ◌∙◌, subst, arith, ◌-◌, ◌≤◌, Option, Some, None, length-drop, append_assoc, length-append, append-nil, take-append-drop, length-take-le, take_at, drop_at, drop-drop, if◌then◌else◌, slice_index, State, answer, next, end_of, completes, load_byte, store_byte, loads, stores, carried, stop_of, value_in, values, AreLoaded, AreStored, Reads, Writes, Event, Reply, put_mid, answers-append, end_of-append}
 use Rattle.kernel_calls.specs.declared.calls.Reply.TheVariants as reply
 
 -- ---- A run of which all is carried out, and then more
@@ -10,10 +9,7 @@ record Goes (s : State) (e : Event) (events : List Event) : Type 0 where
   rest : carried (next s e) events ≡ events
 
 goes : (s : State) (e : Event) (events : List Event) → carried s (e ∷ events) ≡ e ∷ events → Goes s e events
-goes s e events all = by (completes (answer s e)) refl all
-  where
-    by : (b : Bool) → completes (answer s e) ≡ b → (if b then e ∷ carried (next s e) events else []) ≡ e ∷ events → Goes s e events
-    by b is h = grind arith
+goes s e events all = grind arith
 
 pub carried-append : (s : State) (xs ys : List Event) → carried s xs ≡ xs → carried s (xs ++ ys) ≡ xs ++ carried (end_of s xs) ys
 carried-append s [] ys all = refl
@@ -56,9 +52,7 @@ length-loads p a (suc n) = ap suc (length-loads p (a + 1) n)
 
 pub stores-append : (p a : ℕ) (xs ys : List ℕ) → stores p a (xs ++ ys) ≡ stores p a xs ++ stores p (a + length xs) ys
 stores-append p a [] ys = let e : a ≡ a + 0 = omega arith in ap (λ x. stores p x ys) e
-stores-append p a (x ∷ xs) ys =
-    let e : a + 1 + length xs ≡ a + suc (length xs) = omega arith in
-    ap (λ es. store_byte p a x ∷ es) (stores-append p (a + 1) xs ys ∙ ap (λ k. stores p (a + 1) xs ++ stores p k ys) e)
+stores-append p a (x ∷ xs) ys = grind (arith, (stores-append p (a + 1) xs ys))
 
 pub length-stores : (p a : ℕ) (xs : List ℕ) → length (stores p a xs) ≡ length xs
 length-stores p a [] = refl
@@ -123,14 +117,7 @@ take_all [] = refl
 take_all (x ∷ xs) = ap (λ ys. x ∷ ys) (take_all xs)
 
 pub written_whole : (s t : State) (p a done : ℕ) (bytes : List ℕ) → AreStored s p a (take done bytes) t → done ≡ length bytes → Writes s p a bytes (record { count = done; stop = None }) t
-written_whole s t p a done bytes stored is =
-    let whole : take done bytes ≡ bytes = ap (λ n. take n bytes) is ∙ take_all bytes in
-    let w : AreStored s p a bytes t = subst (λ (xs : List ℕ). AreStored s p a xs t) whole stored in
-    record {
-      count = is ∙ sym (length-stores p a bytes) ∙ sym (ap length w.all);
-      stop = sym (stop_of-none s (stores p a bytes) w.all);
-      state = sym w.after ∙ sym (ap (end_of s) w.all);
-    }
+written_whole s t p a done bytes stored is = grind (arith, take_all, length-stores, stop_of-none)
 
 -- the first byte of what is left
 record Left (bytes : List ℕ) (done count : ℕ) : Type 0 where
@@ -161,11 +148,7 @@ written_stopped s t p a done count bytes r stored less some told stops =
     let here : carried s (stores p a bytes) ≡ stores p a xs =
     ap (carried s) split ∙ carried-append s (stores p a xs) (e ∷ more) stored.all ∙ ap (λ x. stores p a xs ++ carried x (e ∷ more)) stored.after
     ∙ ap (λ es. stores p a xs ++ es) (carried-first t e more fails) ∙ append-nil (stores p a xs) in
-    record {
-      count = sym size ∙ sym (length-stores p a xs) ∙ sym (ap length here);
-      stop = ap Some told ∙ sym (ap (stop_of s) split ∙ stop_of-append s (stores p a xs) (e ∷ more) stored.all ∙ ap (λ x. stop_of x (e ∷ more)) stored.after ∙ stop_of-first t e more fails);
-      state = sym stored.after ∙ sym (ap (end_of s) here);
-    }
+    grind (arith, length-stores, stop_of-append, stop_of-first)
 
 -- ---- A part more of a list
 

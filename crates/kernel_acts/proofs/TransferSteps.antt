@@ -1,6 +1,5 @@
 -- The effect of loads and stores of bytes in one page.
-use Rattle.kernel_acts.proofs.Prelude
-use Prelude.{leb-true, le-ltb, and_parts, ◌≡◌, ℕ, zero, suc, ◌+◌, ◌*◌, ◌%◌, ◌<◌, ◌≤◌, true, false, List, [], ◌∷◌, length, drop, length-drop, ◌-◌, refl, ap, sym, subst, ◌∙◌, arith, Option, None, unwrap_or, eq-eqb, get_or-drop, if◌then◌else◌, slice_index, range_with_len, page_number, offset_number, second_page, page_and, touched, IsUserPage, same, first_by_page, page_stays, same_or_not, same-true, get-insert, Read, Write, Slot, Cell, Spaces, at_page, slot_at, cell_or_fresh, fresh, byte_at, accessed, stored, with_pages, all_accessed, takes_stores, of_lazy, kept, key-stored, need-in_one, State, is_live, is_mapped, overdrawn, View, IsCore, memory_of, after_loads, after_stores, get-inserted, outside, plan_of, step_of, Goes, ready, all_user, same_cells, mapped_right, page_is_user, answer, answer_of, next, completes, planned_or, gone_by, load_byte, store_byte, of_lazy_pages, AreLoaded, AreStored, Event, map as each, One, stored-stored, stored-flags, stored-write, ways_of, next-goes, went-on}
+use Rattle.kernel_acts.proofs.Prelude.{leb-true, le-ltb, and_parts, ◌≡◌, ℕ, zero, suc, ◌+◌, ◌*◌, ◌%◌, ◌<◌, ◌≤◌, true, false, List, [], ◌∷◌, length, drop, length-drop, ◌-◌, refl, ap, sym, subst, ◌∙◌, arith, Option, None, unwrap_or, eq-eqb, get_or-drop, if◌then◌else◌, slice_index, range_with_len, page_number, offset_number, second_page, page_and, touched, IsUserPage, same, first_by_page, page_stays, same_or_not, same-true, get-insert, Read, Write, Slot, Cell, Spaces, at_page, slot_at, cell_or_fresh, fresh, byte_at, accessed, stored, with_pages, all_accessed, takes_stores, of_lazy, kept, key-stored, need-in_one, State, is_live, is_mapped, overdrawn, View, IsCore, memory_of, after_loads, after_stores, get-inserted, outside, plan_of, step_of, Goes, ready, all_user, same_cells, mapped_right, page_is_user, answer, answer_of, next, completes, planned_or, gone_by, load_byte, store_byte, of_lazy_pages, AreLoaded, AreStored, Event, map as each, One, stored-stored, stored-flags, stored-write, ways_of, next-goes, went-on}
 use Rattle.kernel_acts.proofs.TransferLemmas.{loaded-none, loaded-first, stored-none, stored-first}
 use Rattle.page_words.specs.FiniteMap as map
 use Rattle.process_table.specs.declared.causes.Cause.TheVariants as cause
@@ -248,11 +247,7 @@ pub first_loads : (s t : State) (p a n : ℕ) → completes (answer s (load_byte
 first_loads s t p a zero done is some fits = absurd (omega (arith, some))
 first_loads s t p a (suc n) done is some fits =
     let f = first_loaded s t p a n done is fits in
-    record {
-      user = f.user;
-      there = f.there;
-      loaded = grind arith;
-    }
+    grind arith
 
 -- bytes to a page that takes stores
 pub taken_stores : (v : View) (t : State) (p a : ℕ) (bytes : List ℕ) → is_live v.state p ≡ true → IsUserPage (page_number a) → takes_stores v.state.spaces (memory_of v) (slot_at p a) ≡ true
@@ -263,8 +258,7 @@ taken_stores v t p a bytes live user taken some fits small after =
 
 -- the first byte, which was stored by a call, and the others
 pub first_stores : (s t u : State) (p a : ℕ) (part rest : List ℕ) → FirstStored s t p a (slice_index part 0) → 0 < length part → rest ≡ drop 1 part → AreStored t p (a + 1) rest u → AreStored s p a part u
-first_stores s t u p a [] rest f some is stored = absurd (omega (arith, some))
-first_stores s t u p a (b ∷ bytes) rest f some is stored = grind (arith, stored-first)
+first_stores s t u p a x5 rest f some is stored = grind (arith, stored-first)
 
 -- the page takes the others
 pub record RestTaken (v : View) (p a : ℕ) : Type 0 where

@@ -1,6 +1,5 @@
 -- The other slots of a group are unmapped, one after another.
-use Rattle.kernel_acts.proofs.Prelude
-use Prelude.{◌≡◌, ◌≢◌, ℕ, ◌+◌, ◌<◌, ◌≤◌, Bool, true, false, cond, not, ◌&&◌, ◌||◌, ◌==◌, length, take, set, List, [], ◌∷◌, ◌++◌, refl, sym, ap, subst, ◌∙◌, is_some, Option, Some, None, unwrap_or, arith, inl, inr, if◌then◌else◌, All, option_map, cases_lt, and_parts, same_Some, map-append, take_more_set, All-append, All-cons, list_any-append, same, Set, same_map, same_set, same-true, same_itself, get-retain_keys, contains-retain, some_value, same_cases, same_sym, Slot, slot_order, slot_cmp, Cell, without, is_slot, at_page, is_lazy_at, left, get-without, OfferKey, without_page, State, is_live, is_mapped, after_unmap, View, IsWellFormed, memory_of, page_is_user, ungrouped, shares, answer, next, completes, refused_or, unmap_of, is_beside, is_held, without_slots, TakesBack, Taking, Unmapped, ended_by, Holder, eqb-true, eq-eqb, and-true, or-false, find, next-goes, answers-append, end_of-append}
+use Rattle.kernel_acts.proofs.Prelude.{◌≡◌, ℕ, ◌+◌, ◌<◌, ◌≤◌, Bool, true, false, cond, not, ◌&&◌, ◌||◌, ◌==◌, length, take, set, List, [], ◌∷◌, ◌++◌, refl, sym, ap, subst, ◌∙◌, is_some, Option, Some, None, unwrap_or, arith, inl, inr, if◌then◌else◌, All, option_map, cases_lt, and_parts, same_Some, map-append, take_more_set, All-append, All-cons, list_any-append, same, Set, same_map, same_set, same-true, same_itself, get-retain_keys, contains-retain, some_value, same_cases, same_sym, Slot, slot_order, slot_cmp, Cell, without, is_slot, at_page, is_lazy_at, left, get-without, OfferKey, without_page, State, is_live, is_mapped, after_unmap, View, IsWellFormed, memory_of, page_is_user, ungrouped, shares, answer, next, completes, refused_or, unmap_of, is_beside, is_held, without_slots, TakesBack, Taking, Unmapped, ended_by, Holder, and-true, or-false, find, next-goes, answers-append, end_of-append}
 use Rattle.address_space.specs.Shown.{shown}
 use Rattle.kernel_calls.specs.Pages.{page_in}
 use Rattle.kernel_calls.specs.declared.pages.PageState.{PageState}
@@ -26,13 +25,7 @@ beside_before s gone slot other h = grind (arith, and_parts, shares_without)
 -- ---- One slot less
 
 pub slot_test : (p page q n : ℕ) → is_slot p page (at_page q n) ≡ ((q == p) && (n == page))
-slot_test p page q n = elim (same_cases slot_order (at_page p page) (at_page q n)) [
-  | inl is ↦ is.1 ∙ sym (λ i. eq-eqb q p (ap (λ (x : Slot). x.pid) (sym is.0)) i && eq-eqb n page (ap (λ (x : Slot). x.page) (sym is.0)) i)
-  | inr other ↦ other.1 ∙ by other.0 (q == p) (n == page) refl refl
-]
-  where
-    by : at_page p page ≢ at_page q n → (a b : Bool) → (q == p) ≡ a → (n == page) ≡ b → false ≡ ((q == p) && (n == page))
-    by apart a b h k = grind (arith, eqb-true)
+slot_test p page q n = grind (arith, same_cases)
 
 abbrev of_page : OfferKey → Slot
 of_page key = at_page key.offerer key.page
@@ -164,10 +157,7 @@ one_member : (h : Set slot_order) (x y : Slot) → set.len h ≡ 1 → set.conta
 one_member h x y one = by h.entries one
   where
     first : (k : Slot) (e : Slot × Unit {0}) → is_some (cond (same slot_order k e.0) (Some e.1) None) ≡ true → k ≡ e.0
-    first k e c = is (same slot_order k e.0) refl c
-      where
-        is : (b : Bool) → same slot_order k e.0 ≡ b → is_some (cond b (Some e.1) None) ≡ true → k ≡ e.0
-        is b t d = grind (arith, same-true)
+    first k e c = grind (arith, same-true)
 
     by : (es : List (Slot × Unit {0})) → length es ≡ 1 → is_some (find slot_cmp x es) ≡ true → is_some (find slot_cmp y es) ≡ true → y ≡ x
     by [] l a b = cc

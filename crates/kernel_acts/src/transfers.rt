@@ -104,7 +104,10 @@ fn load_pages(core: &mut Core, pid: Pid, address: Vaddr, out: &mut [u8]) -> Tran
         done += count;
         at = Vaddr(at.0 + count as u32);
     }
-    Transfer { count: done, stop: None }
+    Transfer {
+        count: done,
+        stop: None,
+    }
 }
 
 /// Reads a process's memory from an address on, with the effect of one-byte loads in order, up to the first that is
@@ -186,7 +189,10 @@ fn store_pages(core: &mut Core, pid: Pid, address: Vaddr, bytes: &[u8]) -> Trans
         done += count;
         at = Vaddr(at.0 + count as u32);
     }
-    Transfer { count: done, stop: None }
+    Transfer {
+        count: done,
+        stop: None,
+    }
 }
 
 /// Writes a process's memory from an address on, with the effect of one-byte stores in order, up to the first that

@@ -1,6 +1,5 @@
 -- Accesses by what a processor keeps of an earlier memory, where the pages of that are still on their frames.
-use Rattle.shootdowns.proofs.Prelude
-use Prelude.{◌≡◌, ℕ, ◌+◌, ◌*◌, ◌<◌, ◌≤◌, ◌^◌, Bool, true, false, List, length, refl, ap, sym, ◌∙◌, subst, arith, Option, Some, unwrap_or, is_some, eqb-true, ◌&&◌, not, MatchBool, slice_get, slice_index, option_map, option_and_then, slice_get_within, page_number, offset_number, slot_number, start_number, byte_count, EachTouched, Size, ways_of, goes_frameless, told_planned, frame_number, is_lazy, frame_bytes, byte-frame, Page, Access, Read, Write, table_at, page_word, page_frame, is_lazy_at, takes_stores, SlotStands, CellStands, own_frame, kept_place, number_at, Slot, Cell, Spaces, at_page, slot_at, byte_at, value_of, bytes_of, cell_or_fresh, fresh, all_stored, way_of, IsThere, with_touched-same, way_parts, way_whole, from_map, from_then, owned, own_is, each_byte, same_each, memory_of, State, is_live, is_mapped, View, IsWellFormed, touched_user, plan_of, plan_at, takes_no_frame, each_page, walk_completes, Serves, ServesCall, ServesEvent, reply_kept, bytes_kept, answer, answer_of, after, next, completes, IsCore, Call, Event, goes-call, next-goes, small_page, live, leads, Touched, loaded_same, walk_takes, lives, Role, Reserved}
+use Rattle.shootdowns.proofs.Prelude.{◌≡◌, ℕ, ◌+◌, ◌*◌, ◌<◌, ◌≤◌, ◌^◌, Bool, true, false, List, length, refl, ap, sym, ◌∙◌, subst, arith, Option, Some, unwrap_or, is_some, eqb-true, ◌&&◌, not, MatchBool, slice_get, slice_index, option_map, option_and_then, slice_get_within, page_number, offset_number, slot_number, start_number, byte_count, EachTouched, Size, ways_of, goes_frameless, told_planned, frame_number, is_lazy, frame_bytes, byte-frame, Page, Access, Read, Write, table_at, page_word, page_frame, is_lazy_at, takes_stores, SlotStands, CellStands, own_frame, kept_place, number_at, Slot, Cell, Spaces, at_page, slot_at, byte_at, value_of, bytes_of, cell_or_fresh, fresh, all_stored, way_of, IsThere, with_touched-same, way_parts, way_whole, from_map, from_then, owned, own_is, each_byte, same_each, memory_of, State, is_live, is_mapped, View, IsWellFormed, touched_user, plan_of, plan_at, takes_no_frame, each_page, walk_completes, Serves, ServesCall, ServesEvent, reply_kept, bytes_kept, answer, answer_of, after, next, completes, IsCore, Call, Event, goes-call, next-goes, small_page, live, leads, Touched, loaded_same, walk_takes, lives, Role, Reserved}
 use Rattle.page_words.specs.FiniteMap as map
 use Rattle.page_words.specs.FiniteSet as set
 use Rattle.process_table.specs.Calls.{loaded}
@@ -23,8 +22,7 @@ pub both : (a b : Bool) → (a && b) ≡ true → (a ≡ true) × (b ≡ true)
 both x0 x1 h = grind arith
 
 pub real_by : (b : Bool) → not b ≡ true → b ≡ false
-real_by false h = refl
-real_by true h = cc
+real_by x0 h = grind arith
 
 -- a slot that is mapped has a word
 pub word_mapped : (v : View) → IsCore v → (r : Slot) (d : Cell) → map.get v.state.spaces r ≡ Some d → (word : ℕ) × (page_word (memory_of v) r ≡ Some word)
@@ -175,8 +173,7 @@ module _ (v : View) (core : IsCore v) (base : State) (alike : Alike v.state base
 
     there_filled : (page frame : ℕ) (access : Access) (k : Serves vs p page frame access)
         → map.get s.spaces (at_page p page) ≡ Some (fill (frame_at v) bytes (at_page p page) k.given.cell)
-    there_filled page frame access k =
-        get_filled (frame_at v) bytes base.spaces (at_page p page) ∙ ap (option_map (fill (frame_at v) bytes (at_page p page))) (cell_served page frame access k)
+    there_filled page frame access k = grind (arith, get_filled, fill, cell_served)
 
     byte_there : (a : ℕ) → Serves vs p (page_number a) (frames (page_number a)) Read → byte_at s.spaces p a ≡ slice_index bytes (kept_place frames a)
     byte_there a k =

@@ -1,6 +1,5 @@
 -- States alike but for the bytes and the flags of cells.
-use Rattle.shootdowns.proofs.Prelude
-use Prelude.{◌≡◌, ℕ, true, List, [], ◌∷◌, refl, ap, sym, ◌∙◌, subst, Option, Some, None, option_map, same_map, Slot, Cell, Spaces, State, View, Kept, translation, directory_entry, IsRead, AreRead}
+use Rattle.shootdowns.proofs.Prelude.{◌≡◌, ℕ, true, List, [], ◌∷◌, refl, ap, sym, ◌∙◌, subst, Option, Some, None, option_map, same_map, Slot, Cell, Spaces, State, View, Kept, translation, directory_entry, IsRead, AreRead, arith}
 use Rattle.page_words.specs.FiniteMap as map
 use Rattle.shootdowns.proofs.Filled.{fill, filled, filled_state, get_filled}
 
@@ -55,8 +54,7 @@ pub again : (F : Slot → ℕ) (bytes : List ℕ) (s t : State) → t ≡ filled
 again F bytes s t is = is ∙ ap (λ (S : Spaces). record s { spaces = S }) twice ∙ ap (filled_state F bytes) (sym is)
   where
     by : (slot : Slot) (z : Option Cell) → option_map (fill F bytes slot) z ≡ option_map (fill F bytes slot) (option_map (fill F bytes slot) z)
-    by slot None = refl
-    by slot (Some c) = refl
+    by slot x1 = grind arith
 
     twice : filled F bytes s.spaces ≡ filled F bytes (filled F bytes s.spaces)
     twice = same_map _ _ (λ slot.

@@ -1,6 +1,5 @@
 -- What a Protect, an access and a store of a byte leave of each cell, by the cell that they change.
-use Rattle.shootdowns.proofs.Prelude
-use Prelude.{◌≡◌, ℕ, suc, ◌+◌, ◌<◌, Bool, true, cond, List, ap, ◌∙◌, subst, arith, Option, Some, unwrap_or, if◌then◌else◌, option_map, same, get-insert, get-map_values, Slot, slot_order, Cell, Spaces, cell_or_fresh, fresh, with_bytes, set_bytes, write_at, stored, accessed, protected}
+use Rattle.shootdowns.proofs.Prelude.{◌≡◌, ℕ, suc, ◌+◌, ◌<◌, Bool, true, cond, List, ap, ◌∙◌, subst, arith, Option, Some, unwrap_or, if◌then◌else◌, option_map, same, get-insert, get-map_values, Slot, slot_order, Cell, Spaces, cell_or_fresh, fresh, with_bytes, set_bytes, write_at, stored, accessed, protected}
 use Rattle.page_words.specs.FiniteMap as map
 use Rattle.page_words.specs.FiniteSet as set
 

@@ -1,6 +1,5 @@
 -- Stores by what was kept before dirty was set, while an event that takes at most the right to write isn't in the order.
-use Rattle.shootdowns.proofs.Prelude
-use Prelude.{◌≡◌, ◌≢◌, ℕ, Bool, arith, true, false, List, [], ◌∷◌, length, refl, ap, sym, ◌∙◌, subst, Option, Some, None, ◌+◌, ◌<◌, ◌≤◌, ◌^◌, unwrap_or, ◌&&◌, nat_le, IfSome, option_map, slice_get_within, slot_number, byte_count, EachTouched, page_number, index_number, second_page, same_map, frame_number, with_flag, is_lazy, is_accessed, frame_bytes, word_at, word_place, with_word, Role, Page, Reserved, table_at, page_word, is_lazy_at, takes_stores, Slot, Cell, Spaces, slot_order, at_page, fresh, memory_of, State, is_live, is_mapped, View, IsWellFormed, ServesEvent, bytes_kept, Serves, ServesCall, reply_kept, answer, next, answer_of, after, completes, IsCore, Processors, AllAreRead, Kept, AreRead, IsGiven, Call, Event, Reply, Ended, read_at, kept-next, goes_frameless, told_planned, only_takes, Acknowledged, usable, under_way, takes_right, LetsWrite, LetStore, IsStaleClean, with_dirty, all_dirty, Size, same, Write, touched_user, plan_at, takes_no_frame, each_page, walk_completes, goes-call, next-goes}
+use Rattle.shootdowns.proofs.Prelude.{◌≡◌, ◌≢◌, ℕ, Bool, arith, true, false, List, [], ◌∷◌, length, refl, ap, sym, ◌∙◌, subst, Option, Some, None, ◌+◌, ◌<◌, ◌≤◌, ◌^◌, unwrap_or, ◌&&◌, nat_le, IfSome, option_map, slice_get_within, slot_number, byte_count, EachTouched, page_number, index_number, second_page, same_map, frame_number, with_flag, is_lazy, is_accessed, frame_bytes, word_at, word_place, with_word, Role, Page, Reserved, table_at, page_word, is_lazy_at, takes_stores, Slot, Cell, Spaces, slot_order, at_page, fresh, memory_of, State, is_live, is_mapped, View, IsWellFormed, ServesEvent, bytes_kept, Serves, ServesCall, reply_kept, answer, next, answer_of, after, completes, IsCore, Processors, AllAreRead, Kept, AreRead, IsGiven, Call, Event, Reply, Ended, read_at, kept-next, goes_frameless, told_planned, only_takes, Acknowledged, usable, under_way, takes_right, LetsWrite, LetStore, IsStaleClean, with_dirty, all_dirty, Size, same, Write, touched_user, plan_at, takes_no_frame, each_page, walk_completes, goes-call, next-goes}
 use Rattle.std.proofs.Common.{not}
 use Rattle.std.specs.Prelude.{is_some}
 use Rattle.shootdowns.proofs.Accesses.{frame_at, word_mapped, table_of_word, lazy_zero, role_served, frame_served, takes_served, served_live, frame_is}
@@ -194,8 +193,7 @@ module _ (x : Ended) (done : Acknowledged) (e : Event) (r : Reply) (keeps : Proc
 
     -- in the table that the directory names
     there : byte_list ≡ with_dirty w p page
-    there = sym (ap (λ (y : Option ℕ). unwrap_or (option_map (λ table.
-        with_word w.bytes (word_place table (index_number page)) (with_flag (word_at w.bytes (word_place table (index_number page))) 6 true)) y) w.bytes) table.1)
+    there = grind (arith, table)
 
     one_page : Going x done e r (dirty_at (at_page p page) s) (record w { bytes = with_dirty w p page; state = next (dirty_at (at_page p page) s) e }) keeps v
     one_page = subst (λ (b : List ℕ). Going x done e r (dirty_at (at_page p page) s) (record w { bytes = b; state = next (dirty_at (at_page p page) s) e }) keeps v) there going_so

@@ -1,6 +1,5 @@
 -- Memory in which dirty was set in the word of a page that isn't lazy.
-use Rattle.shootdowns.proofs.Prelude
-use Prelude.{◌≡◌, ◌≢◌, ℕ, ◌<◌, ◌≤◌, ◌^◌, Bool, true, false, List, length, refl, ap, sym, ◌∙◌, arith, inl, inr, Option, Some, None, cases_eq, slice_get_within, ◌⊎◌, ◌&&◌, if◌then◌else◌, nat_lt, slice_get, option_and_then, option_map, slot_number, index_number, same, with_flag, frame_number, is_present, is_accessed, is_lazy, same_itself, same_or_not, same-true, frame_bytes, word_at, word_in, word_place, with_word, with_word_in, with_frame, IsInside, word_in-frame, frames-with_word, with_frame-same, with_frame-other, length-frame, word_in_same, word_in_other, length-with_word, Role, Directory, Table, Page, directory_at, table_at, word_of, present_word, page_word, own_frame, Slot, slot_order, Cell, at_page, own_is, memory_of, State, View, IsWellFormed, IsCore}
+use Rattle.shootdowns.proofs.Prelude.{◌≡◌, ◌≢◌, ℕ, ◌<◌, ◌≤◌, ◌^◌, Bool, true, false, List, length, refl, ap, sym, ◌∙◌, arith, inl, inr, Option, Some, None, cases_eq, slice_get_within, ◌⊎◌, ◌&&◌, if◌then◌else◌, nat_lt, slice_get, option_and_then, option_map, slot_number, index_number, same, with_flag, frame_number, is_present, is_accessed, is_lazy, same_itself, same_or_not, same-true, frame_bytes, word_at, word_in, word_place, with_word, with_word_in, with_frame, IsInside, word_in-frame, frames-with_word, with_frame-same, with_frame-other, length-frame, word_in_same, word_in_other, length-with_word, Role, Directory, Table, Page, directory_at, table_at, word_of, present_word, page_word, own_frame, Slot, slot_order, Cell, at_page, own_is, memory_of, State, View, IsWellFormed, IsCore}
 use Rattle.page_words.specs.FiniteMap as map
 use Rattle.address_space.specs.Image as memory
 use Rattle.kernel_calls.specs.Processors.{with_bytes}

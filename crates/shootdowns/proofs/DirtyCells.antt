@@ -1,6 +1,5 @@
 -- Dirty set in a slot's cell: what it leaves of a state, of an event that takes the right to write, and of a store.
-use Rattle.shootdowns.proofs.Prelude
-use Prelude.{◌≡◌, ℕ, zero, suc, ◌+◌, ◌/◌, ◌%◌, ◌<◌, Bool, true, false, cond, List, [], ◌∷◌, refl, ap, sym, ◌∙◌, subst, arith, inl, inr, Option, Some, None, is_some, ◌⊎◌, if◌then◌else◌, option_map, offset_number, byte_count, EachTouched, Size, same, same_map, same_itself, same_or_not, get-insert, get-map_values, Slot, slot_order, Cell, Spaces, at_page, slot_at, cell_or_fresh, with_bytes, set_bytes, write_at, stored, all_stored, bytes_of, protected, IsThere, with_touched-same, each_byte, State, IsWellFormed, get-inserted, each_page, answer, answer_of, after, next, completes, Call, Event, next-stays, next-goes, only_takes, takes_right, some_value}
+use Rattle.shootdowns.proofs.Prelude.{◌≡◌, ℕ, zero, suc, ◌+◌, ◌/◌, ◌%◌, ◌<◌, Bool, true, false, cond, List, [], ◌∷◌, refl, ap, sym, ◌∙◌, subst, arith, inl, inr, Option, Some, None, is_some, ◌⊎◌, if◌then◌else◌, option_map, offset_number, byte_count, EachTouched, Size, same, same_map, same_itself, same_or_not, get-insert, get-map_values, Slot, slot_order, Cell, Spaces, at_page, slot_at, cell_or_fresh, with_bytes, set_bytes, write_at, stored, all_stored, bytes_of, protected, IsThere, with_touched-same, each_byte, State, IsWellFormed, get-inserted, each_page, answer, answer_of, after, next, completes, Call, Event, next-stays, next-goes, only_takes, takes_right, some_value}
 use Rattle.page_words.specs.FiniteMap as map
 use Rattle.page_words.specs.FiniteSet as set
 use Rattle.process_table.proofs.SpaceLaws.{well_formed-flags}
@@ -17,20 +16,16 @@ dirt true c = record c { dirty = true }
 dirt false c = c
 
 pub dirt_alike : (b : Bool) (c : Cell) → AlikeCell c (dirt b c)
-dirt_alike true c = record { write = refl; may = refl; holders = refl }
-dirt_alike false c = same_cell c
+dirt_alike x0 c = grind (arith, same_cell)
 
 pub dirt_flags : (b : Bool) (c : Cell) → (c.accessed ≡ true → (dirt b c).accessed ≡ true) × (c.dirty ≡ true → (dirt b c).dirty ≡ true)
-dirt_flags true c = (λ h. h, λ h. refl)
-dirt_flags false c = (λ h. h, λ h. h)
+dirt_flags x0 c = grind arith
 
 pub dirt_accessed : (b : Bool) (c : Cell) → (dirt b c).accessed ≡ c.accessed
-dirt_accessed true c = refl
-dirt_accessed false c = refl
+dirt_accessed x0 c = grind arith
 
 pub dirt_bytes : (b : Bool) (c : Cell) → (dirt b c).bytes ≡ c.bytes
-dirt_bytes true c = refl
-dirt_bytes false c = refl
+dirt_bytes x0 c = grind arith
 
 -- ---- Spaces
 
@@ -41,8 +36,7 @@ abbrev pub dirty_at : Slot → State → State
 dirty_at at s = record s { spaces = dirty_in at s.spaces }
 
 pub right_taken : (c : Call) → takes_right c ≡ true → only_takes c ≡ true
-right_taken (call.Protect page false) h = refl
-right_taken _ h = cc
+right_taken x0 h = grind arith
 
 module _ (at : Slot) where
   pub get_dirty : (S : Spaces) (r : Slot) → map.get (dirty_in at S) r ≡ option_map (dirt (same slot_order at r)) (map.get S r)
@@ -79,14 +73,12 @@ module _ (at : Slot) where
         where
           by : (r : Slot) → ((r ≡ at) × (same slot_order r at ≡ true)) ⊎ (same slot_order r at ≡ false)
               → option_map (dirt (same slot_order at r)) (map.get s.spaces r) ≡ cond (same slot_order r at) (Some (record c { dirty = true })) (map.get s.spaces r)
-          by r (inl h) = grind (arith, same_itself)
-          by r (inr h) = grind (arith, same_or_not, same_itself)
+          by r x1 = grind (arith, same_itself, same_or_not)
 
   -- ---- An event that takes the right to write
 
   dirt_write : (b w : Bool) (c : Cell) → record (dirt b c) { write = w } ≡ dirt b (record c { write = w })
-  dirt_write true w c = refl
-  dirt_write false w c = refl
+  dirt_write x0 w c = grind arith
 
   right_dirty : (S : Spaces) (slot : Slot) (w : Bool) → is_some (map.get S slot) ≡ true → protected (dirty_in at S) slot w ≡ dirty_in at (protected S slot w)
   right_dirty S slot w there = same_map _ _ (λ r.
@@ -127,12 +119,10 @@ module _ (at : Slot) where
     where
       whole : (y : Bool) (r : Slot) → cond (same slot_order r b) (Some (written (dirt y c) o ys)) (option_map (grouped (dirt y c) o ys r) (map.get (dirty_in at S) r))
           ≡ cond (same slot_order r b) (Some (written c o ys)) (option_map (grouped c o ys r) (map.get (dirty_in at S) r))
-      whole true r = refl
-      whole false r = refl
+      whole x0 r = grind arith
 
       own : (x : Bool) → dirt x (written c o ys) ≡ written c o ys
-      own true = refl
-      own false = refl
+      own x0 = grind arith
 
       put : (x m : Bool) (k : Cell) → dirt x (if m then with_bytes k (write_at c.bytes o ys) else k) ≡ (if m then with_bytes (dirt x k) (write_at c.bytes o ys) else dirt x k)
       put true true k = refl

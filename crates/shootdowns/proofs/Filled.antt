@@ -1,7 +1,6 @@
 -- A state with the bytes of frames in its cells: events that only take away leave these as they are, and a store
 -- changes one frame's.
-use Rattle.shootdowns.proofs.Prelude
-use Prelude.{◌≡◌, ℕ, Bool, true, false, cond, List, refl, ap, sym, ◌∙◌, inl, inr, Option, Some, None, ◌⊎◌, not, option_map, same, same_map, same_or_not, get-map_values, is_some-map, frame_bytes, Slot, slot_order, Cell, Spaces, at_page, with_bytes, protected, without, is_slot, is_of, State, is_mapped, answer, answer_of, after, next, completes, Call, Event, Reply, fewer, get_gone, next-stays, next-goes, only_takes, arith, some_value}
+use Rattle.shootdowns.proofs.Prelude.{◌≡◌, ℕ, Bool, true, false, cond, List, refl, ap, sym, ◌∙◌, Option, Some, None, ◌⊎◌, not, option_map, same, same_map, same_or_not, get-map_values, is_some-map, frame_bytes, Slot, slot_order, Cell, Spaces, at_page, with_bytes, protected, without, is_slot, is_of, State, is_mapped, answer, answer_of, after, next, completes, Call, Event, Reply, fewer, get_gone, next-stays, next-goes, only_takes, arith, some_value}
 use Rattle.std.specs.Prelude.{is_some}
 use Rattle.page_words.specs.FiniteMap as map
 use Rattle.process_table.specs.declared.causes.Cause.TheVariants as cause
@@ -72,8 +71,7 @@ module _ (F : Slot → ℕ) (bytes : List ℕ) where
       by : (r : Slot) → ((r ≡ slot) × (same slot_order r slot ≡ true)) ⊎ (same slot_order r slot ≡ false)
           → cond (same slot_order r slot) (Some (fill F bytes slot (record has.0 { write = w }))) (option_map (fill F bytes r) (map.get S r))
           ≡ option_map (fill F bytes r) (cond (same slot_order r slot) (Some (record has.0 { write = w })) (map.get S r))
-      by r (inl is) = grind arith
-      by r (inr other) = grind arith
+      by r x1 = grind arith
 
   -- ---- Events
 

@@ -1,6 +1,5 @@
 -- What a processor does by its walk writes no free frame.
-use Rattle.shootdowns.proofs.Prelude
-use Prelude.{◌≡◌, ◌≢◌, ℕ, zero, suc, ◌+◌, ◌*◌, ◌/◌, ◌%◌, ◌<◌, ◌^◌, true, List, length, refl, ap, sym, ◌∙◌, subst, arith, Option, Some, None, IsOk, slice_get, slice_set, option_map, page_number, slot_number, index_number, offset_number, start_number, second_page, byte_count, frame_number, frame_bytes, word_at, word_place, with_word, IsInside, with_word_in, frames-with_word, frames-with_byte, with_frame-other, word_in-frame, length-with_word, Role, Free, Directory, Table, Access, Read, Write, walk_of, dir_place, dir_word, table_place, byte_place, finds, after_walked_store, Image, image_from, bytes_of, at_page, directory_of, table_in, found_at, found_each, found_fits, found, get_user, memory_of, View, IsCore, IsWalked, finds_call, bytes_accessed, Call, Event, Reply, spaces}
+use Rattle.shootdowns.proofs.Prelude.{◌≡◌, ◌≢◌, ℕ, zero, suc, ◌+◌, ◌*◌, ◌/◌, ◌%◌, ◌<◌, ◌^◌, true, List, length, refl, ap, sym, ◌∙◌, subst, arith, Option, Some, None, IsOk, slice_get, slice_set, option_map, page_number, slot_number, index_number, offset_number, start_number, second_page, byte_count, frame_number, frame_bytes, word_at, word_place, with_word, IsInside, frames-with_word, frames-with_byte, with_frame-other, word_in-frame, length-with_word, Role, Free, Directory, Table, Access, Read, Write, walk_of, dir_place, dir_word, table_place, byte_place, finds, after_walked_store, Image, image_from, bytes_of, at_page, directory_of, table_in, found_at, found_each, found_fits, found, get_user, memory_of, View, IsCore, IsWalked, finds_call, bytes_accessed, Call, Event, Reply, spaces}
 use Rattle.std.proofs.Math.ListN.{length-set}
 use Rattle.std.specs.Option.{unwrap_or}
 use Rattle.table_walk.specs.Marks.{marked, accessed_word, touched_word, CanBeMarked}
@@ -21,8 +20,7 @@ apart roles f g r free is other same = grind arith
 
 -- a word that is written in another frame
 beside_word : (bytes : List ℕ) (g index w f : ℕ) → index < 1024 → IsInside bytes g → f ≢ g → frame_bytes (with_word bytes (word_place g index) w) f ≡ frame_bytes bytes f
-beside_word bytes g index w f low in_g other =
-    ap (λ (m : ℕ → List ℕ). m f) (frames-with_word bytes g index w low in_g) ∙ with_frame-other (frame_bytes bytes) g f (with_word_in (frame_bytes bytes g) index w) other
+beside_word bytes g index w f low in_g other = grind (arith, frames-with_word, with_frame-other)
 
 module _ (directories : List (Option ℕ)) (roles : List Role) (p d f : ℕ) (live : directory_of directories p ≡ Some d) (free : slice_get roles f ≡ Some Free) where
   can_mark : (bytes : List ℕ) (address : ℕ) (access : Access) → IsSound directories bytes roles → address < 2 ^ 32 → IsOk (walk_of bytes d address access) → CanBeMarked bytes d address access

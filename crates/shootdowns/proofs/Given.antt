@@ -1,6 +1,5 @@
 -- A mapped page of a core: what a walk finds there, and what a processor may keep of it.
-use Rattle.shootdowns.proofs.Prelude
-use Prelude.{◌≡◌, ℕ, ◌<◌, ◌^◌, true, false, ap, ◌∙◌, arith, Bool, Some, page_number, frame_number, Access, Read, Write, walk_of, directory_at, page_word, is_lazy_at, Slot, Cell, at_page, way_of, way_parts, memory_of, View, IsCore, IsGiven, ways_of, has, walk_finds}
+use Rattle.shootdowns.proofs.Prelude.{◌≡◌, ℕ, ◌<◌, ◌^◌, true, false, ap, ◌∙◌, arith, Bool, Some, page_number, frame_number, Access, Read, Write, walk_of, directory_at, page_word, is_lazy_at, Slot, Cell, at_page, way_of, way_parts, memory_of, View, IsCore, IsGiven, ways_of, has, walk_finds}
 use Rattle.std.proofs.Common.{Ok}
 use Rattle.page_words.specs.FiniteMap as map
 use Rattle.shootdowns.proofs.Accesses.{word_mapped, way_at}

@@ -1,6 +1,5 @@
 -- Steps of windows are events in an order.
-use Rattle.shootdowns.proofs.Prelude
-use Prelude.{◌≡◌, ◌≢◌, ℕ, arith, true, false, List, [], ◌∷◌, length, refl, ap, sym, ◌∙◌, subst, Option, Some, None, ◌⊎◌, slice_get, option_map, slice_get_within, same_map, frame_number, frame_bytes, frames-with_word, with_frame-other, Role, Free, Directory, Page, page_word, directory_of, Slot, Cell, Spaces, with_bytes, memory_of, State, View, IsWellFormed, answers, next, end_of, IsCore, Processors, with_kept, AllAreRead, AreAmong, IsWalked, IsMarked, Kept, IsRead, AreRead, Ends, ended_by, left_by, Event, Reply, Ended, left_read, walks_leave_cores, marks_leave_cores, among_read, read_with, one, kept-next, only_takes, Acknowledged, nobody, usable, Moment, acknowledged, ended_in, settled, under_way, Step, begun, loaded, walked, marked, ordered, usual, refilled, forgotten, invalidated, told, Steps, none, first, memory_in, state_of, Stands, ShootdownsMakeEvents, stored_clean}
+use Rattle.shootdowns.proofs.Prelude.{◌≡◌, ◌≢◌, ℕ, arith, true, false, List, [], ◌∷◌, length, refl, ap, sym, ◌∙◌, subst, Option, Some, None, ◌⊎◌, slice_get, option_map, slice_get_within, same_map, frame_number, frame_bytes, frames-with_word, with_frame-other, Role, Free, Directory, Page, page_word, directory_of, Slot, Cell, Spaces, with_bytes, memory_of, State, View, IsWellFormed, answers, next, end_of, IsCore, Processors, with_kept, AllAreRead, AreAmong, IsWalked, IsMarked, Kept, IsRead, AreRead, Ends, ended_by, left_by, Event, Reply, Ended, left_read, walks_leave_cores, marks_leave_cores, among_read, read_with, one, kept-next, only_takes, Acknowledged, nobody, usable, Moment, acknowledged, ended_in, settled, under_way, Step, begun, loaded, walked, marked, ordered, usual, refilled, forgotten, invalidated, told, Steps, none, first, memory_in, state_of, Stands, ShootdownsMakeEvents, stored_clean, with_one}
 use Rattle.std.specs.Prelude.{◌*◌, is_some}
 use Rattle.shootdowns.specs.Windows.{stored}
 use Rattle.shootdowns.proofs.Accesses.{frame_at}
@@ -137,52 +136,41 @@ one_marked x done e r s w u keeps takes good k =
       );
     })
 
+-- one processor keeps another list, of which what may be used is read, and all as it was before the event
+other_kept : (x : Ended) (done after : Acknowledged) (e : Event) (r : Reply) (s : State) (w : View) (keeps : Processors) (i : ℕ) (left : List Kept)
+    → Good (under_way x done e r s w) keeps → AllAreRead w (usable x after (with_kept keeps i left))
+    → (only_takes e.call ≡ true → (v : View) → Taken v e s w keeps → AreRead (with_state v s) left) → Good (under_way x after e r s w) (with_kept keeps i left)
+other_kept x done after e r s w keeps i left good all read = record {
+  stands = (good.stands.0, all, good.stands.2, good.stands.3);
+  taken = λ takes.
+      let t = good.taken takes in
+      (t.0, record { behind = t.1.behind; read = read_with (with_state t.0 s) keeps i left t.1.read (read takes t.0 t.1) });
+}
+
 -- a processor keeps one more
 more_kept : (m : Moment) (keeps : Processors) (i : ℕ) (k : Kept) → IsRead (memory_in m) k → Good m keeps → Good m (with_kept keeps i (k ∷ keeps i))
 more_kept (settled x done w) keeps i k read good = grind (arith, left_more)
-more_kept (under_way x done e r s w) keeps i k read good = record {
-  stands = (good.stands.0, left_more x done w keeps i k read good.stands.1, good.stands.2, good.stands.3);
-  taken = λ takes.
-      let t = good.taken takes in (
-        t.0,
-        record { behind = t.1.behind; read = read_with (with_state t.0 s) keeps i (k ∷ keeps i) t.1.read (read_before t.0 t.1.before s t.1.alike e takes w good.stands.0 good.stands.2 t.1.names t.1.homes t.1.tables k read, t.1.read i) },
-      );
-}
+more_kept (under_way x done e r s w) keeps i k read good =
+    other_kept x done done e r s w keeps i (k ∷ keeps i) good (left_more x done w keeps i k read good.stands.1)
+    (λ takes v t. (read_before v t.before s t.alike e takes w good.stands.0 good.stands.2 t.names t.homes t.tables k read, t.read i))
 
 -- a processor invalidates
 same_state : (m : Moment) (i : ℕ) → state_of (acknowledged m i) ≡ state_of m
-same_state (settled x done w) i = refl
-same_state (under_way x done e r s w) i = refl
+same_state x0 i = grind arith
 
 done_kept : (m : Moment) (keeps : Processors) (i : ℕ) → Good m keeps → Good (acknowledged m i) (with_kept keeps i (left_by (ended_in m) (keeps i)))
-done_kept (settled x done w) keeps i good = record {
-  stands = (good.stands.0, left_done x done w keeps i good.stands.1);
-  taken = tt;
-}
-done_kept (under_way x done e r s w) keeps i good = record {
-  stands = (good.stands.0, left_done x done w keeps i good.stands.1, good.stands.2, good.stands.3);
-  taken = λ takes.
-      let t = good.taken takes in (
-        t.0,
-        record { behind = t.1.behind; read = read_with (with_state t.0 s) keeps i (left_by x (keeps i)) t.1.read (left_all x (with_state t.0 s) (keeps i) (t.1.read i)) },
-      );
-}
+done_kept (settled x done w) keeps i good = record { stands = (good.stands.0, left_done x done w keeps i good.stands.1); taken = tt }
+done_kept (under_way x done e r s w) keeps i good =
+    other_kept x done (with_one done i) e r s w keeps i (left_by x (keeps i)) good (left_done x done w keeps i good.stands.1)
+    (λ _ v t. left_all x (with_state v s) (keeps i) (t.read i))
 
 -- ---- One step
 
 fewer_kept : (m : Moment) (keeps : Processors) (i : ℕ) (left : List Kept) → AreAmong left (keeps i) → Good m keeps → Good m (with_kept keeps i left)
-fewer_kept (settled x done w) keeps i left among good = record {
-  stands = (good.stands.0, left_fewer x done w keeps i left among good.stands.1);
-  taken = tt;
-}
-fewer_kept (under_way x done e r s w) keeps i left among good = record {
-  stands = (good.stands.0, left_fewer x done w keeps i left among good.stands.1, good.stands.2, good.stands.3);
-  taken = λ takes.
-      let t = good.taken takes in (
-        t.0,
-        record { behind = t.1.behind; read = read_with (with_state t.0 s) keeps i left t.1.read (among_read (with_state t.0 s) left (keeps i) among (t.1.read i)) },
-      );
-}
+fewer_kept (settled x done w) keeps i left among good = record { stands = (good.stands.0, left_fewer x done w keeps i left among good.stands.1); taken = tt }
+fewer_kept (under_way x done e r s w) keeps i left among good =
+    other_kept x done done e r s w keeps i left good (left_fewer x done w keeps i left among good.stands.1)
+    (λ _ v t. among_read (with_state v s) left (keeps i) among (t.read i))
 
 step : {m n : Moment} {keeps between : Processors} {es : List Event} {rs : List Reply} → Step m keeps es rs n between → Good m keeps
     → IsOne m es rs n between

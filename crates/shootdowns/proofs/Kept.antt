@@ -1,11 +1,9 @@
 -- What processors keep apart from what was ended.
-use Rattle.shootdowns.proofs.Prelude
-use Prelude.{◌≡◌, ℕ, zero, suc, Bool, true, false, ◌==◌, eq-eqb, List, [], ◌∷◌, refl, ap, sym, subst, inl, inr, Some, cases_eq, ne_eqb, ◌⊎◌, if◌then◌else◌, slice_get, View, Processors, with_kept, AllAreRead, AreAmong, Kept, translation, directory_entry, IsRead, AreRead, is_invalidated, left_by, Ended, read_at, among_read, Acknowledged, with_one, usable, KeepsNone, arith}
+use Rattle.shootdowns.proofs.Prelude.{◌≡◌, ℕ, zero, suc, Bool, true, false, ◌==◌, eq-eqb, List, [], ◌∷◌, refl, ap, sym, subst, inl, inr, Some, cases_eq, ne_eqb, ◌⊎◌, if◌then◌else◌, slice_get, View, Processors, with_kept, AllAreRead, AreAmong, Kept, translation, directory_entry, IsRead, AreRead, is_invalidated, left_by, Ended, read_at, among_read, Acknowledged, with_one, usable, KeepsNone, arith}
 use Rattle.kernel_calls.specs.declared.translations.Ended.TheVariants as end
 
 none_there : (n : ℕ) (k : Kept) → slice_get {X = Kept} [] n ≡ Some k → ⊥
-none_there zero k h = cc
-none_there (suc n) k h = cc
+none_there x0 k h = grind arith
 
 -- each that isn't ended is read
 pub spared : (x : Ended) (w : View) (kept : List Kept) → AreRead w (left_by x kept) → (n : ℕ) (k : Kept) → slice_get kept n ≡ Some k
@@ -15,8 +13,7 @@ spared x w (y ∷ kept) all zero k there not = grind arith
 spared x w (y ∷ kept) all (suc n) k there not = spared x w kept (rest (is_invalidated x y) all) n k there not
   where
     rest : (b : Bool) → AreRead w (if b then left_by x kept else y ∷ left_by x kept) → AreRead w (left_by x kept)
-    rest true h = h
-    rest false h = h.1
+    rest x0 h = grind arith
 
 pub sparing : (x : Ended) (w : View) (kept : List Kept)
     → ((n : ℕ) (k : Kept) → slice_get kept n ≡ Some k → is_invalidated x k ≡ false → IsRead w k) → AreRead w (left_by x kept)
@@ -24,8 +21,7 @@ sparing x w [] each = tt
 sparing x w (y ∷ kept) each = by (is_invalidated x y) (each 0 y refl) (sparing x w kept (λ n k there not. each (suc n) k there not))
   where
     by : (b : Bool) → (b ≡ false → IsRead w y) → AreRead w (left_by x kept) → AreRead w (if b then left_by x kept else y ∷ left_by x kept)
-    by true own rest = rest
-    by false own rest = (own refl, rest)
+    by x0 own rest = grind arith
 
 -- all that is kept
 pub reading : (w : View) (kept : List Kept) → ((n : ℕ) (k : Kept) → slice_get kept n ≡ Some k → IsRead w k) → AreRead w kept
@@ -48,16 +44,14 @@ among x w left kept one true all = among_read w left kept one all
 among x w left kept one false all = sparing x w left (λ m k there not. let n = one m k there in spared x w kept all n.0 k n.1 not)
 
 more : (x : Ended) (w : View) (k : Kept) (kept : List Kept) → IsRead w k → (b : Bool) → AreRead w (Usable x b kept) → AreRead w (Usable x b (k ∷ kept))
-more x w k kept read true all = (read, all)
-more x w k kept read false all = grind (arith, sparing, spared)
+more x w k kept read x5 all = grind (arith, sparing, spared)
 
 -- what is left once these are invalidated
 pub left_all : (x : Ended) (w : View) (kept : List Kept) → AreRead w kept → AreRead w (left_by x kept)
 left_all x w kept all = sparing x w kept (λ n k there not. read_at w kept n k all there)
 
 left_usable : (x : Ended) (w : View) (kept : List Kept) (b : Bool) → AreRead w (Usable x b kept) → AreRead w (left_by x kept)
-left_usable x w kept true all = left_all x w kept all
-left_usable x w kept false all = all
+left_usable x w kept x3 all = grind (arith, left_all)
 
 -- one processor begins to keep one more
 pub left_more : (x : Ended) (done : Acknowledged) (w : View) (keeps : Processors) (i : ℕ) (k : Kept) → IsRead w k → AllAreRead w (usable x done keeps)
@@ -97,5 +91,4 @@ all_told x false w kept (inr clear) all = reading w kept (λ n k there. spared x
 
 -- so it is where nothing was ended
 pub nothing_read : (w : View) (kept : List Kept) (b : Bool) → AreRead w (Usable end.Nothing b kept) → AreRead w kept
-nothing_read w kept true all = all
-nothing_read w kept false all = subst (AreRead w) (none_left kept) all
+nothing_read w kept x2 all = grind (arith, none_left)

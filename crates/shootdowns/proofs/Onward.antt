@@ -1,6 +1,5 @@
 -- Memory after an access by a walk, while an event that only takes away isn't in the order.
-use Rattle.shootdowns.proofs.Prelude
-use Prelude.{◌≡◌, ℕ, ◌<◌, ◌^◌, Bool, true, false, refl, ap, sym, ◌∙◌, arith, Option, Some, None, is_some, ◌⊎◌, if◌then◌else◌, MatchBool, Ok, slice_get, option_map, option_and_then, slice_get_within, page_number, start_number, frame_number, is_lazy, some_value, frame_bytes, Role, Free, Page, Read, walk_of, directory_at, table_at, page_word, page_frame, is_lazy_at, CellStands, own_frame, Slot, Cell, at_page, slot_at, way_of, WalkEndsBy, way_parts, from_then, owned, own_is, memory_of, State, View, IsWellFormed, next, IsCore, Ends, WalkGives, Event, walks_of, ways_of, tables_map, only_takes, subst, inl, inr}
+use Rattle.shootdowns.proofs.Prelude.{◌≡◌, ℕ, ◌<◌, ◌^◌, Bool, true, false, refl, ap, sym, ◌∙◌, arith, Option, Some, None, is_some, ◌⊎◌, if◌then◌else◌, MatchBool, Ok, slice_get, option_map, option_and_then, slice_get_within, page_number, start_number, frame_number, is_lazy, some_value, frame_bytes, Role, Free, Page, Read, walk_of, directory_at, table_at, page_word, page_frame, is_lazy_at, CellStands, own_frame, Slot, Cell, at_page, slot_at, way_of, WalkEndsBy, way_parts, from_then, owned, own_is, memory_of, State, View, IsWellFormed, next, IsCore, Ends, WalkGives, Event, walks_of, ways_of, tables_map, only_takes, subst, inl, inr}
 use Rattle.page_words.specs.FiniteMap as map
 use Rattle.page_words.specs.FiniteSet as set
 use Rattle.kernel_calls.specs.declared.translations.Ended.TheVariants as end
@@ -52,8 +51,7 @@ names_onward w x core later ends back slot word is =
     walk d a small live c there = by (map.get w.state.spaces (slot_at slot.pid a)) there (walks_of core slot.pid d a Read live small)
       where
         by : (z : Option Cell) → z ≡ Some c → WalkEndsBy w.bytes d a Read (is_lazy_at (memory_of w) (slot_at slot.pid a)) z → (f : ℕ) × (walk_of w.bytes d a Read ≡ Ok f)
-        by None k h = cc
-        by (Some q) k h = (h.frame, h.found)
+        by x0 k h = grind arith
 
 -- a table that is linked after a step without end was linked before it
 pub tables_onward : (w x : View) → IsCore w → IsCore x → Ends end.Nothing w x → ((slot : Slot) → is_some (map.get x.state.spaces slot) ≡ true → is_some (map.get w.state.spaces slot) ≡ true)
@@ -127,8 +125,7 @@ module _ (v : View) (before : IsCore v) (s t : State) (first : Alike v.state s) 
     alone not = beside slot was_here.0 d was_here.1 at gone_here (λ b k mapped there. no (set.contains k.holders slot) (set.contains k.holders slot) refl (not b k mapped there)) ∙ full_at slot was_here.0 was_here.1
       where
         no : (z y : Bool) → y ≡ z → (y ≡ true → ⊥) → y ≡ false
-        no true y is f = absurd (f is)
-        no false y is f = is
+        no x0 y is f = grind arith
 
     lazy_here : is_lazy word_here.0 ≡ true → d.bytes ≡ frame_bytes x.bytes (frame_at v slot)
     unfolding word_here
@@ -208,5 +205,4 @@ module _ (v : View) (before : IsCore v) (s t : State) (first : Alike v.state s) 
       by None none = which (is_lazy (word_here slot d at (ap is_some none)).0) refl
         where
           which : (b : Bool) → is_lazy (word_here slot d at (ap is_some none)).0 ≡ b → d.bytes ≡ frame_bytes x.bytes (frame_at v slot)
-          which true lazy = lazy_here slot d at (ap is_some none) lazy
-          which false real = real_here slot d at (ap is_some none) real
+          which x0 x1 = grind (arith, lazy_here, real_here)

@@ -11,7 +11,7 @@ pub use Rattle.address_space.proofs.standing.TablesStand.{own_is, owned}
 pub use Rattle.address_space.proofs.steps.Bytes.{each_byte}
 pub use Rattle.address_space.proofs.steps.Finding.{found_at, found_each, found_fits, same_each}
 pub use Rattle.address_space.proofs.steps.Stores.{byte_is_write, found, get_user}
-pub use Rattle.address_space.specs.ByWalk.{after_walked_store, byte_place, finds, finds_at, walked_word, with_walked}
+pub use Rattle.address_space.specs.ByWalk.{after_walked_store, byte_place, finds, finds_at, with_walked}
 pub use Rattle.address_space.specs.Image.{CellStands, Image, IsCount, SlotStands, directory_at, image_from, is_lazy_at, is_user_slot, named_by, page_frame, page_word, present_word, table_at, takes_stores, word_of}
 pub use Rattle.address_space.specs.ImageWords.{IsTableWord, is_lazy_word, own_frame}
 pub use Rattle.address_space.specs.Kept.{kept_place, number_at, written_at}
@@ -39,7 +39,7 @@ pub use Rattle.kernel_calls.proofs.WalkedReplies.{answered, each_found, goes_fra
 pub use Rattle.kernel_calls.specs.Gone.{gives_back, gone_by, gone_of_call}
 pub use Rattle.kernel_calls.specs.Kept.{IsLoad, IsStore, Serves, ServesCall, ServesEvent, bytes_kept, reply_kept}
 pub use Rattle.kernel_calls.specs.Lazy.{LeavesLazy}
-pub use Rattle.kernel_calls.specs.Machine.{after, answer, answer_of, answers, completes, end_of, next, refused_or}
+pub use Rattle.kernel_calls.specs.Machine.{after, answer, answer_of, answers, completes, end_of, next}
 pub use Rattle.kernel_calls.specs.Processors.{AllAreRead, AreAmong, IsCore, IsLeft, IsLoaded, IsMarked, IsWalked, LetCall, LetsThrough, Processors, with_kept}
 pub use Rattle.kernel_calls.specs.Translations.{AreRead, Ends, IsGiven, IsRead, Kept, Translation, WalkGives, directory_entry, ended_by, if_lazy, is_ended, is_invalidated, left_by, of_call, of_pages, translation}
 pub use Rattle.kernel_calls.specs.Walked.{bytes_accessed, finds_call, finds_event, reply_found}
@@ -50,23 +50,23 @@ pub use Rattle.kernel_calls.specs.declared.translations.Ended.{Ended}
 pub use Rattle.page_words.proofs.Flags.{flag-with_flag_other, flag-with_flag_same, set_flag_frame, set_flag_other}
 pub use Rattle.page_words.proofs.MapLemmas.{contains-insert, contains-retain, get-insert, get-map_values, same-true, same_itself, same_map, same_or_not}
 pub use Rattle.page_words.proofs.OptionLemmas.{is_some-map, some_value}
-pub use Rattle.page_words.specs.Addresses.{EachTouched, byte_count, index_number, is_user_page, offset_number, page_and, page_number, second_page, slot_number, start_number, touched}
+pub use Rattle.page_words.specs.Addresses.{EachTouched, byte_count, index_number, offset_number, page_and, page_number, second_page, slot_number, start_number, touched}
 pub use Rattle.page_words.specs.FiniteMap.{nat_order, same}
 pub use Rattle.page_words.specs.FiniteSet.{Set}
-pub use Rattle.page_words.specs.Words.{IsKernelDirWord, NamesPage, flag, frame_number, is_accessed, is_dirty, is_lazy, is_present, with_flag}
+pub use Rattle.page_words.specs.Words.{IsKernelDirWord, NamesPage, flag, frame_number, is_accessed, is_lazy, is_present, with_flag}
 pub use Rattle.page_words.specs.declared.addresses.Size.{Size}
 pub use Rattle.phys_memory.proofs.Frames.{byte-frame, frames-with_byte, frames-with_word, length-frame, with_frame-other, with_frame-same, word_in-frame, word_in_other, word_in_same}
 pub use Rattle.phys_memory.proofs.Words.{length-with_word, word_at-with_word_same}
 unfoldable pub use Rattle.phys_memory.specs.Bytes.{frame_bytes, with_word, word_at}
 pub use Rattle.phys_memory.specs.Bytes.{IsInside, with_frame, with_word_in, word_in, word_place}
-pub use Rattle.process_table.proofs.CellLaws.{get-inserted, get-inserted_other}
+pub use Rattle.process_table.proofs.CellLaws.{get-inserted}
 pub use Rattle.process_table.proofs.SharingLaws.{touched_user}
 pub use Rattle.process_table.specs.Calls.{accept_refusal, after_store, offered}
 pub use Rattle.process_table.specs.Image.{Account, IsCharge, IsSoundImage, account_of, image_of, memory_of, quota_from}
 pub use Rattle.process_table.specs.State.{State, is_live, is_mapped, open_with}
 pub use Rattle.process_table.specs.View.{View}
 pub use Rattle.process_table.specs.WellFormed.{IsWellFormed}
-pub use Rattle.quota_tree.specs.Book.{Book, Member, given, number_of_children}
+pub use Rattle.quota_tree.specs.Book.{given}
 pub use Rattle.shootdowns.specs.Shadows.{ComeAfter, LeavesZeros, Uses, UsesComeAfterZeros}
 pub use Rattle.shootdowns.specs.Windows.{Acknowledged, Begins, CleanStoresComeFirst, IsStale, IsStaleClean, KeepsNone, LetStore, LetsWrite, Moment, OthersAreRead, OthersEndNothing, ShootdownsMakeEvents, StaleLoadsComeFirst, StaleStoresComeFirst, Stands, Step, Steps, WalksComeFirst, acknowledged, all_dirty, begun, ended_in, first, forgotten, invalidated, loaded, marked, may_end, memory_in, nobody, none, only_takes, ordered, refilled, settled, state_of, stored_clean, takes_right, told, under_way, usable, usual, walked, with_dirty, with_one}
 pub use Rattle.shootdowns.specs.Worked.{WorkedProtect, WorkedWindow, WorkedZeros, accept_it, ask_it, first_store, fork_it, load_copy, load_it, map_it, none_kept, offer_it, protect_it, second_store, spawn_it, store_copy, store_it, unmap_it}

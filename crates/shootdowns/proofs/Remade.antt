@@ -1,7 +1,6 @@
 -- Memory in which bytes of pages and of free frames were written, or dirty was set in words of pages that aren't lazy: it
 -- is a core's, whose cells have those bytes, and dirty there.
-use Rattle.shootdowns.proofs.Prelude
-use Prelude.{◌≡◌, ◌≤◌, ◌≢◌, ℕ, ◌+◌, ◌*◌, ◌<◌, ◌^◌, Bool, true, false, List, [], ◌∷◌, length, refl, ap, sym, ◌∙◌, subst, arith, inr, Option, Some, None, ◌↔◌, ◌&&◌, not, if◌then◌else◌, nat_lt, IsTrue, MatchBool, slice_get, sum_by, Ok, option_and_then, option_map, slot_number, index_number, nat_order, flag, with_flag, frame_number, is_present, is_accessed, is_lazy, IsKernelDirWord, NamesPage, flag-with_flag_same, set_flag_other, set_flag_frame, is_some-map, frame_bytes, word_in, Table, Access, Read, Write, walk_of, directory_at, table_at, word_of, present_word, page_word, page_frame, is_lazy_at, IsCount, SlotStands, CellStands, is_lazy_word, own_frame, IsTableWord, Slot, slot_order, Cell, slot_at, at_page, way_of, from_map, IsSoundImage, Account, IsCharge, image_of, memory_of, account_of, quota_from, State, View, IsWellFormed, given, IsCore, Kept, translation, directory_entry, IsRead, AreRead, ways_of, has, walk_takes, walk_finds, has_right}
+use Rattle.shootdowns.proofs.Prelude.{◌≡◌, ◌≤◌, ◌≢◌, ℕ, ◌+◌, ◌*◌, ◌<◌, ◌^◌, Bool, true, false, List, [], ◌∷◌, length, refl, ap, sym, ◌∙◌, subst, arith, Option, Some, None, ◌↔◌, ◌&&◌, not, if◌then◌else◌, nat_lt, IsTrue, MatchBool, slice_get, sum_by, Ok, option_and_then, option_map, slot_number, index_number, nat_order, flag, with_flag, frame_number, is_present, is_accessed, is_lazy, IsKernelDirWord, NamesPage, flag-with_flag_same, set_flag_other, set_flag_frame, is_some-map, frame_bytes, word_in, Table, Access, Read, Write, walk_of, directory_at, table_at, word_of, present_word, page_word, page_frame, is_lazy_at, IsCount, SlotStands, CellStands, is_lazy_word, own_frame, IsTableWord, Slot, slot_order, Cell, slot_at, at_page, way_of, from_map, IsSoundImage, Account, IsCharge, image_of, memory_of, account_of, quota_from, State, View, IsWellFormed, given, IsCore, Kept, translation, directory_entry, IsRead, AreRead, ways_of, has, walk_takes, walk_finds, has_right}
 use Rattle.std.specs.Prelude.{is_some}
 use Rattle.std.specs.Option.{unwrap_or}
 use Rattle.std.specs.List.{range_with_len}
@@ -89,14 +88,12 @@ module _ (w : View) (core : IsCore w) (F : Slot → ℕ) (one : Slot → Bool) (
           ∙ out (nat_lt f (length w.roles) && is_present n)
         where
           out : (c : Bool) → (if c then Some (mark b n) else None) ≡ option_map (mark b) (if c then Some n else None)
-          out true = refl
-          out false = refl
+          out x0 = grind arith
 
       by : (y : Option ℕ) → table_at (memory_of w) slot.pid (slot_number slot.page) ≡ y
           → option_and_then (λ f. present_word (memory_of x) f (word_of (memory_of x) f (index_number slot.page))) y
           ≡ option_map (mark (one slot)) (option_and_then (λ f. present_word (memory_of w) f (word_of (memory_of w) f (index_number slot.page))) y)
-      by None is = refl
-      by (Some f) is = ap (present_word (memory_of w) f) (r.tables slot f is) ∙ marks (one slot) f (word_of (memory_of w) f (index_number slot.page))
+      by x0 is = grind (arith, marks)
 
   -- a word that is there was there, but for dirty
   word_before : (slot : Slot) (n : ℕ) → page_word (memory_of x) slot ≡ Some n → (m : ℕ) × (page_word (memory_of w) slot ≡ Some m) × (mark (one slot) m ≡ n)
@@ -171,8 +168,7 @@ module _ (w : View) (core : IsCore w) (F : Slot → ℕ) (one : Slot → Bool) (
   }
     where
       words : (word : ℕ) (b : Bool) → IsTableWord 2 word → (b ≡ true → (n : ℕ) × (word ≡ n) × NamesPage n × (is_lazy n ≡ false) × (is_accessed n ≡ true)) → IsTableWord 2 (mark b word)
-      words word false h k = h
-      words word true h k = let m = k refl in inr (subst (λ n. NamesPage (with_flag n 6 true)) (sym m.1) (dirty_names m.0 m.3 m.4 m.2))
+      words word x1 h k = grind (arith, dirty_names)
 
   cell_stands : (slot : Slot) → SlotStands (memory_of x) slot (page_word (memory_of x) slot) (map.get t.spaces slot)
   cell_stands slot =

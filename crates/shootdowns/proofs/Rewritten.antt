@@ -1,6 +1,5 @@
 -- Memory in which bytes of pages and of free frames were written.
-use Rattle.shootdowns.proofs.Prelude
-use Prelude.{◌≡◌, ℕ, Bool, true, false, List, length, refl, ap, arith, Some, slice_get, option_map, slot_number, index_number, frame_number, frame_bytes, word_in, Role, Reserved, Free, Directory, Table, Page, page_word, Slot, memory_of, State, View, IsWellFormed, IsCore}
+use Rattle.shootdowns.proofs.Prelude.{◌≡◌, ℕ, Bool, true, false, List, length, refl, ap, arith, Some, slice_get, option_map, slot_number, index_number, frame_number, frame_bytes, word_in, Role, Reserved, Free, Directory, Table, Page, page_word, Slot, memory_of, State, View, IsWellFormed, IsCore}
 use Rattle.page_words.specs.FiniteMap as map
 use Rattle.shootdowns.proofs.Filled.{fill}
 use Rattle.shootdowns.proofs.Remade.{Remade}

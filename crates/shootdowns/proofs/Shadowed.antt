@@ -1,6 +1,5 @@
 -- Uses of what was kept come after an event that gives lazy pages frames and leaves their zeros.
-use Rattle.shootdowns.proofs.Prelude
-use Prelude.{◌≡◌, ◌≢◌, ℕ, Bool, true, false, List, [], ◌∷◌, ◌+◌, refl, ap, sym, ◌∙◌, arith, inl, inr, Option, Some, None, subst, is_some, ◌⊎◌, if◌then◌else◌, slice_get, slice_index, page_number, byte_count, EachTouched, Size, frame_bytes, byte-frame, Read, Write, directory_at, is_lazy_at, kept_place, number_at, Slot, Cell, at_page, byte_at, value_of, each_byte, same_each, memory_of, State, is_live, is_mapped, View, touched_user, plan_at, each_page, walk_completes, Serves, ServesCall, ServesEvent, IsLoad, IsStore, reply_kept, answer, answer_of, after, next, completes, IsCore, IsLeft, Processors, AllAreRead, IsLoaded, LetsThrough, LetCall, Translation, translation, IsGiven, Ends, AreRead, ended_by, is_ended, Call, Event, Reply, Ended, goes-call, next-goes, Touched, loaded_same, live, kept_find, kept_reply, stores_leave_cores, left_read, read_at, answered, goes_frameless, told_planned, IsStale, Uses, ComeAfter, UsesComeAfterZeros}
+use Rattle.shootdowns.proofs.Prelude.{◌≡◌, ◌≢◌, ℕ, Bool, true, false, List, [], ◌∷◌, ◌+◌, refl, ap, sym, ◌∙◌, arith, Some, None, subst, is_some, ◌⊎◌, if◌then◌else◌, slice_get, slice_index, page_number, byte_count, EachTouched, Size, frame_bytes, byte-frame, Read, Write, directory_at, is_lazy_at, kept_place, number_at, Slot, Cell, at_page, byte_at, value_of, each_byte, same_each, memory_of, State, is_live, is_mapped, View, touched_user, plan_at, each_page, walk_completes, Serves, ServesCall, ServesEvent, IsLoad, IsStore, reply_kept, answer, answer_of, after, next, completes, IsCore, IsLeft, Processors, AllAreRead, IsLoaded, LetsThrough, LetCall, Translation, translation, IsGiven, Ends, AreRead, ended_by, is_ended, Call, Event, Reply, Ended, goes-call, next-goes, Touched, loaded_same, live, kept_find, kept_reply, stores_leave_cores, left_read, read_at, answered, goes_frameless, told_planned, IsStale, Uses, ComeAfter, UsesComeAfterZeros}
 use Rattle.page_words.specs.FiniteMap as map
 use Rattle.page_words.specs.FiniteSet as set
 use Rattle.process_table.specs.Calls as calls
@@ -53,8 +52,7 @@ module _ (u : View) (core : IsCore u) (p : ℕ) (frames : ℕ → ℕ) where
   call_same _ found = absurd found
 
   call_done : (c : Call) → FindsCall u p frames c → (completes (reply_kept frames u.bytes c) ≡ true) × (is_live u.state p ≡ true)
-  call_done (call.Load addr size) found = (refl, core.well_formed.owners (at_page p (page_number addr)) found.0.cell found.0.there)
-  call_done _ found = absurd found
+  call_done x0 found = grind arith
 
 -- the load is answered by these bytes, and changes nothing
 load_found : (u : View) (core : IsCore u) (frames : ℕ → ℕ) (a : Event) → FindsCall u a.pid frames a.call
@@ -72,8 +70,7 @@ given_after : (v w : View) (ended : Ended) (t : Translation) → Ends ended v w 
 given_after v w ended t ends spared given = by (is_ended ended t.slot) spared (left_read ended v w (translation t ∷ []) ends (given, tt))
   where
     by : (b : Bool) → b ≡ false → AreRead w (if b then [] else translation t ∷ []) → IsGiven w t
-    by true h read = cc
-    by false h read = read.0
+    by x0 h read = grind arith
 
 -- Memory is a core's. Walks give all that was kept and isn't ended. What is ended has zeros.
 record After (v : View) (x : Ended) (keeps : Processors) (u : View) : Type 0 where
@@ -191,8 +188,7 @@ module _ (v : View) (before : IsCore v) (x : Ended) (keeps : Processors) (all : 
                   alone s (z.alone (at_page a.pid page) (ap (λ (c : Cell). set.contains c.holders (at_page a.pid page)) (sym q) ∙ ap (λ g. set.contains g (at_page a.pid page)) other.2 ∙ here.own)))
                 where
                   alone : Stores a.pid page (l.frames page) → (at_page a.pid page ≡ slot) ⊎ (map.get v.state.spaces (at_page a.pid page) ≡ None) → ⊥
-                  alone s (inl same) = differ s (sym same)
-                  alone s (inr gone) = let e : ◌≡◌ {A = Option Cell} None (Some s.mapped.0) = sym gone ∙ s.mapped.1 in cc
+                  alone s x1 = grind arith
 
           by : (c : Call) → IsStore c → LetCall (keeps i) a.pid l.frames c → Besides u.state slot a.pid c
           by (call.Store addr size value) store lets =

@@ -1,6 +1,5 @@
 -- Accesses by what is kept of the memory before an event that only takes away.
-use Rattle.shootdowns.proofs.Prelude
-use Prelude.{◌≡◌, ℕ, true, List, [], ◌∷◌, length, refl, ap, sym, ◌∙◌, inl, inr, Option, Some, None, ◌⊎◌, slice_get, option_map, frame_bytes, Role, Free, Page, page_word, Slot, Cell, frame_number, memory_of, State, View, IsWellFormed, ServesEvent, bytes_kept, IsLoad, reply_kept, answer, next, IsCore, Processors, IsLoaded, Kept, AreRead, Call, Event, Reply, Ended, serves_call, kept-next, only_takes, Acknowledged, usable, under_way, IsStale, arith}
+use Rattle.shootdowns.proofs.Prelude.{◌≡◌, ℕ, true, List, [], ◌∷◌, length, refl, ap, sym, ◌∙◌, Option, Some, ◌⊎◌, slice_get, option_map, frame_bytes, Role, Free, Page, page_word, Slot, Cell, frame_number, memory_of, State, View, IsWellFormed, ServesEvent, bytes_kept, IsLoad, reply_kept, answer, next, IsCore, Processors, IsLoaded, Kept, AreRead, Call, Event, Reply, Ended, serves_call, kept-next, only_takes, Acknowledged, usable, under_way, IsStale, arith}
 use Rattle.shootdowns.proofs.Accesses.{frame_at, kept_answer, kept_next, kept_beside, kept_long}
 use Rattle.shootdowns.proofs.Alike.{Alike, with_state, FlagsGrow, flags_read, alike_then, alike_filled, again}
 use Rattle.shootdowns.proofs.Filled.{fill, filled_state, get_filled, answer_filled, next_filled}
@@ -55,8 +54,7 @@ module _ (x : Ended) (done : Acknowledged) (e : Event) (r : Reply) (s : State) (
     fixed_now f role is fixed = ap (λ b. frame_bytes b f) left ∙ kept_beside v t.before s t.alike t.well w.bytes frames a served f t.long (λ c page. by (t.pages f c page))
       where
         by : ((slice_get w.roles f ≡ Some Free) ⊎ ((d : ℕ) × (slice_get w.roles f ≡ Some (Page d)))) → ⊥
-        by (inl free) = grind (arith, is_fixed)
-        by (inr page) = grind (arith, is_fixed)
+        by x0 = grind (arith, is_fixed)
 
     book_now : (next (next s a) e).book ≡ w.state.book
     book_now = ap (λ (z : State). z.book) after_now ∙ sym (ap (λ (z : State). z.book) after_then)
@@ -71,8 +69,7 @@ module _ (x : Ended) (done : Acknowledged) (e : Event) (r : Reply) (s : State) (
         ∙ ap (option_map (fill (frame_at v) bytes slot)) (sym (ap (λ (z : State). map.get z.spaces slot) after_then ∙ get_filled (frame_at v) w.bytes (next s e).spaces slot))
       where
         by : (z : Option Cell) → option_map (fill (frame_at v) bytes slot) z ≡ option_map (fill (frame_at v) bytes slot) (option_map (fill (frame_at v) w.bytes slot) z)
-        by None = refl
-        by (Some c) = refl
+        by x0 = grind arith
 
     -- so that it is a core's
     remade_now : Remade w (frame_at v) no_slot (next (next s a) e) bytes

@@ -1,6 +1,5 @@
 -- What stands at each moment of a window, and what a step makes of what comes after it.
-use Rattle.shootdowns.proofs.Prelude
-use Prelude.{◌≡◌, ℕ, true, List, [], ◌∷◌, ◌++◌, length, ap, Some, ◌⊎◌, slice_get, frame_number, Free, Page, directory_at, table_at, page_word, Slot, memory_of, State, View, IsWellFormed, answer, answers, next, end_of, IsCore, Processors, AllAreRead, Event, Reply, Ended, only_takes, Acknowledged, Moment, settled, under_way, state_of, Stands}
+use Rattle.shootdowns.proofs.Prelude.{◌≡◌, ℕ, true, List, [], ◌∷◌, ◌++◌, length, ap, Some, ◌⊎◌, slice_get, frame_number, Free, Page, directory_at, table_at, page_word, Slot, memory_of, State, View, IsWellFormed, answer, answers, next, end_of, IsCore, Processors, AllAreRead, Event, Reply, Ended, only_takes, Acknowledged, Moment, settled, under_way, state_of, Stands}
 use Rattle.shootdowns.proofs.Accesses.{frame_at}
 use Rattle.shootdowns.proofs.Alike.{Alike, with_state}
 use Rattle.shootdowns.proofs.Filled.{filled_state}

@@ -1,6 +1,5 @@
 -- Stores into the frames of pages, on cells that have these frames' bytes.
-use Rattle.shootdowns.proofs.Prelude
-use Prelude.{◌≡◌, ◌≢◌, ℕ, zero, suc, ◌+◌, ◌*◌, ◌/◌, ◌%◌, ◌<◌, ◌≤◌, Bool, true, false, cond, List, [], ◌∷◌, length, length-set, refl, ap, sym, ◌∙◌, subst, arith, inl, inr, Option, Some, ◌⊎◌, if◌then◌else◌, slice_set, option_map, page_number, offset_number, same, same_map, same_or_not, frame_bytes, IsInside, with_frame, frames-with_byte, with_frame-same, with_frame-other, length-frame, kept_place, written_at, Slot, slot_order, Cell, Spaces, at_page, with_bytes, write_at, stored, all_stored, bytes_of, byte_is_write}
+use Rattle.shootdowns.proofs.Prelude.{◌≡◌, ◌≢◌, ℕ, zero, suc, ◌+◌, ◌*◌, ◌/◌, ◌%◌, ◌<◌, ◌≤◌, Bool, true, false, cond, List, [], ◌∷◌, length, length-set, refl, ap, sym, ◌∙◌, subst, arith, inl, inr, Option, Some, ◌⊎◌, if◌then◌else◌, slice_set, option_map, page_number, offset_number, same, same_map, same_or_not, frame_bytes, IsInside, with_frame, frames-with_byte, with_frame-same, with_frame-other, length-frame, kept_place, written_at, Slot, slot_order, Cell, Spaces, at_page, with_bytes, write_at, stored, all_stored, bytes_of, byte_is_write}
 use Rattle.page_words.specs.FiniteMap as map
 use Rattle.page_words.specs.FiniteSet as set
 use Rattle.shootdowns.proofs.Cells.{get_stored, first_of, rest_of}

@@ -1,6 +1,5 @@
 -- Accesses of mapped pages, and slots that go or lose a right, in either order.
-use Rattle.shootdowns.proofs.Prelude
-use Prelude.{◌≡◌, ◌≢◌, ℕ, Bool, true, false, cond, List, refl, ap, sym, ◌∙◌, subst, inl, inr, Option, Some, None, unwrap_or, ◌⊎◌, if◌then◌else◌, option_map, same, Set, same_map, same_or_not, same_itself, get-insert, get-map_values, contains-retain, Slot, slot_order, Cell, Spaces, cell_or_fresh, fresh, with_bytes, set_bytes, write_at, stored, accessed, protected, without, get-inserted, fewer, get_gone, bytes_gone, arith}
+use Rattle.shootdowns.proofs.Prelude.{◌≡◌, ◌≢◌, ℕ, Bool, true, false, cond, List, refl, ap, sym, ◌∙◌, subst, inl, inr, Option, Some, None, unwrap_or, ◌⊎◌, if◌then◌else◌, option_map, same, Set, same_map, same_or_not, same_itself, get-insert, get-map_values, contains-retain, Slot, slot_order, Cell, Spaces, cell_or_fresh, fresh, with_bytes, set_bytes, write_at, stored, accessed, protected, without, get-inserted, fewer, get_gone, bytes_gone, arith}
 use Rattle.std.proofs.Common.{not, ◌&&◌}
 use Rattle.page_words.specs.FiniteMap as map
 use Rattle.page_words.specs.FiniteSet as set
@@ -25,8 +24,7 @@ set_gone S gone b y stays = same_map _ _ (λ r.
     by : (r : Slot) → ((r ≡ b) × (same slot_order r b ≡ true)) ⊎ (same slot_order r b ≡ false)
         → option_map (fewer gone) (cond (not (gone r)) (cond (same slot_order r b) (Some y) (map.get S r)) None)
         ≡ cond (same slot_order r b) (Some (fewer gone y)) (option_map (fewer gone) (cond (not (gone r)) (map.get S r) None))
-    by r (inl is) = grind (arith, fewer)
-    by r (inr other) = grind (arith, fewer)
+    by r x1 = grind (arith, fewer)
 
 -- a group's bytes, where some of the group are gone
 group_gone : (S : Spaces) (gone : Slot → Bool) (h : Set slot_order) (new : List ℕ)
@@ -40,14 +38,12 @@ group_gone S gone h new = same_map _ _ (λ r.
     none r is = get_gone S gone r ∙ ap (λ k. option_map (fewer gone) (cond (not k) (map.get S r) None)) is
 
     inside : (b : Bool) → (b && not false) ≡ b
-    inside true = refl
-    inside false = refl
+    inside x0 = grind arith
 
     by : (r : Slot) (b : Bool) → gone r ≡ b
         → option_map (λ (c : Cell). if set.contains (set.retain h (λ x. not (gone x))) r then with_bytes c new else c) (map.get (without S gone) r)
         ≡ option_map (λ (c : Cell). if set.contains h r then with_bytes c new else c) (map.get (without S gone) r)
-    by r true is = grind (arith, none)
-    by r false is = grind (arith, contains-retain, inside)
+    by r x1 is = grind (arith, none, contains-retain, inside)
 
 -- ---- One page
 
@@ -76,8 +72,7 @@ twice S a x y = same_map _ _ (λ r.
     ∙ by (same slot_order r a) (map.get S r) ∙ sym (get-insert S a y r))
   where
     by : (b : Bool) (z : Option Cell) → cond b (Some y) (cond b (Some x) z) ≡ cond b (Some y) z
-    by true z = refl
-    by false z = refl
+    by x0 z = grind arith
 
 pub accessed_right : (S : Spaces) (a b : Slot) (w : Bool) → protected (accessed S b) a w ≡ accessed (protected S a w) b
 accessed_right S a b w = by (same_or_not slot_order a b)
@@ -115,8 +110,7 @@ stored_right S a b c d w o ys apart at there = same_map _ _ (λ r.
     other_slot x y apart = flip (same_or_not slot_order x y)
       where
         flip : ((x ≡ y) × (same slot_order x y ≡ true)) ⊎ (same slot_order x y ≡ false) → same slot_order x y ≡ false
-        flip (inl is) = absurd (apart is.0)
-        flip (inr is) = is
+        flip x0 = grind arith
 
     left : map.get (stored S b o ys) a ≡ Some (grouped c o ys a d)
     left = get_stored S b c at o ys a ∙ (λ i. cond (other_slot a b apart i) (Some (written c o ys)) (option_map (grouped c o ys a) (there i)))
@@ -125,8 +119,7 @@ stored_right S a b c d w o ys apart at there = same_map _ _ (λ r.
     right = get_protected S a d there w b ∙ ap (λ q. cond q (Some (record d { write = w })) (map.get S b)) (other_slot b a (λ is. apart (sym is))) ∙ at
 
     pick : (k : Bool) → record (if k then with_bytes d (write_at c.bytes o ys) else d) { write = w } ≡ (if k then with_bytes (record d { write = w }) (write_at c.bytes o ys) else record d { write = w })
-    pick true = refl
-    pick false = refl
+    pick x0 = grind arith
 
     by : (r : Slot) → ((r ≡ a) × (same slot_order r a ≡ true)) ⊎ (same slot_order r a ≡ false) → ((r ≡ b) × (same slot_order r b ≡ true)) ⊎ (same slot_order r b ≡ false)
         → cond (same slot_order r a) (Some (record (grouped c o ys a d) { write = w })) (cond (same slot_order r b) (Some (written c o ys)) (option_map (grouped c o ys r) (map.get S r)))

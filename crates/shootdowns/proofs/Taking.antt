@@ -1,6 +1,5 @@
 -- Events that only take away: which slots stay, and on which frames.
-use Rattle.shootdowns.proofs.Prelude
-use Prelude.{◌≡◌, ℕ, Bool, true, false, cond, List, [], ◌∷◌, length, refl, ap, sym, ◌∙◌, arith, inl, inr, Option, Some, None, is_some, unwrap_or, ◌<◌, ◌⊎◌, slice_get, slice_get_within, option_map, option_and_then, same, Set, some_value, same_itself, same_map, same_or_not, get-insert, frame_number, is_lazy, frame_bytes, Free, Page, directory_at, table_at, page_word, page_frame, own_frame, Slot, slot_order, Cell, Spaces, at_page, cell_or_fresh, fresh, with_bytes, without, protected, is_slot, is_of, FramesStay, LooseStay, way_parts, owned, own_is, from_map, from_then, memory_of, State, View, gone_of_call, gone_by, gives_back, answer, answer_of, after, next, completes, IsCore, Call, Event, get_gone, next-stays, next-goes, tables_map, kept-next, only_takes}
+use Rattle.shootdowns.proofs.Prelude.{◌≡◌, ℕ, Bool, true, false, cond, List, [], ◌∷◌, length, refl, ap, sym, ◌∙◌, arith, inl, inr, Option, Some, None, is_some, unwrap_or, ◌<◌, ◌⊎◌, slice_get, slice_get_within, option_map, option_and_then, same, Set, some_value, same_itself, same_map, same_or_not, get-insert, frame_number, is_lazy, frame_bytes, Free, Page, directory_at, table_at, page_word, page_frame, own_frame, Slot, slot_order, Cell, Spaces, at_page, cell_or_fresh, fresh, with_bytes, without, protected, is_slot, is_of, FramesStay, LooseStay, way_parts, owned, own_is, from_map, from_then, memory_of, State, View, gone_of_call, gone_by, gives_back, answer, answer_of, after, next, completes, IsCore, Call, Event, get_gone, next-stays, next-goes, tables_map, kept-next, only_takes}
 use Rattle.std.specs.FinMap.Entries.{find}
 use Rattle.page_words.specs.FiniteMap as map
 use Rattle.page_words.specs.FiniteSet as set
@@ -116,8 +115,7 @@ by_protect v w before later e state stay page write is = record {
         )
       where
         real : (word : ℕ) → page_word (memory_of w) slot ≡ Some word → (b : Bool) → is_lazy word ≡ b → frame_number word ≡ f → is_lazy word ≡ false
-        real word at false k same = k
-        real word at true k same = grind (arith, lazy_zero, slice_get_within)
+        real word at x2 k same = grind (arith, lazy_zero, slice_get_within)
 
 pub pages_stand : (v w : View) → IsCore v → IsCore w → (e : Event) → w.state ≡ next v.state e → FramesStay (gone_by v.state e) (memory_of v) (memory_of w)
     → (gives_back e.call ≡ true → LooseStay (memory_of v) (memory_of w)) → only_takes e.call ≡ true → PagesStand v w

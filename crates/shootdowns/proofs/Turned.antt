@@ -1,6 +1,5 @@
 -- An access of pages that stay mapped, and an event that only takes away, in either order.
-use Rattle.shootdowns.proofs.Prelude
-use Prelude.{◌≡◌, ◌≢◌, ℕ, zero, suc, ◌+◌, ◌/◌, ◌%◌, ◌<◌, Bool, true, false, cond, List, [], ◌∷◌, refl, ap, sym, ◌∙◌, subst, arith, inl, inr, Option, Some, None, unwrap_or, is_some, ◌⊎◌, if◌then◌else◌, IfSome, option_map, page_number, offset_number, page_and, second_page, byte_count, touched, EachTouched, Size, same, same_or_not, get-insert, get-map_values, some_value, Slot, slot_order, Cell, Spaces, at_page, slot_at, fresh, with_bytes, set_bytes, write_at, stored, all_stored, bytes_of, accessed, all_accessed, with_pages, protected, without, IsThere, with_touched-same, each_byte, State, get-inserted, each_page, answer, after, next, completes, Call, Event, next-stays, next-goes, only_takes}
+use Rattle.shootdowns.proofs.Prelude.{◌≡◌, ◌≢◌, ℕ, zero, suc, ◌+◌, ◌/◌, ◌%◌, ◌<◌, Bool, true, false, cond, List, [], ◌∷◌, refl, ap, sym, ◌∙◌, subst, arith, inl, inr, Option, Some, None, unwrap_or, is_some, ◌⊎◌, if◌then◌else◌, IfSome, option_map, page_number, offset_number, page_and, second_page, byte_count, touched, EachTouched, Size, same, same_or_not, get-insert, get-map_values, some_value, Slot, slot_order, Cell, Spaces, at_page, slot_at, fresh, with_bytes, set_bytes, write_at, stored, all_stored, bytes_of, accessed, all_accessed, with_pages, protected, without, IsThere, with_touched-same, each_byte, State, get-inserted, each_page, answer, after, next, completes, Call, Event, next-stays, next-goes, only_takes}
 use Rattle.page_words.specs.FiniteMap as map
 use Rattle.page_words.specs.FiniteSet as set
 use Rattle.kernel_calls.specs.declared.calls.Call.TheVariants as call
@@ -76,12 +75,10 @@ grows_bytes S h new = record {
 }
   where
     alike : (b : Bool) (c : Cell) → AlikeCell c (if b then with_bytes c new else c)
-    alike true c = record { write = refl; may = refl; holders = refl }
-    alike false c = same_cell c
+    alike x0 c = grind (arith, same_cell)
 
     flags : (b : Bool) (c : Cell) → (c.accessed ≡ true → (if b then with_bytes c new else c).accessed ≡ true) × (c.dirty ≡ true → (if b then with_bytes c new else c).dirty ≡ true)
-    flags true c = (λ h. h, λ h. h)
-    flags false c = (λ h. h, λ h. h)
+    flags x0 c = grind arith
 
     by : (slot : Slot) (d : Cell) (z : Option Cell) → map.get S slot ≡ z → option_map (λ (c : Cell). if set.contains h slot then with_bytes c new else c) (map.get S slot) ≡ Some d
         → (c : Cell) × (map.get S slot ≡ Some c) × AlikeCell c d
@@ -302,7 +299,19 @@ turned s e a takes pages done later = by (completes (answer s e)) refl
     moved X Y is alike = grind (arith, spacely, mapped_after)
 
     either : (c : Call) → e.call ≡ c → only_takes c ≡ true → completes (answer s e) ≡ true → after (after s e.pid c) a.pid a.call ≡ after (after s a.pid a.call) e.pid c
-    either x0 is h goes = grind (arith, next-goes, moved, gone_turned, spacely, mapped_before, some_value, protects_mapped, completed, right_turned)
+    either x0 is h goes =
+        grind (
+          arith,
+          next-goes,
+          moved,
+          gone_turned,
+          spacely,
+          mapped_before,
+          some_value,
+          protects_mapped,
+          completed,
+          right_turned,
+        )
 
     by : (b : Bool) → completes (answer s e) ≡ b → next (next s e) a ≡ next (next s a) e
     by x0 x1 = grind (arith, next-stays, same, next-goes, either)

@@ -1,6 +1,5 @@
 -- What an access leaves of the bytes of slots that it doesn't touch, and what an event that only takes away leaves.
-use Rattle.shootdowns.proofs.Prelude
-use Prelude.{◌≡◌, ◌≢◌, ℕ, zero, suc, ◌+◌, ◌/◌, ◌%◌, ◌<◌, Bool, true, false, cond, List, [], ◌∷◌, refl, ap, sym, ◌∙◌, subst, inl, inr, Option, Some, None, unwrap_or, is_some, ◌⊎◌, if◌then◌else◌, IfSome, option_map, page_number, offset_number, page_and, second_page, byte_count, touched, EachTouched, same, same_or_not, get-insert, some_value, Slot, slot_order, Cell, Spaces, at_page, slot_at, cell_or_fresh, fresh, with_bytes, write_at, stored, all_stored, bytes_of, accessed, all_accessed, protected, without, is_slot, is_of, IsThere, with_touched-same, each_byte, State, each_page, answer, answer_of, after, next, completes, Call, Event, fewer, get_gone, next-stays, next-goes, only_takes}
+use Rattle.shootdowns.proofs.Prelude.{◌≡◌, ◌≢◌, ℕ, zero, suc, ◌+◌, ◌/◌, ◌%◌, ◌<◌, Bool, true, false, cond, List, [], ◌∷◌, refl, ap, sym, ◌∙◌, subst, inl, inr, Option, Some, None, unwrap_or, is_some, ◌⊎◌, if◌then◌else◌, IfSome, option_map, page_number, offset_number, page_and, second_page, byte_count, touched, EachTouched, same, same_or_not, get-insert, some_value, Slot, slot_order, Cell, Spaces, at_page, slot_at, cell_or_fresh, fresh, with_bytes, write_at, stored, all_stored, bytes_of, accessed, all_accessed, protected, without, is_slot, is_of, IsThere, with_touched-same, each_byte, State, each_page, answer, answer_of, after, next, completes, Call, Event, fewer, get_gone, next-stays, next-goes, only_takes, arith}
 use Rattle.std.proofs.Common.{not}
 use Rattle.page_words.specs.FiniteMap as map
 use Rattle.page_words.specs.FiniteSet as set
@@ -34,12 +33,10 @@ stored_beside S b slot k o ys has apart out =
     ∙ by (map.get S slot)
   where
     other : ((slot ≡ b) × (same slot_order slot b ≡ true)) ⊎ (same slot_order slot b ≡ false) → same slot_order slot b ≡ false
-    other (inl is) = absurd (apart is.0)
-    other (inr is) = is
+    other x0 = grind arith
 
     by : (z : Option Cell) → option_map (λ (c : Cell). if false then with_bytes c (write_at k.bytes o ys) else c) z ≡ z
-    by None = refl
-    by (Some c) = refl
+    by x0 = grind arith
 
 -- a slot that is stored to, and has this one neither in its group nor as itself
 pub record Beside (S : Spaces) (slot b : Slot) : Type 0 where

@@ -1,6 +1,5 @@
 -- An access by a walk, while an event that only takes away isn't in the order.
-use Rattle.shootdowns.proofs.Prelude
-use Prelude.{◌≡◌, ℕ, ◌+◌, Bool, true, false, refl, ap, sym, ◌∙◌, subst, Option, Some, unwrap_or, is_some, ◌&&◌, not, if◌then◌else◌, page_number, byte_count, Size, some_value, Access, Read, Write, finds_at, finds, directory_at, is_lazy_at, takes_stores, Slot, Cell, at_page, slot_at, byte_at, value_of, cell_or_fresh, fresh, each_byte, same_each, memory_of, State, is_live, is_mapped, View, IsWellFormed, touched_user, plan_of, plan_at, takes_no_frame, each_page, walk_completes, answer, answer_of, next, completes, IsCore, finds_call, finds_event, reply_found, Call, Event, goes-call, next-goes, kept-next, answered, each_found, page_mapped, page_takes, only_takes, goes_frameless, told_planned, arith}
+use Rattle.shootdowns.proofs.Prelude.{◌≡◌, ℕ, ◌+◌, Bool, true, false, refl, ap, sym, ◌∙◌, subst, Option, Some, unwrap_or, is_some, ◌&&◌, not, if◌then◌else◌, page_number, byte_count, Size, some_value, Access, Read, Write, finds_at, finds, directory_at, is_lazy_at, takes_stores, Slot, Cell, at_page, slot_at, byte_at, value_of, cell_or_fresh, fresh, each_byte, same_each, memory_of, State, is_live, is_mapped, View, IsWellFormed, touched_user, plan_of, plan_at, takes_no_frame, each_page, walk_completes, answer, answer_of, next, completes, IsCore, finds_call, finds_event, reply_found, Call, Event, goes-call, next-goes, kept-next, answered, each_found, page_mapped, page_takes, only_takes, goes_frameless, told_planned, arith}
 use Rattle.page_words.specs.FiniteMap as map
 use Rattle.page_words.specs.FiniteSet as set
 use Rattle.process_table.specs.Calls.{loaded}

@@ -1,6 +1,5 @@
 -- The load of the worked Accept.
-use Rattle.shootdowns.proofs.Prelude
-use Prelude.{◌≡◌, ℕ, Bool, true, false, [], ◌∷◌, refl, ap, sym, ◌∙◌, subst, arith, Some, is_some, if◌then◌else◌, option_map, some_value, Read, is_lazy_at, Cell, at_page, FramesStay, memory_of, State, open_with, View, gone_by, gone_of_call, reply_kept, LeavesLazy, answer, completes, next, AllAreRead, IsCore, IsLoaded, Processors, with_kept, IsRead, Kept, translation, ended_by, is_invalidated, Event, Reply, ways_of, mapped_way, Uses, Begins, accept_it, load_it, map_it, none_kept, offer_it, spawn_it, WorkedZeros}
+use Rattle.shootdowns.proofs.Prelude.{◌≡◌, ℕ, Bool, true, false, [], ◌∷◌, refl, ap, sym, ◌∙◌, subst, arith, Some, is_some, if◌then◌else◌, option_map, some_value, Read, is_lazy_at, Cell, at_page, FramesStay, memory_of, State, open_with, View, gone_by, gone_of_call, reply_kept, LeavesLazy, answer, completes, next, AllAreRead, IsCore, IsLoaded, Processors, with_kept, IsRead, Kept, translation, ended_by, is_invalidated, Event, Reply, ways_of, mapped_way, Uses, Begins, accept_it, load_it, map_it, none_kept, offer_it, spawn_it, WorkedZeros}
 use Rattle.page_words.specs.FiniteMap as map
 use Rattle.kernel_calls.specs.declared.calls.Reply.TheVariants as reply
 use Rattle.shootdowns.specs.Shadows.{loaded, none}
@@ -104,8 +103,7 @@ stays_lazy v w e core later mapped spares stay =
     ∙ sym ((ways_of core).lazy (at_page 0 0x40000) way.0 way.1 way.2)
   where
     by : (c : Bool) (f : ℕ) → (if c then gone_of_call e.pid e.call (at_page 0 0x40000) f else false) ≡ false
-    by true f = spares f
-    by false f = refl
+    by x0 f = grind arith
 
 -- what the calls of a core that boots ensure
 pub record Called (o a l c v w : View) (map_reply : Reply) : Type 0 where

@@ -1,6 +1,5 @@
 -- The steps of the worked Protect.
-use Rattle.shootdowns.proofs.Prelude
-use Prelude.{◌≡◌, ◌≢◌, ℕ, ◌≤◌, ◌^◌, Bool, true, false, List, [], ◌∷◌, refl, ap, sym, ◌∙◌, subst, inr, zero, suc, arith, Some, is_some, length, unwrap_or, ◌⊎◌, slice_get, nat_lt, option_map, some_value, Read, walk_of, finds_at, is_lazy_at, Cell, at_page, FramesStay, none_goes, memory_of, State, open_with, View, gone_by, bytes_kept, LeavesLazy, answer, next, AllAreRead, IsCore, IsWalked, Processors, with_kept, IsRead, Kept, translation, directory_entry, Ends, ended_by, is_invalidated, left_by, bytes_accessed, reply_found, Reply, Ended, ways_of, next-stays, next-goes, nothing_ends, walks_leave_cores, mapped_way, Begins, IsStaleClean, KeepsNone, Steps, begun, walked, stored_clean, ordered, refilled, forgotten, invalidated, told, none, first, nobody, with_one, settled, under_way, all_dirty, first_store, fork_it, load_copy, store_copy, protect_it, ask_it, none_kept, WorkedProtect, if◌then◌else◌, gone_of_call, completes}
+use Rattle.shootdowns.proofs.Prelude.{◌≡◌, ◌≢◌, ℕ, ◌≤◌, ◌^◌, Bool, true, false, List, [], ◌∷◌, refl, ap, sym, ◌∙◌, subst, inr, arith, Some, is_some, length, unwrap_or, ◌⊎◌, slice_get, nat_lt, option_map, some_value, Read, walk_of, finds_at, is_lazy_at, Cell, at_page, FramesStay, none_goes, memory_of, State, open_with, View, gone_by, bytes_kept, LeavesLazy, answer, next, AllAreRead, IsCore, IsWalked, Processors, with_kept, IsRead, Kept, translation, Ends, ended_by, is_invalidated, left_by, bytes_accessed, reply_found, Reply, Ended, ways_of, next-stays, next-goes, nothing_ends, walks_leave_cores, mapped_way, Begins, IsStaleClean, KeepsNone, Steps, begun, walked, stored_clean, ordered, refilled, forgotten, invalidated, told, none, first, nobody, with_one, settled, under_way, all_dirty, first_store, fork_it, load_copy, store_copy, protect_it, ask_it, none_kept, WorkedProtect, if◌then◌else◌, gone_of_call, completes}
 use Rattle.std.proofs.Common.{◌&&◌}
 use Rattle.std.specs.Result.{is_ok}
 use Rattle.page_words.specs.FiniteMap as map
@@ -30,8 +29,7 @@ ask_stays : (s : State) → next s ask_it ≡ s
 ask_stays s = grind (arith, next-stays, next-goes)
 
 none_invalidated : (k : Kept) → is_invalidated end.Nothing k ≡ false
-none_invalidated (translation k) = refl
-none_invalidated (directory_entry k) = refl
+none_invalidated x0 = grind arith
 
 module _ (v w : View) (core : IsCore v) (state : v.state ≡ loaded_state) (real : is_lazy_at (memory_of v) (at_page 1 0x40000) ≡ false)
     (b : Begins v protect_it reply.Done w) where
@@ -173,8 +171,7 @@ module _ (v w : View) (core : IsCore v) (state : v.state ≡ loaded_state) (real
   forgets = first (forgotten 0 [] (λ m k h. absurd (none_there m k h))) (first ordered (first (told (λ i. inr (keeps_none i))) none))
     where
       none_there : (n : ℕ) (k : Kept) → slice_get {X = Kept} [] n ≡ Some k → ⊥
-      none_there zero k h = cc
-      none_there (suc n) k h = cc
+      none_there x0 k h = grind arith
 
       keeps_none : (i : ℕ) → KeepsNone (ended_by after ask_it) (last i)
       keeps_none i n k h = subst (λ (x : Ended). KeepsNone x (last i)) (sym asks_none) (λ n k h. none_invalidated k) n k h
@@ -260,5 +257,4 @@ worked_by o s f v w fork_reply k =
         gone_none z g = by (completes (answer z load_copy))
           where
             by : (b : Bool) → (if b then gone_of_call 1 load_copy.call (at_page 1 0x40000) g else false) ≡ false
-            by true = refl
-            by false = refl
+            by x0 = grind arith

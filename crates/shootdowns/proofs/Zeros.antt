@@ -1,6 +1,5 @@
 -- A lazy page that an event gives a frame has zeros afterwards, as before.
-use Rattle.shootdowns.proofs.Prelude
-use Prelude.{◌≡◌, ◌≢◌, ℕ, zero, suc, ◌+◌, ◌<◌, Bool, true, false, cond, ◌||◌, List, [], ◌∷◌, refl, ap, sym, ◌∙◌, subst, arith, inl, inr, Option, Some, None, unwrap_or, is_some, ◌⊎◌, if◌then◌else◌, IfSome, slice_set, option_map, option_and_then, offset_number, byte_count, EachTouched, Size, same, is_lazy, contains-insert, same_or_not, some_value, frame_bytes, page_word, is_lazy_at, takes_stores, Slot, slot_order, Cell, Spaces, at_page, slot_at, zeros, with_bytes, with_holders, write_at, stored, all_stored, bytes_of, joined, is_slot, IsThere, with_touched-same, each_byte, byte_is_write, after_store, memory_of, State, View, each_page, answer, answer_of, after, completes, IsCore, ended_by, if_lazy, is_ended, of_call, of_pages, Call, Event, Reply, next-goes, not-refused, Begins, LeavesZeros, accept_refusal, offered}
+use Rattle.shootdowns.proofs.Prelude.{◌≡◌, ◌≢◌, ℕ, zero, suc, ◌+◌, ◌<◌, Bool, true, false, cond, ◌||◌, List, [], ◌∷◌, refl, ap, sym, ◌∙◌, subst, arith, inl, Option, Some, None, unwrap_or, is_some, ◌⊎◌, if◌then◌else◌, IfSome, slice_set, option_map, option_and_then, offset_number, byte_count, EachTouched, Size, same, is_lazy, contains-insert, same_or_not, some_value, frame_bytes, page_word, is_lazy_at, takes_stores, Slot, slot_order, Cell, Spaces, at_page, slot_at, zeros, with_bytes, with_holders, write_at, stored, all_stored, bytes_of, joined, is_slot, IsThere, with_touched-same, each_byte, byte_is_write, after_store, memory_of, State, View, each_page, answer, answer_of, after, completes, IsCore, ended_by, if_lazy, is_ended, of_call, of_pages, Call, Event, Reply, next-goes, not-refused, Begins, LeavesZeros, accept_refusal, offered}
 use Rattle.std.proofs.lemmas.List.{set-get_or, get_or-replicate}
 use Rattle.page_words.specs.FiniteMap as map
 use Rattle.page_words.specs.FiniteSet as set
@@ -38,8 +37,7 @@ zero_byte S b r o l h k = by (same slot_order r b) refl
     get q is = get_stored S b h.0 h.1 o (0 ∷ []) r ∙ (λ i. cond (is i) (Some (written h.0 o (0 ∷ []))) (option_map (grouped h.0 o (0 ∷ []) r) (k.1 i)))
 
     put_zeros : (m : Bool) → (if m then with_bytes k.0 (write_at h.0.bytes o (0 ∷ [])) else k.0).bytes ≡ zeros
-    put_zeros true = new
-    put_zeros false = k.2
+    put_zeros x0 = grind (arith, new)
 
     by : (q : Bool) → same slot_order r b ≡ q → HasZeros (stored S b o (0 ∷ [])) r
     by true is = (written h.0 o (0 ∷ []), get true is, new)
@@ -75,16 +73,13 @@ ended_lazy v e leaves slot = by (completes (answer v.state e))
     one p page lazy is = pick (same_or_not slot_order (at_page p page) slot)
       where
         pick : ((at_page p page ≡ slot) × (same slot_order (at_page p page) slot ≡ true)) ⊎ (same slot_order (at_page p page) slot ≡ false) → is_lazy_at (memory_of v) slot ≡ true
-        pick (inl same) = ap (is_lazy_at (memory_of v)) (sym same.0) ∙ lazy
-        pick (inr other) = absurd (let k : true ≡ false = sym is ∙ other in cc)
+        pick x0 = grind arith
 
     if_is : (p page : ℕ) (b : Bool) → is_lazy_at (memory_of v) (at_page p page) ≡ b → IfSome (if b then Some page else None) (λ n. is_lazy_at (memory_of v) (at_page p n) ≡ true)
-    if_is p page true h = h
-    if_is p page false h = tt
+    if_is p page x2 h = grind arith
 
     second : (p : ℕ) (y : Option ℕ) → IfSome (option_and_then (if_lazy (memory_of v) p) y) (λ n. is_lazy_at (memory_of v) (at_page p n) ≡ true)
-    second p None = tt
-    second p (Some page) = if_is p page (is_lazy_at (memory_of v) (at_page p page)) refl
+    second p x1 = grind (arith, if_is)
 
     pages : (p : ℕ) (x y : Option ℕ) → IfSome x (λ n. is_lazy_at (memory_of v) (at_page p n) ≡ true) → IfSome y (λ n. is_lazy_at (memory_of v) (at_page p n) ≡ true)
         → is_ended (of_pages p x y) slot ≡ true → is_lazy_at (memory_of v) slot ≡ true
@@ -94,8 +89,7 @@ ended_lazy v e leaves slot = by (completes (answer v.state e))
     of_kind x0 leaves h = grind (arith, pages, if_is, second)
 
     by : (q : Bool) → is_ended (if q then of_call v e.pid e.call else end.Nothing) slot ≡ true → is_lazy_at (memory_of v) slot ≡ true
-    by true h = of_kind e.call leaves h
-    by false h = cc
+    by x0 h = grind (arith, of_kind)
 
 -- ---- What an event leaves of a lazy page
 
@@ -159,8 +153,7 @@ module _ (v : View) (core : IsCore v) where
 
         either : (other : Slot) → ((other ≡ at_page p page) × (same slot_order other (at_page p page) ≡ true)) ⊎ (same slot_order other (at_page p page) ≡ false)
             → (same slot_order other (at_page p page) || set.contains c.holders other) ≡ true → (other ≡ slot) ⊎ (map.get v.state.spaces other ≡ None)
-        either other (inl new) h = inr (ap (map.get v.state.spaces) new.0 ∙ none)
-        either other (inr old) h = inl (lone other (sym (ap (λ b. b || set.contains c.holders other) old) ∙ h))
+        either other x1 h = grind (arith, lone)
 
 -- so it is with what the event ended
 pub zeroed_by : (v w : View) (e : Event) (r : Reply) → IsCore v → Begins v e r w → LeavesZeros v e.pid e.call → (slot : Slot) → is_ended (ended_by v e) slot ≡ true
@@ -174,8 +167,7 @@ zeroed_by v w e r core b leaves slot ended c there accessed = by (completes (ans
     slot_is p page true is h = pick (same_or_not slot_order (at_page p page) slot)
       where
         pick : ((at_page p page ≡ slot) × (same slot_order (at_page p page) slot ≡ true)) ⊎ (same slot_order (at_page p page) slot ≡ false) → at_page p page ≡ slot
-        pick (inl same) = same.0
-        pick (inr other) = absurd (let k : true ≡ false = sym h ∙ other in cc)
+        pick x0 = grind arith
     slot_is p page false is h = cc
 
     of_kind : (k : Call) → LeavesZeros v e.pid k → is_ended (of_call v e.pid k) slot ≡ true → completes (answer_of v.state e.pid k) ≡ true → Zeroed v (after v.state e.pid k) slot

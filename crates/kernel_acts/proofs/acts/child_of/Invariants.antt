@@ -1,5 +1,4 @@
-use Rattle.kernel_acts.proofs.Prelude
-use Prelude.{◌≡◌, ◌<◌, ℕ, false, is_child_of}
+use Rattle.kernel_acts.proofs.Prelude.{◌≡◌, ◌<◌, ℕ, false, is_child_of}
 use Rattle.kernel_acts.proofs.acts.child_of.Given as goal
 
 -- no process so far is a child

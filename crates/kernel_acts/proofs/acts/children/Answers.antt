@@ -1,5 +1,4 @@
-use Rattle.kernel_acts.proofs.Prelude
-use Prelude.{◌≡◌, ◌∙◌, ap, filter, arith, range_with_len, is_child_of}
+use Rattle.kernel_acts.proofs.Prelude.{◌≡◌, ◌∙◌, ap, filter, arith, range_with_len, is_child_of}
 use Rattle.kernel_acts.proofs.Lists.{filter_range_more, one_more_or_none, rest_later}
 use Rattle.kernel_acts.proofs.acts.children.Goals as goal
 

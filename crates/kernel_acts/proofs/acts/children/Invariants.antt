@@ -1,5 +1,4 @@
-use Rattle.kernel_acts.proofs.Prelude
-use Prelude.{◌≡◌, ◌≤◌, take, drop, filter, range_with_len, is_child_of}
+use Rattle.kernel_acts.proofs.Prelude.{◌≡◌, ◌≤◌, take, drop, filter, range_with_len, is_child_of}
 use Rattle.kernel_acts.proofs.acts.children.Given as goal
 
 abbrev pub invariant-loop-number : goal.invariant-loop-number

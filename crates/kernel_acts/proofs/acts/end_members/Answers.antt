@@ -1,5 +1,4 @@
-use Rattle.kernel_acts.proofs.Prelude
-use Prelude.{rules, ◌≢◌, ℕ, ◌+◌, ◌<◌, length, slice_set, refl, sym, subst, ◌∙◌, arith, eqb-false, some_value, itself, eqb-true}
+use Rattle.kernel_acts.proofs.Prelude.{rules, ◌≢◌, ℕ, ◌+◌, ◌<◌, length, slice_set, refl, sym, subst, ◌∙◌, arith, eqb-false, some_value, itself, eqb-true}
 use Rattle.kernel_acts.proofs.FamilyEnds.{ending_none, descends_then, descends_live, descends_not_root}
 use Rattle.kernel_acts.proofs.FamilySteps.{Going, Leaves, going_room, going_on, going_out, going_down}
 use Rattle.kernel_acts.proofs.Lists.{set_rest}

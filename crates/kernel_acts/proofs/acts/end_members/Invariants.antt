@@ -1,5 +1,4 @@
-use Rattle.kernel_acts.proofs.Prelude
-use Prelude.{◌≡◌, drop}
+use Rattle.kernel_acts.proofs.Prelude.{◌≡◌, drop}
 use Rattle.kernel_acts.proofs.FamilySteps.{Going}
 use Rattle.page_words.specs.FiniteMap as map
 use Rattle.kernel_acts.proofs.acts.end_members.Given as goal

@@ -1,5 +1,4 @@
-use Rattle.kernel_acts.proofs.Prelude
-use Prelude.{arith}
+use Rattle.kernel_acts.proofs.Prelude.{arith}
 use Rattle.kernel_acts.proofs.FamilyEnds.{exit_done, exit_ends}
 use Rattle.kernel_acts.proofs.Members.{childless}
 use Rattle.kernel_acts.proofs.acts.exit_leaf.Goals as goal

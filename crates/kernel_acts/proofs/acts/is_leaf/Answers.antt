@@ -1,5 +1,4 @@
-use Rattle.kernel_acts.proofs.Prelude
-use Prelude.{arith, eqb-true}
+use Rattle.kernel_acts.proofs.Prelude.{arith, eqb-true}
 use Rattle.kernel_acts.proofs.Members.{counted, no_children_of}
 use Rattle.kernel_acts.proofs.acts.is_leaf.Goals as goal
 

@@ -1,5 +1,4 @@
-use Rattle.kernel_acts.proofs.Prelude
-use Prelude.{child, itself}
+use Rattle.kernel_acts.proofs.Prelude.{child, itself}
 use Rattle.kernel_acts.proofs.Members.{quota_below}
 use Rattle.kernel_acts.proofs.acts.leaf_below.Goals as goal
 

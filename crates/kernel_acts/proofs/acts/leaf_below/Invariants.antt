@@ -1,5 +1,4 @@
-use Rattle.kernel_acts.proofs.Prelude
-use Prelude.{quota_of, Descends}
+use Rattle.kernel_acts.proofs.Prelude.{quota_of, Descends}
 use Rattle.kernel_acts.proofs.acts.leaf_below.Given as goal
 
 abbrev pub invariant-loop-child : goal.invariant-loop-child

@@ -1,5 +1,4 @@
-use Rattle.kernel_acts.proofs.Prelude
-use Prelude.{◌≡◌, ◌∙◌, ℕ, ap, subst, refl, page_number, slot_at, after_stores, State, is_mapped, EndsMarks, is_writable_at, opening, store_run, closed, IsOpened}
+use Rattle.kernel_acts.proofs.Prelude.{◌≡◌, ◌∙◌, ℕ, ap, subst, refl, page_number, slot_at, after_stores, State, is_mapped, EndsMarks, is_writable_at, opening, store_run, closed, IsOpened}
 use Rattle.kernel_acts.proofs.Installs.{open_there, open_writes, run_then}
 use Rattle.kernel_acts.proofs.StoresEnd.{marks_then}
 use Rattle.kernel_calls.specs.declared.translations.Ended.TheVariants as end

@@ -1,5 +1,4 @@
-use Rattle.kernel_acts.proofs.Prelude
-use Prelude.{refl, subst, EndsMarks, ended_by, Ended, event_of, events_end_marks}
+use Rattle.kernel_acts.proofs.Prelude.{refl, subst, EndsMarks, ended_by, Ended, event_of, events_end_marks}
 use Rattle.kernel_acts.proofs.StoresEnd.{marks_same, marks_of_page}
 use Rattle.kernel_calls.specs.declared.translations.Ended.TheVariants as end
 use Rattle.kernel_acts.proofs.installing.open.Goals as goal

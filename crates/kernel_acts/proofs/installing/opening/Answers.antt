@@ -1,5 +1,4 @@
-use Rattle.kernel_acts.proofs.Prelude
-use Prelude.{◌∙◌}
+use Rattle.kernel_acts.proofs.Prelude.{◌∙◌}
 use Rattle.kernel_acts.proofs.Installs.{opened_before}
 use Rattle.kernel_acts.proofs.installing.opening.Goals as goal
 

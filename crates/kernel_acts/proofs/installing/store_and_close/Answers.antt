@@ -1,5 +1,4 @@
-use Rattle.kernel_acts.proofs.Prelude
-use Prelude.{◌≡◌, ◌∙◌, true, false, ap, subst, arith, page_number, answer, next, completes, Ends, ended_by, Event, protect_of, events_end_marks, next-goes}
+use Rattle.kernel_acts.proofs.Prelude.{◌≡◌, ◌∙◌, true, false, ap, subst, arith, page_number, answer, next, completes, Ends, ended_by, Event, protect_of, events_end_marks, next-goes}
 use Rattle.kernel_acts.proofs.Installs.{close_done, stored_there, store_run_closed, closing_spares, closing_ends_no_space}
 use Rattle.kernel_acts.proofs.StoresEnd.{marks_then, marks_of_page}
 use Rattle.kernel_calls.specs.declared.translations.Ended.TheVariants as end

@@ -1,5 +1,4 @@
-use Rattle.kernel_acts.proofs.Prelude
-use Prelude.{◌≡◌, ◌∙◌, sym, ap, arith, page_number, is_user_page}
+use Rattle.kernel_acts.proofs.Prelude.{◌≡◌, ◌∙◌, sym, ap, arith, page_number, is_user_page}
 use Rattle.kernel_acts.proofs.LoadedPages.{user_test, fails_first, passes_first}
 use Rattle.kernel_acts.proofs.loading.are_user.Goals as goal
 

@@ -1,5 +1,4 @@
-use Rattle.kernel_acts.proofs.Prelude
-use Prelude.{◌≡◌, ◌+◌, ◌-◌, ◌≤◌, list_all, is_user_page, pages_under}
+use Rattle.kernel_acts.proofs.Prelude.{◌≡◌, ◌+◌, ◌-◌, ◌≤◌, list_all, is_user_page, pages_under}
 use Rattle.kernel_acts.proofs.loading.are_user.Given as goal
 
 -- the pages so far pass the test, so that those left decide

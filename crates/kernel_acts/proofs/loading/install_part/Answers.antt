@@ -1,5 +1,4 @@
-use Rattle.kernel_acts.proofs.Prelude
-use Prelude.{arith, page_number}
+use Rattle.kernel_acts.proofs.Prelude.{arith, page_number}
 use Rattle.kernel_acts.proofs.LoadedPages.{part_goes}
 use Rattle.kernel_acts.proofs.loading.install_part.Goals as goal
 

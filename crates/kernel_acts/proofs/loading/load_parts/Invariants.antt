@@ -1,5 +1,4 @@
-use Rattle.kernel_acts.proofs.Prelude
-use Prelude.{◌≡◌, ◌+◌, ◌-◌, ◌≤◌, None, length, pages_under, load_refusal}
+use Rattle.kernel_acts.proofs.Prelude.{◌≡◌, ◌+◌, ◌-◌, ◌≤◌, None, length, pages_under, load_refusal}
 use Rattle.kernel_acts.proofs.LoadSteps.{Loading}
 use Rattle.kernel_acts.proofs.loading.load_parts.Given as goal
 

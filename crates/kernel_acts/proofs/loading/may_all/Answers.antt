@@ -1,5 +1,4 @@
-use Rattle.kernel_acts.proofs.Prelude
-use Prelude.{◌∙◌, sym, ap, subst, arith, IsUserPage, may_at}
+use Rattle.kernel_acts.proofs.Prelude.{◌∙◌, sym, ap, subst, arith, IsUserPage, may_at}
 use Rattle.kernel_acts.proofs.LoadedPages.{user_first, user_rest, fails_first, passes_first}
 use Rattle.kernel_acts.proofs.loading.may_all.Goals as goal
 

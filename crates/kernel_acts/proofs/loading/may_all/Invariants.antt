@@ -1,5 +1,4 @@
-use Rattle.kernel_acts.proofs.Prelude
-use Prelude.{◌≡◌, ◌+◌, ◌-◌, ◌≤◌, true, list_all, is_user_page, pages_under, may_at}
+use Rattle.kernel_acts.proofs.Prelude.{◌≡◌, ◌+◌, ◌-◌, ◌≤◌, true, list_all, is_user_page, pages_under, may_at}
 use Rattle.kernel_acts.proofs.loading.may_all.Given as goal
 
 -- the pages so far pass the test, so that those left decide

@@ -1,5 +1,4 @@
-use Rattle.kernel_acts.proofs.Prelude
-use Prelude.{◌≡◌, ◌+◌, ◌==◌, ◌∙◌, ℕ, sym, ap, subst, arith, eq-eqb, IsUserPage}
+use Rattle.kernel_acts.proofs.Prelude.{◌≡◌, ◌+◌, ◌==◌, ◌∙◌, ℕ, sym, ap, subst, arith, eq-eqb, IsUserPage}
 use Rattle.kernel_acts.proofs.LoadNeeds.{behind, counting_on, counting_all, later}
 use Rattle.kernel_acts.proofs.LoadedPages.{user_first, user_rest}
 use Rattle.kernel_acts.proofs.loading.need_of_all.Goals as goal

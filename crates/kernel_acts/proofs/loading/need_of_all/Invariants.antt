@@ -1,5 +1,4 @@
-use Rattle.kernel_acts.proofs.Prelude
-use Prelude.{◌≡◌, ◌+◌, ◌*◌, ◌-◌, ◌≤◌, true, list_all, is_user_page, pages_under}
+use Rattle.kernel_acts.proofs.Prelude.{◌≡◌, ◌+◌, ◌*◌, ◌-◌, ◌≤◌, true, list_all, is_user_page, pages_under}
 use Rattle.kernel_acts.proofs.LoadNeeds.{Counting}
 use Rattle.kernel_acts.proofs.loading.need_of_all.Given as goal
 

@@ -1,5 +1,4 @@
-use Rattle.kernel_acts.proofs.Prelude
-use Prelude.{◌≡◌, ℕ, ◌+◌, ◌*◌, ◌-◌, ◌∙◌, ap, length, take, drop, arith, part-frame}
+use Rattle.kernel_acts.proofs.Prelude.{◌≡◌, ℕ, ◌+◌, ◌*◌, ◌-◌, ◌∙◌, ap, length, take, drop, arith, part-frame}
 use Rattle.kernel_acts.proofs.peeking.copy_part.Goals as goal
 
 pub returns : goal.returns

@@ -1,5 +1,4 @@
-use Rattle.kernel_acts.proofs.Prelude
-use Prelude.{arith, cases_lt}
+use Rattle.kernel_acts.proofs.Prelude.{arith, cases_lt}
 use Rattle.kernel_acts.proofs.Peeked.{bare_clean, clean_up, clean_more}
 use Rattle.kernel_acts.proofs.peeking.next_dirty.Goals as goal
 

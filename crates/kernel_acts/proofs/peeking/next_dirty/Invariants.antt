@@ -1,5 +1,4 @@
-use Rattle.kernel_acts.proofs.Prelude
-use Prelude.{◌≡◌, ◌-◌, ◌<◌, ◌≤◌, ℕ, false, at_page, is_dirty_at}
+use Rattle.kernel_acts.proofs.Prelude.{◌≡◌, ◌-◌, ◌<◌, ◌≤◌, ℕ, false, at_page, is_dirty_at}
 use Rattle.kernel_acts.proofs.peeking.next_dirty.Given as goal
 
 -- no page so far is dirty

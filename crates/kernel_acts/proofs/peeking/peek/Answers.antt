@@ -1,5 +1,4 @@
-use Rattle.kernel_acts.proofs.Prelude
-use Prelude.{◌+◌, ◌-◌, ◌≤◌, ℕ, refl, sym, length, arith}
+use Rattle.kernel_acts.proofs.Prelude.{◌+◌, ◌-◌, ◌≤◌, ℕ, refl, sym, length, arith}
 use Rattle.kernel_acts.proofs.Peeked.{peeked_on, mapped_more}
 use Rattle.kernel_acts.proofs.peeking.peek.Goals as goal
 

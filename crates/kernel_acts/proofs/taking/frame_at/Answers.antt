@@ -1,5 +1,4 @@
-use Rattle.kernel_acts.proofs.Prelude
-use Prelude.{◌∙◌, ap, sym, walk_of, Read}
+use Rattle.kernel_acts.proofs.Prelude.{◌∙◌, ap, sym, walk_of, Read}
 use Rattle.kernel_acts.proofs.Beside.{page_leads, page_bare}
 use Rattle.kernel_acts.proofs.taking.frame_at.Goals as goal
 

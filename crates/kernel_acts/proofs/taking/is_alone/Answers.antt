@@ -1,5 +1,4 @@
-use Rattle.kernel_acts.proofs.Prelude
-use Prelude.{sym, eqb-true}
+use Rattle.kernel_acts.proofs.Prelude.{sym, eqb-true}
 use Rattle.kernel_acts.proofs.Unmaps.{alone_one}
 use Rattle.kernel_acts.proofs.taking.is_alone.Goals as goal
 

@@ -1,5 +1,4 @@
-use Rattle.kernel_acts.proofs.Prelude
-use Prelude.{◌∙◌, sym, at_page}
+use Rattle.kernel_acts.proofs.Prelude.{◌∙◌, sym, at_page}
 use Rattle.kernel_acts.proofs.Beside.{beside_there, beside_ways}
 use Rattle.kernel_acts.proofs.taking.is_beside.Goals as goal
 

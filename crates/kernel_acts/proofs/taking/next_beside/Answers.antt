@@ -1,5 +1,4 @@
-use Rattle.kernel_acts.proofs.Prelude
-use Prelude.{◌+◌, ◌∙◌, ◌<◌, ℕ, sym, inl, inr, arith, cases_lt, at_page}
+use Rattle.kernel_acts.proofs.Prelude.{◌+◌, ◌∙◌, ◌<◌, ℕ, sym, inl, inr, arith, cases_lt, at_page}
 use Rattle.kernel_acts.proofs.Beside.{beside_none, beside_there, beside_up}
 use Rattle.kernel_acts.proofs.taking.next_beside.Goals as goal
 

@@ -1,5 +1,4 @@
-use Rattle.kernel_acts.proofs.Prelude
-use Prelude.{◌≡◌, ◌-◌, ◌<◌, ◌≤◌, ℕ, false, at_page, is_beside}
+use Rattle.kernel_acts.proofs.Prelude.{◌≡◌, ◌-◌, ◌<◌, ◌≤◌, ℕ, false, at_page, is_beside}
 use Rattle.kernel_acts.proofs.taking.next_beside.Given as goal
 
 -- no page so far is beside the slot

@@ -1,5 +1,4 @@
-use Rattle.kernel_acts.proofs.Prelude
-use Prelude.{rules, ◌≡◌, ◌<◌, ℕ, length, slice_set, arith, at_page, Holder}
+use Rattle.kernel_acts.proofs.Prelude.{rules, ◌≡◌, ◌<◌, ℕ, length, slice_set, arith, at_page, Holder}
 use Rattle.std.proofs.Math.ListN.{length-set}
 use Rattle.kernel_acts.proofs.Lists.{set_rest}
 use Rattle.kernel_acts.proofs.Unmaps.{taking_on, clear_on, clear_up}

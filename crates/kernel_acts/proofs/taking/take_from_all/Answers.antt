@@ -1,5 +1,4 @@
-use Rattle.kernel_acts.proofs.Prelude
-use Prelude.{refl, arith, cases_lt, at_page}
+use Rattle.kernel_acts.proofs.Prelude.{refl, arith, cases_lt, at_page}
 use Rattle.kernel_acts.proofs.Lists.{rest_later}
 use Rattle.kernel_acts.proofs.Unmaps.{takes_none, alone_by}
 use Rattle.kernel_acts.proofs.taking.take_from_all.Goals as goal

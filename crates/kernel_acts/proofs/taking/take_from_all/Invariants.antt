@@ -1,5 +1,4 @@
-use Rattle.kernel_acts.proofs.Prelude
-use Prelude.{◌≡◌, ◌<◌, ◌≤◌, ℕ, false, length, take, drop, at_page, is_beside, Taking}
+use Rattle.kernel_acts.proofs.Prelude.{◌≡◌, ◌<◌, ◌≤◌, ℕ, false, length, take, drop, at_page, is_beside, Taking}
 use Rattle.kernel_acts.proofs.taking.take_from_all.Given as goal
 
 -- those so far have lost the page, and while there are places no page of a process so far is beside the slot

@@ -1,5 +1,4 @@
-use Rattle.kernel_acts.proofs.Prelude
-use Prelude.{◌≡◌, at_page, answer, unmap_of, Holder}
+use Rattle.kernel_acts.proofs.Prelude.{◌≡◌, at_page, answer, unmap_of, Holder}
 use Rattle.kernel_acts.proofs.Unmaps.{unmap_done, unmap_ends}
 use Rattle.kernel_calls.specs.declared.calls.Reply.TheVariants as reply
 use Rattle.kernel_acts.proofs.taking.unmap_beside.Goals as goal

@@ -1,5 +1,4 @@
-use Rattle.kernel_acts.proofs.Prelude
-use Prelude.{◌≡◌, ℕ, Bool, true, false, refl, sym, ap, ◌∙◌, subst, if◌then◌else◌, FramesStay, memory_of, View, gone_by, Event, Ended, answer, next, completes, ended_by, Ends, load_byte}
+use Rattle.kernel_acts.proofs.Prelude.{◌≡◌, ℕ, Bool, true, false, refl, sym, ap, ◌∙◌, subst, if◌then◌else◌, FramesStay, memory_of, View, gone_by, Event, Ended, answer, next, completes, ended_by, Ends, load_byte}
 use Rattle.kernel_calls.specs.declared.translations.Ended.TheVariants as end
 use Rattle.kernel_acts.proofs.Touches.{read_touches}
 use Rattle.kernel_acts.proofs.touching.touch_to_read.Goals as goal

@@ -1,5 +1,4 @@
-use Rattle.kernel_acts.proofs.Prelude
-use Prelude.{◌∙◌, sym, length}
+use Rattle.kernel_acts.proofs.Prelude.{◌∙◌, sym, length}
 use Rattle.kernel_acts.proofs.TransferSteps.{mapped_loads}
 use Rattle.kernel_acts.proofs.transfers.load_in_page.Goals as goal
 

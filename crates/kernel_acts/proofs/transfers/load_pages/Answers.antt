@@ -1,5 +1,4 @@
-use Rattle.kernel_acts.proofs.Prelude
-use Prelude.{◌+◌, ◌-◌, ◌≤◌, ◌∙◌, ap, arith, length, refl, stays_then, View, answer, load_byte}
+use Rattle.kernel_acts.proofs.Prelude.{◌+◌, ◌-◌, ◌≤◌, ◌∙◌, ap, arith, length, refl, stays_then, View, answer, load_byte}
 use Rattle.kernel_acts.proofs.TransferLemmas.{read_whole, read_stopped, read_on, mid_same}
 use Rattle.kernel_acts.proofs.transfers.load_pages.Goals as goal
 

@@ -1,5 +1,4 @@
-use Rattle.kernel_acts.proofs.Prelude
-use Prelude.{◌≡◌, ◌+◌, ◌-◌, ◌∙◌, ℕ, List, ap, sym, subst, arith, length, take, drop, length-drop, true, slice_index, take_all, page_number, IsUserPage, takes_stores, slot_at, memory_of, stays_then, stays_more, stays_most, gone_by, answer, next, completes, store_byte, event_of}
+use Rattle.kernel_acts.proofs.Prelude.{◌≡◌, ◌+◌, ◌-◌, ◌∙◌, ℕ, List, ap, sym, subst, arith, length, take, drop, length-drop, true, slice_index, take_all, page_number, IsUserPage, takes_stores, slot_at, memory_of, stays_then, stays_more, stays_most, gone_by, answer, next, completes, store_byte, event_of}
 use Rattle.kernel_acts.proofs.TransferSteps.{first_stored, rest_taken, rest_stores, store_goes}
 use Rattle.kernel_acts.proofs.transfers.store_first.Goals as goal
 

@@ -1,5 +1,4 @@
-use Rattle.kernel_acts.proofs.Prelude
-use Prelude.{stays_most}
+use Rattle.kernel_acts.proofs.Prelude.{stays_most}
 use Rattle.kernel_acts.proofs.TransferSteps.{taken_stores}
 use Rattle.kernel_acts.proofs.transfers.store_in_page.Goals as goal
 

@@ -1,5 +1,4 @@
-use Rattle.kernel_acts.proofs.Prelude
-use Prelude.{◌≡◌, ◌+◌, ◌-◌, ◌≤◌, ◌∙◌, ap, arith, length, take, drop, refl, slice_index, page_number, stays_then, stays_more, View, answer, store_byte}
+use Rattle.kernel_acts.proofs.Prelude.{◌≡◌, ◌+◌, ◌-◌, ◌≤◌, ◌∙◌, ap, arith, length, take, drop, refl, slice_index, page_number, stays_then, stays_more, View, answer, store_byte}
 use Rattle.kernel_acts.proofs.TransferSteps.{part_goes, more_goes}
 use Rattle.kernel_acts.proofs.TransferLemmas.{written_whole, written_stopped, written_on}
 use Rattle.kernel_acts.proofs.transfers.store_pages.Goals as goal

@@ -1,5 +1,4 @@
-use Rattle.kernel_acts.proofs.Prelude
-use Prelude.{◌+◌, ◌≡◌, ◌∙◌, ℕ, true, false, sym, subst, arith, IsCore}
+use Rattle.kernel_acts.proofs.Prelude.{◌+◌, ◌≡◌, ◌∙◌, ℕ, true, false, sym, subst, arith, IsCore}
 use Rattle.kernel_acts.proofs.FrameWriters.{SearchedTo, searched_on, searched_all}
 use Rattle.kernel_acts.proofs.writing.has_on.Goals as goal
 

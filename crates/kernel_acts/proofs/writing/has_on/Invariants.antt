@@ -1,5 +1,4 @@
-use Rattle.kernel_acts.proofs.Prelude
-use Prelude.{◌-◌}
+use Rattle.kernel_acts.proofs.Prelude.{◌-◌}
 use Rattle.kernel_acts.proofs.FrameWriters.{SearchedTo}
 use Rattle.kernel_acts.proofs.writing.has_on.Given as goal
 

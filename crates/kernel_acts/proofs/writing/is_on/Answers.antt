@@ -1,5 +1,4 @@
-use Rattle.kernel_acts.proofs.Prelude
-use Prelude.{sym, subst, ◌≡◌, Bool, Some, ◌↔◌, IsTrue, page_frame, at_page, memory_of}
+use Rattle.kernel_acts.proofs.Prelude.{sym, subst, ◌≡◌, Bool, Some, ◌↔◌, IsTrue, page_frame, at_page, memory_of}
 use Rattle.kernel_acts.proofs.FrameWriters.{on_frame}
 use Rattle.kernel_acts.proofs.writing.is_on.Goals as goal
 

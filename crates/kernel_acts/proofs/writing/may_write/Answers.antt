@@ -1,5 +1,4 @@
-use Rattle.kernel_acts.proofs.Prelude
-use Prelude.{◌∙◌, ap, Some, Directory, Table}
+use Rattle.kernel_acts.proofs.Prelude.{◌∙◌, ap, Some, Directory, Table}
 use Rattle.kernel_acts.proofs.FrameWriters.{by_role}
 use Rattle.kernel_acts.proofs.writing.may_write.Goals as goal
 

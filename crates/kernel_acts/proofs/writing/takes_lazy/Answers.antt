@@ -1,5 +1,4 @@
-use Rattle.kernel_acts.proofs.Prelude
-use Prelude.{◌∙◌, sym, eqb-true}
+use Rattle.kernel_acts.proofs.Prelude.{◌∙◌, sym, eqb-true}
 use Rattle.kernel_acts.proofs.FrameWriters.{takes}
 use Rattle.kernel_acts.proofs.writing.takes_lazy.Goals as goal
 

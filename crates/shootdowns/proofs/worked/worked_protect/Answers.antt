@@ -1,5 +1,4 @@
-use Rattle.shootdowns.proofs.Prelude
-use Prelude.{rules, ◌≡◌, ◌∙◌, first_store, fork_it, load_copy, protect_it, refl}
+use Rattle.shootdowns.proofs.Prelude.{rules, ◌≡◌, ◌∙◌, first_store, fork_it, load_copy, protect_it, refl}
 use Rattle.shootdowns.proofs.WorkedProtects.{worked_by}
 use Rattle.shootdowns.proofs.worked.worked_protect.Goals as goal
 

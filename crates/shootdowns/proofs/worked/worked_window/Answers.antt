@@ -1,5 +1,4 @@
-use Rattle.shootdowns.proofs.Prelude
-use Prelude.{rules, ◌≡◌, ◌∙◌, first_store, second_store, unmap_it, refl}
+use Rattle.shootdowns.proofs.Prelude.{rules, ◌≡◌, ◌∙◌, first_store, second_store, unmap_it, refl}
 use Rattle.shootdowns.proofs.WorkedSteps.{worked_by}
 use Rattle.shootdowns.proofs.worked.worked_window.Goals as goal
 

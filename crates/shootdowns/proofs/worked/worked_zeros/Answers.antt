@@ -1,5 +1,4 @@
-use Rattle.shootdowns.proofs.Prelude
-use Prelude.{rules, ◌≡◌, ◌∙◌, true, accept_it, load_it, map_it, offer_it, spawn_it, refl}
+use Rattle.shootdowns.proofs.Prelude.{rules, ◌≡◌, ◌∙◌, true, accept_it, load_it, map_it, offer_it, spawn_it, refl}
 use Rattle.kernel_calls.specs.declared.calls.Call.TheVariants as call
 use Rattle.shootdowns.proofs.WorkedAccepts.{worked_by}
 use Rattle.shootdowns.proofs.worked.worked_zeros.Goals as goal
