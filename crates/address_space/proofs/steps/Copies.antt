@@ -60,7 +60,8 @@ lazy_copied directories bytes two roles from source p d page t e sound home live
     let E : Entries = entries_in (directory_of directories) m in
     let slot : Slot = at_page p page in
     let none : map.get E slot ≡ None = none_before E m slot (map.get E slot) (sym (get-spaces_of E m slot) ∙ unmapped) in
-    let zero : e.frame ≡ 0 = (entry_rules directories bytes roles from source page e sound home here).zero lazy in
+    let rules = entry_rules directories bytes roles from source page e sound home here in
+    let zero : e.frame ≡ 0 = rules.zero lazy in
     let more = lazy-more E slot (copied_entry e e.frame) none zero in
     entry_copied directories bytes bytes two roles roles from source p d page t e.frame e sound home live low high unmapped there here
     (record {
