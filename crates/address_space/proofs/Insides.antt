@@ -1,6 +1,5 @@
 -- The inside of address spaces: the spaces and the image that they represent, and where a page is.
-use Rattle.address_space.proofs.Prelude.{ℕ, Option, slot_number, frame_bytes, Found, Spaces, Image, image_from, View, directory_of, table_in, spaces_in, AreCountedSpaces, found_in}
-use Rattle.address_space.specs.declared.Spaces.TheInside.{Inside}
+use Rattle.address_space.proofs.Prelude.{ℕ, Option, slot_number, frame_bytes, Found, Spaces, Image, image_from, View, directory_of, table_in, spaces_in, AreCountedSpaces, found_in, Inner as Inside}
 
 -- the type's invariant
 abbrev pub AreCountedInside : Inside → Type 0

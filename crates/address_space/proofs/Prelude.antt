@@ -34,6 +34,7 @@ pub use Rattle.address_space.specs.Stays.{EntriesStay, FramesStay, Gone, LooseSt
 pub use Rattle.address_space.specs.View.{Directories, Roles, View, directory_of, entry_in, live_cost, table_in}
 unfoldable pub use Rattle.address_space.specs.View.{entries_in, spaces_in, total_cost}
 pub use Rattle.address_space.specs.Walks.{FindsBytes, WalkEndsBy, WalksAgree}
+pub use Rattle.address_space.specs.declared.Spaces.TheInside.{Inside as Inner}
 pub use Rattle.address_space.specs.declared.place.Found.{Found}
 pub use Rattle.address_space.specs.declared.place.Place.{Place}
 pub use Rattle.alloc_table.proofs.RoleLemmas.{free-by-weight, get-set_other, get-set_same, in-use-and-reserved, weight-set, weight-taken}

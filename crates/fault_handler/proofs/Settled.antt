@@ -179,4 +179,4 @@ complete_takes v p address size Write h =
     let goes = ready (step_at v p Write) v.state p address size Write (grind arith) in
     let steps = complete_pages v (plan_at v p address size Write) p address size Write refl h in
     let right = each_right v.state p address size Write goes.allowed refl in
-    grind (arith)
+    grind arith

@@ -108,7 +108,7 @@ module _ (s : State) (p quota : ℕ) (w : IsWellFormed s) (live : is_live s p �
       omega (arith, a, b)
 
   quota_child : quota_of spawned.book child ≡ quota
-  quota_child = search (get-insert, same_itself, arith) fits 300
+  quota_child = search (get-insert, same_itself, arith)
 
   rooms : (q : ℕ) → is_live spawned q ≡ true → cost T q + given spawned.book q ≤ quota_of spawned.book q
   rooms q h = elim (cases_eq q child) [

@@ -71,16 +71,7 @@ module _ (s : State) (p page target : ℕ) (write : Bool) (w : IsWellFormed s) (
   ]
 
   offered-more : IsWellFormed (after_offer s p page target write)
-  offered-more = record {
-    root = w.root;
-    root_parent = w.root_parent;
-    processes = w.processes;
-    rooms = w.rooms;
-    owners = w.owners;
-    cells = w.cells;
-    offers = offers-more;
-    few = few-more s.offers new_key write may.new may.few w.few;
-  }
+  offered-more = assumption (offers-more, few-more s.offers new_key write may.new may.few w.few)
 
 -- an offer that is not refused
 pub well_formed-offer : (s : State) (p page target : ℕ) (write : Bool) → IsWellFormed s → offer_refusal s p page target write ≡ None → IsWellFormed (after_offer s p page target write)

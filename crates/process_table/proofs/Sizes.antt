@@ -11,7 +11,7 @@ module _ {K X : Type 0} (R : K → K → Ordering) where
   length-where_both f g (e ∷ es) = one (f e.0) (length-where_both f g es)
     where
       one : (b : Bool) → length (where_key R g (where_key R f es)) ≤ length (where_key R g es) → length (where_key R g (cond b (e ∷ where_key R f es) (where_key R f es))) ≤ length (where_key R g (e ∷ es))
-      one b rest = grind (arith)
+      one b rest = grind arith
 
 -- what passes one more test is no more
 pub len-retain : {K X : Type 0} {o : Order K} (m : Map o X) (f g : K → Bool) → map.len (map.retain_keys (map.retain_keys m f) g) ≤ map.len (map.retain_keys m g)

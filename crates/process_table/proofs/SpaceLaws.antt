@@ -25,16 +25,7 @@ pub with-spaces : (s : State) (T : Spaces) → IsWellFormed s
     → AreCells T
     → ((slot : Slot) (c : Cell) → map.get s.spaces slot ≡ Some c → (d : Cell) × (map.get T slot ≡ Some d) × (d.may ≡ c.may))
     → IsWellFormed (record s { spaces = T })
-with-spaces s T w rooms owners cells keeps = record {
-  root = w.root;
-  root_parent = w.root_parent;
-  processes = w.processes;
-  rooms = rooms;
-  owners = owners;
-  cells = cells;
-  offers = offers;
-  few = w.few;
-}
+with-spaces s T w rooms owners cells keeps = assumption offers
   where
     offers : (key : OfferKey) (right : Bool) → map.get s.offers key ≡ Some right → IsOfferIn (record s { spaces = T }) key right
     offers key right h =

@@ -58,7 +58,7 @@ found-passes p (y ∷ xs) x h = by (λ e. found-passes p xs x e) (p y) refl h
 
 -- it is not live
 pub child-absent : (c : Containers) (p asked child : ℕ) → split_answer c p asked ≡ Ok child → map.contains_key c.book child ≡ false
-child-absent c p asked child is = search (not-true, found-passes, next-of, arith) fits 300
+child-absent c p asked child is = search (not-true, found-passes, next-of, arith)
 
 pub child-is : (v : frames.View) (c : Containers) (o : Offers) (p asked child : ℕ) → split_answer c p asked ≡ Ok child → child_of (state_of v c o) ≡ child
 child-is v c o p asked child is = ap (λ x. unwrap_or x 0) (next-of c p asked child is)
@@ -73,7 +73,7 @@ child-has_none v c p asked child kept is = no_directory (directory_of v.director
 
 -- a process without a directory has nothing mapped
 pub nothing-mapped : (image : Image) (S : Spaces) (p page : ℕ) → StandsFor image S → directory_at image p ≡ None → map.contains_key S (at_page p page) ≡ false
-nothing-mapped image v0 p page stands none = grind (arith) steps 1000000
+nothing-mapped image S p page stands none = grind arith
 
 pub cost-child : (v : frames.View) (p : ℕ) → StandsFor (image_of v) v.spaces → directory_of v.directories p ≡ None → cost v.spaces p ≡ 1
 cost-child v p stands none = cost-no_pages v.spaces p (λ page. nothing-mapped (image_of v) v.spaces p page stands none)

@@ -104,7 +104,7 @@ module _ (directories : List (Option ℕ)) (bytes : List ℕ) (roles : List Role
 
 pub image_stands : (directories : List (Option ℕ)) (bytes : List ℕ) (roles : List Role) → IsSpaces directories bytes roles → StandsFor (image_from directories bytes roles) (spaces_in directories bytes)
 unfolding spaces_in
-image_stands directories bytes roles s = search (image_is_sound, cell_stands, arith) fits 300
+image_stands directories bytes roles s = search (image_is_sound, cell_stands, arith)
 
 -- whether the entry that was read is lazy
 pub lazy_read : (directories : List (Option ℕ)) (bytes : List ℕ) (roles : List Role) (p d page : ℕ) → IsSound directories bytes roles → directory_of directories p ≡ Some d
@@ -145,7 +145,7 @@ lazy_kept directories bytes bytes' roles sound sound' same slot =
     let old = lazy_slots directories bytes roles sound slot in
     let new = lazy_slots directories bytes' roles sound' slot in
     let is = ap (λ h. set.contains h slot) same in
-    grind (arith)
+    grind arith
 
 -- where no more slots name frame 0, a page that isn't lazy stays so
 pub real_kept : (directories : List (Option ℕ)) (bytes bytes' : List ℕ) (roles roles' : List Role) → IsSound directories bytes roles → IsSound directories bytes' roles'

@@ -23,7 +23,7 @@ value_by_places xs at (suc n) =
     rest = sym (drop-drop 1 at xs)
 
     by : (ys : List ℕ) → drop at xs ≡ ys → slice_index xs at ≡ slice_index (drop at xs) 0 → slice_index xs at + 256 * value_of (take n (drop (at + 1) xs)) ≡ value_of (take (suc n) ys)
-    by v0 is e = grind (arith, rest) steps 1000000
+    by ys is e = grind (arith, rest)
 
 -- the bytes at some places in a row are those of a part
 pub bytes_by_places : (xs : List ℕ) (at n : ℕ) → at + n ≤ length xs → each (slice_index xs) (range_with_len at n) ≡ take n (drop at xs)
@@ -103,7 +103,7 @@ write_at-cons : (x : ℕ) (xs : List ℕ) (at : ℕ) (new : List ℕ) → write_
 write_at-cons x xs at new = let e : suc at + length new ≡ suc (at + length new) = omega arith in ap (λ k. (x ∷ (take at xs ++ new)) ++ drop k (x ∷ xs)) e
 
 write_at-none : (at : ℕ) (new : List ℕ) → write_at [] at new ≡ new
-write_at-none v0 new = grind (arith, append-nil) steps 1000000
+write_at-none at new = grind (arith, append-nil)
 
 -- nothing written is no change
 pub write_at-nothing : (xs : List ℕ) (at : ℕ) → write_at xs at [] ≡ xs
@@ -127,7 +127,7 @@ module _ (S : Spaces) (slot : Slot) where
   first w = store_in S slot cell w
 
   same_cell : (w : List ℕ) → cell_or_fresh (first w) slot ≡ record cell { bytes = w; accessed = true; dirty = true }
-  same_cell w = search (get-insert, same_itself, arith) fits 300
+  same_cell w = search (get-insert, same_itself, arith)
 
   -- a store over another
   twice : (w v : List ℕ) → store_in (first w) slot (record cell { bytes = w; accessed = true; dirty = true }) v ≡ store_in S slot cell v

@@ -1,5 +1,5 @@
 -- A process whose pages leave their groups, and whose directory then goes.
-use Rattle.address_space.proofs.Prelude.{◌≡◌, ◌≢◌, ℕ, ◌+◌, ◌*◌, ◌<◌, ◌≤◌, Bool, true, false, cond, not, List, length, refl, ap, sym, ◌∙◌, subst, arith, inl, inr, Option, Some, None, length-set, ◌&&◌, ◌⊎◌, is_some, slice_get, slice_set, if◌then◌else◌, option_and_then, option_map, list_any, cases_eq, cases_lt, slot_number, index_number, same, Set, same_or_not, same_itself, same_map, same_set, get-map_values, get-retain_keys, contains-retain, get-collect, frame_bytes, word_in, Role, Free, Directory, frames_weight, weight, IsReleased, released, weight-set, Frames, word_entry, entry_at, Slot, slot_order, Cell, Spaces, need, pages_of, regions_of, without, with_holders, is_slot, at_page, is_of, user_slots, Entries, lazy_count, spaces_of, View, Directories, Roles, directory_of, table_in, entry_in, entries_in, spaces_in, total_cost, Tables, Pages, IsSound, IsSpaces, IsEmptySpace, DroppedBelow, DirectoryDropped, eqb-true, eq-eqb, FramesStay, of_page, LooseStay, image_of}
+use Rattle.address_space.proofs.Prelude.{◌≡◌, ◌≢◌, ℕ, ◌+◌, ◌*◌, ◌<◌, ◌≤◌, Bool, true, false, cond, not, List, length, refl, ap, sym, ◌∙◌, subst, arith, inl, inr, Option, Some, None, length-set, ◌&&◌, ◌⊎◌, is_some, slice_get, slice_set, if◌then◌else◌, option_and_then, option_map, list_any, cases_eq, cases_lt, slot_number, index_number, same, Set, same_or_not, same_itself, same_map, same_set, get-map_values, get-retain_keys, contains-retain, get-collect, frame_bytes, word_in, Role, Free, Directory, frames_weight, weight, IsReleased, released, weight-set, Frames, word_entry, entry_at, Slot, slot_order, Cell, Spaces, need, pages_of, regions_of, without, with_holders, is_slot, at_page, is_of, user_slots, Entries, lazy_count, spaces_of, View, Directories, Roles, directory_of, table_in, entry_in, entries_in, spaces_in, total_cost, Tables, Pages, IsSound, IsSpaces, IsEmptySpace, DroppedBelow, DirectoryDropped, eqb-true, eq-eqb, FramesStay, of_page, LooseStay, image_of, Inner}
 use Rattle.address_space.proofs.costs.Costs.{contains-pages_of}
 use Rattle.address_space.proofs.entries.EntrySteps.{get-entries_in, entry_by_table}
 use Rattle.address_space.proofs.steps.Openings.{directory_set, directory_kept, total-directory}
@@ -8,7 +8,6 @@ use Rattle.address_space.proofs.entries.Readings.{need_read}
 use Rattle.address_space.proofs.entries.Refinement.{get-spaces_of, leave_refines}
 use Rattle.address_space.proofs.standing.TablesStand.{past_end}
 use Rattle.address_space.proofs.steps.Steps.{live_small, none_before, role_own, role_other}
-use Rattle.address_space.specs.declared.Spaces.TheInside.{Inside as Inner}
 use Rattle.address_space.proofs.Insides.{AreCountedInside, spaces_at, view_of}
 use Rattle.address_space.proofs.standing.FramesStand.{loose_same, loose_then, stays_same, stays_then, stays_more}
 use Rattle.address_space.proofs.entries.Staying.{stay_same, places_by}

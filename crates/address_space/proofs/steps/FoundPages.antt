@@ -1,7 +1,6 @@
 -- A page that was found: what is known of it, and what an access through it leaves.
-use Rattle.address_space.proofs.Prelude.{◌≡◌, ℕ, ◌+◌, ◌^◌, ◌<◌, ◌≤◌, Bool, true, false, List, length, refl, ap, sym, ◌∙◌, subst, arith, inl, inr, Option, Some, None, replicate, is_some, slice_get, option_and_then, option_map, slot_number, index_number, byte_count, IsUserPage, Size, frame_bytes, word_in, with_word_in, with_frame-same, word_in_same, length-frame, PageEntry, Frames, dir_word, table_of, word_entry, entry_at, with_entry, entry_word, is_lazy_entry, IsKernelEntry, entry_word-lt, word_entry-entry_word, Found, need, Slot, Spaces, Cell, cell_or_fresh, bytes_of, stored, accessed, protected, at_page, FramesStay, none_goes, of_lazy, cell_of, Directories, directory_of, entry_in, entries_in, spaces_in, PageFilled, EntryPut, Touched, takes_stores_through, is_lazy_at, takes_stores, image_from, AreCountedSpaces, IsSound, Names, IsPageBelow, free_frames, Free, Page, Table, shown, Role, length-replicate, lazy_found, found_by, found_in, LiesIn, EntryIs, BytesStored, FrameGiven}
+use Rattle.address_space.proofs.Prelude.{◌≡◌, ℕ, ◌+◌, ◌^◌, ◌<◌, ◌≤◌, Bool, true, false, List, length, refl, ap, sym, ◌∙◌, subst, arith, inl, inr, Option, Some, None, replicate, is_some, slice_get, option_and_then, option_map, slot_number, index_number, byte_count, IsUserPage, Size, frame_bytes, word_in, with_word_in, with_frame-same, word_in_same, length-frame, PageEntry, Frames, dir_word, table_of, word_entry, entry_at, with_entry, entry_word, is_lazy_entry, IsKernelEntry, entry_word-lt, word_entry-entry_word, Found, need, Slot, Spaces, Cell, cell_or_fresh, bytes_of, stored, accessed, protected, at_page, FramesStay, none_goes, of_lazy, cell_of, Directories, directory_of, entry_in, entries_in, spaces_in, PageFilled, EntryPut, Touched, takes_stores_through, is_lazy_at, takes_stores, image_from, AreCountedSpaces, IsSound, Names, IsPageBelow, free_frames, Free, Page, Table, shown, Role, length-replicate, lazy_found, found_by, found_in, LiesIn, EntryIs, BytesStored, FrameGiven, Inner}
 use Rattle.address_space.proofs.entries.EntrySteps.{tables_kept}
-use Rattle.address_space.specs.declared.Spaces.TheInside.{Inside as Inner}
 use Rattle.address_space.proofs.standing.FramesStand.{frames_stay}
 use Rattle.address_space.proofs.costs.AccessCosts.{kept, key-stored}
 use Rattle.address_space.proofs.standing.Standing.{stores_read, lazy_read, same_lazy, lazy_kept, real_kept}

@@ -1,6 +1,5 @@
 -- A page whose entry goes: its frame, the count of its table, and the table, which goes with its last page.
-use Rattle.address_space.proofs.Prelude.{◌≡◌, ℕ, ◌-◌, ◌*◌, ◌<◌, ◌≤◌, true, false, List, length, refl, ap, sym, ◌∙◌, subst, Option, Some, is_some, slice_get, slice_set, slot_number, IsUserPage, frame_bytes, Role, Page, IsInUse, get-set_same, table_of, entry_at, IsCleared, count_range, Found, directory_of, spaces_in, IsCounted, AreCountedSpaces, EntryLeft, TableFreed, SlotRemoved, arith, ◌≢◌, ◌+◌, ◌==◌, Bool, inl, inr, if◌then◌else◌, some_value, no_value, Spaces, cost, need, without, is_slot, at_page, IsAlone, IsShared, eq-eqb, ne_eqb, one_alone, another_one, same_cases, nat_order}
-use Rattle.address_space.specs.declared.Spaces.TheInside.{Inside as Inner}
+use Rattle.address_space.proofs.Prelude.{◌≡◌, ℕ, ◌-◌, ◌*◌, ◌<◌, ◌≤◌, true, false, List, length, refl, ap, sym, ◌∙◌, subst, Option, Some, is_some, slice_get, slice_set, slot_number, IsUserPage, frame_bytes, Role, Page, IsInUse, get-set_same, table_of, entry_at, IsCleared, count_range, Found, directory_of, spaces_in, IsCounted, AreCountedSpaces, EntryLeft, TableFreed, SlotRemoved, arith, ◌≢◌, ◌+◌, ◌==◌, Bool, inl, inr, if◌then◌else◌, some_value, no_value, Spaces, cost, need, without, is_slot, at_page, IsAlone, IsShared, eq-eqb, ne_eqb, one_alone, another_one, same_cases, nat_order, Inner}
 use Rattle.address_space.proofs.Lemmas.{AreCountedInside, found_at, spaces_at, cost_left, relief_alone, relief_shared, one_less, counted_roles, alike_left, counted_freed, table_freed, count_there, count_positive, count_by_entries, page_uncounted, found_known, found_mapped, found_there, found_below, live_small}
 use Rattle.page_words.specs.FiniteMap as map
 use Rattle.address_space.proofs.steps.Leaves.{slot_removed, freed_table}

@@ -1,6 +1,5 @@
 -- The places of a process's other pages, after an access through one.
-use Rattle.address_space.proofs.Prelude.{◌≡◌, ◌≢◌, ◌+◌, ◌<◌, ◌≤◌, ◌^◌, ℕ, true, false, List, length, ap, sym, ◌∙◌, inl, inr, Option, Some, None, is_some, arith, slice_get, option_map, option_and_then, slot_number, IsUserPage, frame_bytes, length-frame, Role, PageEntry, Frames, table_of, entry_at, entry_word, with_entry, entry_word-lt, Found, Place, Slot, at_page, write_at, Directories, directory_of, table_in, entry_in, PageFilled, EntryIs, BytesStored, place_by, place_in, found_of, refl, TableGiven, IsSound}
-use Rattle.address_space.specs.declared.Spaces.TheInside.{Inside as Inner}
+use Rattle.address_space.proofs.Prelude.{◌≡◌, ◌≢◌, ◌+◌, ◌<◌, ◌≤◌, ◌^◌, ℕ, true, false, List, length, ap, sym, ◌∙◌, inl, inr, Option, Some, None, is_some, arith, slice_get, option_map, option_and_then, slot_number, IsUserPage, frame_bytes, length-frame, Role, PageEntry, Frames, table_of, entry_at, entry_word, with_entry, entry_word-lt, Found, Place, Slot, at_page, write_at, Directories, directory_of, table_in, entry_in, PageFilled, EntryIs, BytesStored, place_by, place_in, found_of, refl, TableGiven, IsSound, Inner}
 use Rattle.address_space.proofs.Insides.{AreCountedInside, found_at}
 use Rattle.address_space.proofs.entries.EntrySteps.{entry_by_table, entry_kept, tables_kept, entry_other}
 use Rattle.address_space.proofs.steps.FoundPages.{found_known, found_lies}

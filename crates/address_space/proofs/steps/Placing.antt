@@ -1,6 +1,5 @@
 -- What the place of a page says.
-use Rattle.address_space.proofs.Prelude.{arith, ◌≡◌, ℕ, List, refl, ap, sym, ◌∙◌, Option, Some, None, is_some, option_and_then, option_map, slot_number, IsUserPage, frame_bytes, Frames, Found, takes_stores_through, need, at_page, directory_of, place_there, place_by, table_in, place_in, found_of, table_of_place, need_of, PlacesTell, entry_flags, cell_flags, found_in, entry_found}
-use Rattle.address_space.specs.declared.Spaces.TheInside.{Inside as Inner}
+use Rattle.address_space.proofs.Prelude.{arith, ◌≡◌, ℕ, List, refl, ap, sym, ◌∙◌, Option, Some, None, is_some, option_and_then, option_map, slot_number, IsUserPage, frame_bytes, Frames, Found, takes_stores_through, need, at_page, directory_of, place_there, place_by, table_in, place_in, found_of, table_of_place, need_of, PlacesTell, entry_flags, cell_flags, found_in, entry_found, Inner}
 use Rattle.address_space.specs.declared.place.Place.TheVariants.{Mapped}
 use Rattle.address_space.proofs.Insides.{AreCountedInside, spaces_at, image_at, table_at, found_at}
 use Rattle.address_space.proofs.steps.FoundPages.{absent_cell, need_without, need_with, found_mapped, found_takes, found_lazy, found_get}

@@ -116,16 +116,9 @@ module _ {directories : List (Option ℕ)} {bytes one : List ℕ} {roles roles1 
       → CopyIn directories from source to slot table 0 bytes roles one roles1
   region_begun {first} home before empty room so_far up few least there =
       let here : 1024 * slot ≡ 1024 * slot + 0 = omega arith in
-      record {
-        home = home;
-        before = before;
-        empty = empty;
-        room = room;
-        so_far = subst (λ n. CopiedBelow directories from to n bytes roles one roles1) here
-            (copied_past directories bytes one roles roles1 from source to (1024 * first) (1024 * slot) empty so_far home (omega (arith, up)) (omega (arith, few))
-            (λ page low high. no_entry_there (frame_bytes one) source page (least (slot_number page) (omega (arith, low)) (omega (arith, high)))));
-        there = there;
-      }
+      assumption (subst (λ n. CopiedBelow directories from to n bytes roles one roles1) here
+      (copied_past directories bytes one roles roles1 from source to (1024 * first) (1024 * slot) empty so_far home (omega (arith, up)) (omega (arith, few))
+      (λ page low high. no_entry_there (frame_bytes one) source page (least (slot_number page) (omega (arith, low)) (omega (arith, high))))))
 
   -- no page of the region is mapped
   pub none_mapped : CopyIn directories from source to slot table 0 bytes roles one roles1 → region_pages (spaces_in directories one) to slot ≡ 0
@@ -148,14 +141,8 @@ module _ {directories : List (Option ℕ)} {bytes one : List ℕ} {roles roles1 
   -- and through it over the words without an entry
   pub copy_passed : {index : ℕ} (beyond : ℕ) {memory : List ℕ} → CopyIn directories from source to slot table index bytes roles one roles1 → memory ≡ one → index ≤ beyond → beyond ≤ 1024 → slot < 960
       → ((i : ℕ) → index ≤ i → i < beyond → word_entry (word_in (frame_bytes memory table) i) ≡ None) → CopyIn directories from source to slot table beyond bytes roles one roles1
-  copy_passed {index} beyond {memory} copy same up most few none = record {
-    home = copy.home;
-    before = copy.before;
-    empty = copy.empty;
-    room = copy.room;
-    so_far = copied_past directories bytes one roles roles1 from source to (1024 * slot + index) (1024 * slot + beyond) copy.empty copy.so_far copy.home (omega (arith, up)) (omega (arith, most, few)) absent;
-    there = copy.there;
-  }
+  copy_passed {index} beyond {memory} copy same up most few none = assumption
+      (copied_past directories bytes one roles roles1 from source to (1024 * slot + index) (1024 * slot + beyond) copy.empty copy.so_far copy.home (omega (arith, up)) (omega (arith, most, few)) absent)
     where
       absent : (page : ℕ) → 1024 * slot + index ≤ page → page < 1024 * slot + beyond → entry_at (frame_bytes one) source page ≡ None
       absent page low high = grind (arith, listed_entry)
@@ -218,16 +205,12 @@ module _ {directories : List (Option ℕ)} {bytes one : List ℕ} {roles roles1 
         → CopyIn directories from source to slot table (index + 1) bytes roles two roles2
     copy_stepped {target} {two} {roles2} live made =
         let next : 1024 * slot + index + 1 ≡ 1024 * slot + (index + 1) = omega arith in
-        record {
-          home = copy.home;
-          before = copy.before;
-          empty = copy.empty;
-          room = copy.room;
-          so_far = subst (λ n. CopiedBelow directories from to n bytes roles two roles2) next
-              (copied_next directories bytes one roles roles1 from source to target (1024 * slot + index) copy.so_far copy.home live copy_user (ap is_some copy_entry) two roles2 made);
-          there = sym (ap (option_and_then (λ d. table_of (frame_bytes two) d slot)) copy.home)
-              ∙ made.tables from slot table (ap (option_and_then (λ d. table_of (frame_bytes one) d slot)) copy.home ∙ copy.there);
-        }
+        assumption (
+          subst (λ n. CopiedBelow directories from to n bytes roles two roles2) next
+              (copied_next directories bytes one roles roles1 from source to target (1024 * slot + index) copy.so_far copy.home live copy_user (ap is_some copy_entry) two roles2 made),
+          sym (ap (option_and_then (λ d. table_of (frame_bytes two) d slot)) copy.home)
+              ∙ made.tables from slot table (ap (option_and_then (λ d. table_of (frame_bytes one) d slot)) copy.home ∙ copy.there),
+        )
 
     -- one page more of the region is mapped
     pub copy_mapped : {two : List ℕ} {roles2 : List Role} → PageCopied directories from to (1024 * slot + index) one roles1 two roles2

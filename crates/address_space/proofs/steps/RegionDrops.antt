@@ -1,6 +1,5 @@
 -- The pages of a process leave from region to region, and those of a region by its table.
-use Rattle.address_space.proofs.Prelude.{◌≡◌, ◌≢◌, ℕ, ◌+◌, ◌-◌, ◌*◌, ◌<◌, ◌≤◌, List, refl, ap, sym, ◌∙◌, arith, inl, inr, Option, Some, None, ◌⊎◌, slot_number, index_number, frame_number, frame_bytes, word_in, with_frame-same, with_frame-other, word_in_same, word_in_other, PageEntry, Frames, IsPageMap, IsCleared, dir_word, table_of, entry_at, word_entry, without_entry, count_range-same, count_range-none, found_in, View, directory_of, cost, EntryGone, DroppedBelow, words_left}
-use Rattle.address_space.specs.declared.Spaces.TheInside.{Inside as Inner}
+use Rattle.address_space.proofs.Prelude.{◌≡◌, ◌≢◌, ℕ, ◌+◌, ◌-◌, ◌*◌, ◌<◌, ◌≤◌, List, refl, ap, sym, ◌∙◌, arith, inl, inr, Option, Some, None, ◌⊎◌, slot_number, index_number, frame_number, frame_bytes, word_in, with_frame-same, with_frame-other, word_in_same, word_in_other, PageEntry, Frames, IsPageMap, IsCleared, dir_word, table_of, entry_at, word_entry, without_entry, count_range-same, count_range-none, found_in, View, directory_of, cost, EntryGone, DroppedBelow, words_left, Inner}
 use Rattle.address_space.proofs.Lemmas.{spaces_at, view_of, light_lacks, dropped_past, table_by_word}
 use Rattle.address_space.proofs.steps.RegionCopies.{no_entry_there, listed_entry}
 
