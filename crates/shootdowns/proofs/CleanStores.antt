@@ -286,12 +286,6 @@ module _ (x : Ended) (done : Acknowledged) (e : Event) (r : Reply) (keeps : Proc
           → IsOne (under_way x done e r s w) (a ∷ []) (q ∷ []) (under_way x done e r (next s a) (record w { bytes = bytes; state = next (next s a) e })) keeps
       clean_store short l left = by (second_page addr size) refl l.1 left
         where
-          p : ℕ
-          p = a.pid
-
-          n : ℕ
-          n = page_number addr
-
           s1 : State
           s1 = dirty_at (at_page a.pid (page_number addr)) s
 

@@ -48,9 +48,7 @@ module _ (F : Slot → ℕ) (bytes : List ℕ) where
     where
       by : (r : Slot) (b : Bool) (z : Option Cell)
           → option_map (fewer gone) (cond b (option_map (fill F bytes r) z) None) ≡ option_map (fill F bytes r) (option_map (fewer gone) (cond b z None))
-      by r false z = refl
-      by r true None = refl
-      by r true (Some c) = refl
+      by r x1 x2 = grind arith
 
   right_filled : (S : Spaces) (slot : Slot) (w : Bool) → is_some (map.get S slot) ≡ true
       → protected (filled F bytes S) slot w ≡ filled F bytes (protected S slot w)

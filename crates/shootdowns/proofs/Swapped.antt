@@ -74,12 +74,6 @@ twice S a x y = same_map _ _ (λ r.
 pub accessed_right : (S : Spaces) (a b : Slot) (w : Bool) → protected (accessed S b) a w ≡ accessed (protected S a w) b
 accessed_right S a b w = by (same_or_not slot_order a b)
   where
-    set_right : Option Cell → Cell
-    set_right z = record (unwrap_or z (fresh a true)) { write = w }
-
-    set_accessed : Option Cell → Cell
-    set_accessed z = record (unwrap_or z (fresh b true)) { accessed = true }
-
     apart : same slot_order a b ≡ false → a ≢ b
     apart other is = let k : true ≡ false = sym (same_itself slot_order b) ∙ sym (ap (λ q. same slot_order q b) is) ∙ other in cc
 
@@ -118,6 +112,4 @@ stored_right S a b c d w o ys apart at there = same_map _ _ (λ r.
     by : (r : Slot) → ((r ≡ a) × (same slot_order r a ≡ true)) ⊎ (same slot_order r a ≡ false) → ((r ≡ b) × (same slot_order r b ≡ true)) ⊎ (same slot_order r b ≡ false)
         → cond (same slot_order r a) (Some (record (grouped c o ys a d) { write = w })) (cond (same slot_order r b) (Some (written c o ys)) (option_map (grouped c o ys r) (map.get S r)))
         ≡ cond (same slot_order r b) (Some (written c o ys)) (option_map (grouped c o ys r) (cond (same slot_order r a) (Some (record d { write = w })) (map.get S r)))
-    by r (inl one) (inl two) = absurd (apart (sym one.0 ∙ two.0))
-    by r (inl one) (inr two) = grind (arith, grouped, written)
-    by r (inr one) two = grind (arith, grouped, written)
+    by r x1 x2 = grind (arith, grouped, written)
