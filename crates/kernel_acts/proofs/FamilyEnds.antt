@@ -44,9 +44,6 @@ descends_less s t a is none {p} (child {q = x} {r = y} d c) = by (descends_less 
     by (inl same) b h = absurd (let no : is_child_of s x y ≡ false = ap (λ n. is_child_of s n y) same ∙ none y in cc)
     by (inr d') true h = inl (eqb-true y a h)
     by (inr d') false h = inr (child {q = x} {r = y} d' (grind (arith, get-remove_other)))
-      where
-        apart : (y == a) ≡ false → y ≢ a
-        apart h e = absurd (let k : (y == a) ≡ true = eq-eqb y a e in cc)
 
 -- ---- The state without some processes
 

@@ -75,11 +75,8 @@ open_before s p page there right =
 
 -- ---- What opens it
 
-pub opens_nothing : (s : State) (p page : ℕ) → is_writable_at s (at_page p page) ≡ true → opening s p page ≡ []
-opens_nothing s p page right = ap (λ b. if b then [] else if is_mapped s (at_page p page) then protect_of p page true ∷ [] else map_of p page true ∷ []) right
-
 pub opened_before : (s : State) (p page : ℕ) → is_mapped s (at_page p page) ≡ true → is_writable_at s (at_page p page) ≡ true → IsOpened s p page s
-opened_before s p page there right = grind (arith, opens_nothing, open_before)
+opened_before s p page there right = grind (arith, open_before)
 
 -- ---- What stores and closes it
 

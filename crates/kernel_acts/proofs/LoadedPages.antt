@@ -85,15 +85,12 @@ pub cost_grows : (S : Spaces) (p : ℕ) (pages : List ℕ) → cost S p ≤ cost
 cost_grows S p [] = omega arith
 cost_grows S p (page ∷ pages) = grind (arith, cost-with_page, (cost_grows (with_page S p page) p pages))
 
-room_first : (q g c d e : ℕ) → c ≤ d → d ≤ e → nat_lt (q - c - g) (e - c) ≡ false → nat_lt (q - c - g) (d - c) ≡ false
-room_first q g c d e below above fits = grind (arith, ltb-false, le-ltb)
-
 room_rest : (q g c d e : ℕ) → c ≤ d → d ≤ e → nat_lt (q - c - g) (e - c) ≡ false → nat_lt (q - d - g) (e - d) ≡ false
 room_rest q g c d e below above fits = grind (arith, ltb-false, le-ltb)
 
 -- room for some pages is room for the first
 pub first_fits : (s : State) (p page : ℕ) (pages : List ℕ) → overdrawn s p (page ∷ pages) ≡ false → overdrawn s p (page ∷ []) ≡ false
-first_fits s p page pages fits = grind (arith, room_first, cost_grows)
+first_fits s p page pages fits = grind (arith, ltb-false, le-ltb, cost_grows)
 
 -- ---- Which slots are mapped
 

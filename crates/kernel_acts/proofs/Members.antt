@@ -10,9 +10,6 @@ first_of a b h = grind arith
 second_of : (a b : Bool) → T (a && b) → T b
 second_of a b h = grind arith
 
-less_of : (a b : ℕ) → T (is_lt (nat_cmp a b)) → a < b
-less_of a b h = grind arith
-
 abbrev Entry : Type 0
 Entry = ℕ × Member
 
@@ -23,7 +20,7 @@ found_after lo k v (e ∷ es) h found =
     by (found_after lo k v es (second_of _ _ h)) (k == e.0) refl (ap (λ b. cond b (Some e.1) (find nat_cmp k es)) (sym (unsigned_tied k e.0)) ∙ found)
   where
     by : (find nat_cmp k es ≡ Some v → lo < k) → (b : Bool) → (k == e.0) ≡ b → cond b (Some e.1) (find nat_cmp k es) ≡ Some v → lo < k
-    by rest b is f = grind (arith, eqb-true, less_of, first_of)
+    by rest b is f = grind (arith, eqb-true, first_of)
 
 found_first : (e : Entry) (es : List Entry) → find nat_cmp e.0 (e ∷ es) ≡ Some e.1
 found_first e es = ap (λ b. cond b (Some e.1) (find nat_cmp e.0 es)) (unsigned_tied e.0 e.0 ∙ eq-eqb e.0 e.0 refl)

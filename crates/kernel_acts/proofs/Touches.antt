@@ -143,18 +143,7 @@ record Wrote (v w : View) (p a : ℕ) : Type 0 where
 wrote : (v w : View) (p a b : ℕ) → IsCore v → IsCore w → completes (answer v.state (store_byte p a b)) ≡ true → w.state ≡ next v.state (store_byte p a b)
     → b % 256 ≡ byte_at v.state.spaces p a → Wrote v w p a
 wrote v w p a b now later done state same =
-    grind (
-      arith,
-      first_stored,
-      takes_here,
-      stored_state,
-      stored-flags,
-      bytes_in,
-      own_same,
-      finds_here,
-      stored_alike,
-      same_cells,
-    )
+    grind (arith, first_stored, takes_here, stored_state, stored-flags, own_same, finds_here, stored_alike, same_cells)
 
 -- ---- A page that takes stores is marked
 
@@ -162,12 +151,8 @@ wrote v w p a b now later done state same =
 marks_only : (s : State) (p a : ℕ) → IsWellFormed s → after_stores s p a [] ≡ after_stores s p a (byte_at s.spaces p a ∷ [])
 marks_only s p a w = grind (arith, write_at-nothing, bytes_in, own_same)
 
--- a page that takes stores isn't lazy
-taken_real : (v : View) (p a : ℕ) → takes_stores v.state.spaces (memory_of v) (slot_at p a) ≡ true → is_lazy_at (memory_of v) (slot_at p a) ≡ false
-taken_real v p a taken = grind arith
-
 marked_ends : (v : View) (p a b : ℕ) → takes_stores v.state.spaces (memory_of v) (slot_at p a) ≡ true → end.Nothing ≡ ended_by v (store_byte p a b)
-marked_ends v p a b taken = grind (arith, taken_real, one_page)
+marked_ends v p a b taken = grind (arith, one_page)
 
 pub marks_touch : (v w : View) (p a : ℕ) → IsCore v → IsCore w → is_live v.state p ≡ true → IsUserPage (page_number a) → takes_stores v.state.spaces (memory_of v) (slot_at p a) ≡ true
     → w.state ≡ after_stores v.state p a [] → FramesStay none_goes (memory_of v) (memory_of w) → Touches v (access_of_byte v.state p a Write) p a Write reply.Done end.Nothing w

@@ -18,14 +18,11 @@ module _ (s : State) (p a : ℕ) (live : is_live s p ≡ true) (user : IsUserPag
   stays : outside a One ≡ None
   stays = grind (arith, first_by_page, page_is_user, one_page)
 
-  roomy : overdrawn s p (touched a One) ≡ false
-  roomy = grind (arith, need-in_one, one_page, extra_touched, le-ltb)
-
   plain : (b : ℕ) → b + 256 * 0 ≡ b
   plain b = omega arith
 
   pub load_told : answer s (load_byte p a) ≡ reply.Value (byte_at s.spaces p a)
-  load_told = grind (arith, stays, roomy, plain)
+  load_told = grind (arith, stays, need-in_one, one_page, extra_touched, le-ltb, plain)
 
   pub load_next : next s (load_byte p a) ≡ after_loads s p a
   load_next = grind (arith, next-goes, load_told, load_in_page, one_page)

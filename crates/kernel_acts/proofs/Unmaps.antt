@@ -62,11 +62,8 @@ module _ (t : State) (own : Slot) (h : Holder) (w : IsWellFormed t) (beside : is
   pub unmap_after : next t (unmap_of h) ≡ after_unmap t h.pid h.page
   unmap_after = next-goes t (unmap_of h) (ap completes unmap_done)
 
-  apart : is_slot h.pid h.page own ≡ false
-  apart = grind (arith, same_sym, and_parts)
-
   unmap_kept : option_map ungrouped (map.get (next t (unmap_of h)).spaces own) ≡ option_map ungrouped (map.get t.spaces own)
-  unmap_kept = grind (arith, unmap_after, get-without, left, apart)
+  unmap_kept = grind (arith, unmap_after, get-without, left, same_sym, and_parts)
 
   -- nobody is beside a slot then who was not before
   pub unmap_beside : (x : Slot) → is_beside t own x ≡ false → is_beside (next t (unmap_of h)) own x ≡ false

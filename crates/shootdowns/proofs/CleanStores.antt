@@ -1,5 +1,5 @@
 -- Stores by what was kept before dirty was set, while an event that takes at most the right to write isn't in the order.
-use Rattle.shootdowns.proofs.Prelude.{◌≡◌, ◌≢◌, ℕ, Bool, arith, true, false, List, [], ◌∷◌, length, refl, ap, sym, ◌∙◌, subst, Option, Some, None, ◌+◌, ◌<◌, ◌≤◌, ◌^◌, unwrap_or, ◌&&◌, nat_le, IfSome, option_map, slice_get_within, slot_number, byte_count, EachTouched, page_number, index_number, second_page, same_map, frame_number, with_flag, is_lazy, is_accessed, frame_bytes, word_at, word_place, with_word, Role, Page, Reserved, table_at, page_word, is_lazy_at, takes_stores, Slot, Cell, Spaces, slot_order, at_page, fresh, memory_of, State, is_live, is_mapped, View, IsWellFormed, ServesEvent, bytes_kept, Serves, ServesCall, reply_kept, answer, next, answer_of, after, completes, IsCore, Processors, AllAreRead, Kept, AreRead, IsGiven, Call, Event, Reply, Ended, read_at, kept-next, goes_frameless, told_planned, only_takes, Acknowledged, usable, under_way, takes_right, LetsWrite, LetStore, IsStaleClean, with_dirty, all_dirty, Size, same, Write, touched_user, plan_at, takes_no_frame, each_page, walk_completes, goes-call, next-goes}
+use Rattle.shootdowns.proofs.Prelude.{◌≡◌, ◌≢◌, ℕ, Bool, arith, true, false, List, [], ◌∷◌, length, refl, ap, sym, ◌∙◌, subst, Option, Some, None, ◌+◌, ◌<◌, ◌≤◌, ◌^◌, unwrap_or, ◌&&◌, IfSome, option_map, slice_get_within, slot_number, byte_count, EachTouched, page_number, index_number, second_page, same_map, frame_number, with_flag, is_lazy, is_accessed, frame_bytes, word_at, word_place, with_word, Role, Page, Reserved, table_at, page_word, is_lazy_at, takes_stores, Slot, Cell, Spaces, slot_order, at_page, fresh, memory_of, State, is_live, is_mapped, View, IsWellFormed, ServesEvent, bytes_kept, Serves, ServesCall, reply_kept, answer, next, answer_of, after, completes, IsCore, Processors, AllAreRead, Kept, AreRead, IsGiven, Call, Event, Reply, Ended, read_at, kept-next, goes_frameless, told_planned, only_takes, Acknowledged, usable, under_way, takes_right, LetsWrite, LetStore, IsStaleClean, with_dirty, all_dirty, Size, same, Write, touched_user, plan_at, takes_no_frame, each_page, walk_completes, goes-call, next-goes}
 use Rattle.std.proofs.Common.{not}
 use Rattle.std.specs.Prelude.{is_some}
 use Rattle.shootdowns.proofs.Accesses.{frame_at, word_mapped, table_of_word, lazy_zero, role_served, frame_served, takes_served, served_live, frame_is}
@@ -17,9 +17,6 @@ use Rattle.shootdowns.proofs.StaleAccesses.{one_served}
 use Rattle.page_words.specs.FiniteMap as map
 use Rattle.kernel_calls.specs.declared.calls.Call.TheVariants as call
 use Rattle.kernel_calls.specs.declared.calls.Reply.TheVariants as reply
-
-not_within : (a b : ℕ) → nat_le a b ≡ false → b < a
-not_within a b h = grind (arith, nat_tests)
 
 -- what is kept with dirty, where dirty is set by now
 dirty_given : (v : View) (s : State) (at : Slot) (frame : ℕ) (dirty : Bool) → HasDirty s at
@@ -268,7 +265,7 @@ module _ (x : Ended) (done : Acknowledged) (e : Event) (r : Reply) (keeps : Proc
     first_of_store = record { byte = 0; within = (let k = some_bytes size in omega (arith, k.1)); same = omega arith }
 
     second_of_store : (n : ℕ) → second_page addr size ≡ Some n → IsOfStore n
-    second_of_store n h = grind (arith, not_within, some_bytes)
+    second_of_store n h = grind (arith, nat_tests, some_bytes)
 
     module _ (s : State) (w v : View) (g : Going x done e r s w keeps v) (q : Reply) (bytes : List ℕ) (frames : ℕ → ℕ) (found : q ≡ reply.Done) where
       -- where dirty is set in all pages by now
@@ -289,12 +286,6 @@ module _ (x : Ended) (done : Acknowledged) (e : Event) (r : Reply) (keeps : Proc
           → IsOne (under_way x done e r s w) (a ∷ []) (q ∷ []) (under_way x done e r (next s a) (record w { bytes = bytes; state = next (next s a) e })) keeps
       clean_store short l left = by (second_page addr size) refl l.1 left
         where
-          p : ℕ
-          p = a.pid
-
-          n : ℕ
-          n = page_number addr
-
           s1 : State
           s1 = dirty_at (at_page a.pid (page_number addr)) s
 

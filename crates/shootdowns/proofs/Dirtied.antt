@@ -1,5 +1,5 @@
 -- Memory in which dirty was set in the word of a page that isn't lazy.
-use Rattle.shootdowns.proofs.Prelude.{◌≡◌, ◌≢◌, ℕ, ◌<◌, ◌≤◌, ◌^◌, Bool, true, false, List, length, refl, ap, sym, ◌∙◌, arith, inl, inr, Option, Some, None, cases_eq, slice_get_within, ◌⊎◌, ◌&&◌, if◌then◌else◌, nat_lt, slice_get, option_and_then, option_map, slot_number, index_number, same, with_flag, frame_number, is_present, is_accessed, is_lazy, same_itself, same_or_not, same-true, frame_bytes, word_at, word_in, word_place, with_word, with_word_in, with_frame, IsInside, word_in-frame, frames-with_word, with_frame-same, with_frame-other, length-frame, word_in_same, word_in_other, length-with_word, Role, Directory, Table, Page, directory_at, table_at, word_of, present_word, page_word, own_frame, Slot, slot_order, Cell, at_page, own_is, memory_of, State, View, IsWellFormed, IsCore}
+use Rattle.shootdowns.proofs.Prelude.{◌≡◌, ◌≢◌, ℕ, ◌<◌, ◌≤◌, ◌^◌, Bool, true, false, List, length, refl, ap, sym, ◌∙◌, arith, inl, inr, Option, Some, None, cases_eq, slice_get_within, ◌⊎◌, slice_get, option_and_then, option_map, slot_number, index_number, same, with_flag, frame_number, is_accessed, is_lazy, same_itself, same_or_not, same-true, frame_bytes, word_at, word_in, word_place, with_word, with_word_in, with_frame, IsInside, word_in-frame, frames-with_word, with_frame-same, with_frame-other, length-frame, word_in_same, word_in_other, length-with_word, Role, Directory, Table, Page, directory_at, table_at, word_of, page_word, own_frame, Slot, slot_order, Cell, at_page, own_is, memory_of, State, View, IsWellFormed, IsCore}
 use Rattle.page_words.specs.FiniteMap as map
 use Rattle.address_space.specs.Image as memory
 use Rattle.kernel_calls.specs.Processors.{with_bytes}
@@ -69,11 +69,8 @@ module _ (w : View) (core : IsCore w) (small : length w.bytes ≤ 2 ^ 32) (p pag
   abbrev n0 : ℕ
   n0 = word_of (memory_of w) table i0
 
-  found : (if nat_lt table (length w.roles) && is_present n0 then Some n0 else None) ≡ Some word
-  found = sym (ap (option_and_then (λ f. present_word (memory_of w) f (word_of (memory_of w) f i0))) leads) ∙ there
-
   old_is : n0 ≡ word
-  old_is = grind (arith, found)
+  old_is = grind arith
 
   abbrev new : ℕ
   new = with_flag (word_at w.bytes (word_place table (index_number page))) 6 true
@@ -107,9 +104,6 @@ module _ (w : View) (core : IsCore w) (small : length w.bytes ≤ 2 ^ 32) (p pag
   whole : length (frame_bytes w.bytes table) ≡ 4096
   whole = length-frame w.bytes table inside
 
-  own_word : word_of (memory_of x) table i0 ≡ with_flag n0 6 true
-  own_word = ap (λ b. word_in b i0) own_bytes ∙ word_in_same (frame_bytes w.bytes table) i0 new whole low fits ∙ new_is
-
   other_word : (i : ℕ) → i ≢ i0 → word_of (memory_of x) table i ≡ word_of (memory_of w) table i
   other_word i apart = ap (λ b. word_in b i) own_bytes ∙ word_in_other (frame_bytes w.bytes table) i0 i new whole low apart
 
@@ -133,7 +127,7 @@ module _ (w : View) (core : IsCore w) (small : length w.bytes ≤ 2 ^ 32) (p pag
     where
       by : ((at ≡ slot) × (same slot_order at slot ≡ true)) ⊎ (same slot_order at slot ≡ false)
           → word_of (memory_of x) f (index_number slot.page) ≡ mark (one slot) (word_of (memory_of w) f (index_number slot.page))
-      by (inl is) = grind (arith, own_word, mark)
+      by (inl is) = grind (arith, own_bytes, word_in_same, whole, low, fits, new_is, mark)
       by (inr apart) = beside (cases_eq f table)
         where
           beside : (f ≡ table) ⊎ (f ≢ table) → word_of (memory_of x) f (index_number slot.page) ≡ mark (one slot) (word_of (memory_of w) f (index_number slot.page))

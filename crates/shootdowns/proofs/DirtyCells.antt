@@ -93,9 +93,7 @@ module _ (at : Slot) where
       by : (r : Slot) → ((r ≡ slot) × (same slot_order r slot ≡ true)) ⊎ (same slot_order r slot ≡ false)
           → cond (same slot_order r slot) (Some (dirt (same slot_order at slot) (record has.0 { write = w }))) (option_map (dirt (same slot_order at r)) (map.get S r))
           ≡ option_map (dirt (same slot_order at r)) (cond (same slot_order r slot) (Some (record has.0 { write = w })) (map.get S r))
-      by r (inl is) = grind arith
-      by r (inr other) = (λ i. cond (other i) (Some (dirt (same slot_order at slot) (record has.0 { write = w }))) (option_map (dirt (same slot_order at r)) (map.get S r)))
-          ∙ sym (ap (λ k. option_map (dirt (same slot_order at r)) (cond k (Some (record has.0 { write = w })) (map.get S r))) other)
+      by r x1 = grind arith
 
   pub answer_dirty : (s : State) (e : Event) → takes_right e.call ≡ true → answer (dirty_at at s) e ≡ answer s e
   answer_dirty s e h = answer_alike s (dirty_at at s) e (right_taken e.call h) refl (grows_dirty s.spaces)
@@ -125,9 +123,7 @@ module _ (at : Slot) where
       own x0 = grind arith
 
       put : (x m : Bool) (k : Cell) → dirt x (if m then with_bytes k (write_at c.bytes o ys) else k) ≡ (if m then with_bytes (dirt x k) (write_at c.bytes o ys) else dirt x k)
-      put true true k = refl
-      put true false k = refl
-      put false m k = refl
+      put x0 x1 k = grind arith
 
       by : (x q m : Bool) (z : Option Cell)
           → option_map (dirt x) (cond q (Some (written c o ys)) (option_map (λ (k : Cell). if m then with_bytes k (write_at c.bytes o ys) else k) z))

@@ -26,14 +26,9 @@ protects_mapped s p page done = grind arith
 pub completed : (s : State) (e : Event) → completes (answer s e) ≡ true → completes (answer_of s e.pid e.call) ≡ true
 completed s e = grind arith
 
--- an event that only takes away is answered by what is mapped, and by who is live
-call_alike : (s t : State) (p : ℕ) (c : Call) → only_takes c ≡ true → t.book ≡ s.book → ((slot : Slot) → map.contains_key t.spaces slot ≡ map.contains_key s.spaces slot)
-    → answer_of t p c ≡ answer_of s p c
-call_alike s t p x3 h book keys = grind arith
-
 pub same_answer : (s t : State) (e : Event) → only_takes e.call ≡ true → t.book ≡ s.book → ((slot : Slot) → map.contains_key t.spaces slot ≡ map.contains_key s.spaces slot)
     → answer t e ≡ answer s e
-same_answer s t e h book keys = grind (arith, call_alike)
+same_answer s t e h book keys = grind arith
 
 module _ (F : Slot → ℕ) (bytes : List ℕ) where
   pub get_filled : (S : Spaces) (r : Slot) → map.get (filled F bytes S) r ≡ option_map (fill F bytes r) (map.get S r)
@@ -53,9 +48,7 @@ module _ (F : Slot → ℕ) (bytes : List ℕ) where
     where
       by : (r : Slot) (b : Bool) (z : Option Cell)
           → option_map (fewer gone) (cond b (option_map (fill F bytes r) z) None) ≡ option_map (fill F bytes r) (option_map (fewer gone) (cond b z None))
-      by r false z = refl
-      by r true None = refl
-      by r true (Some c) = refl
+      by r x1 x2 = grind arith
 
   right_filled : (S : Spaces) (slot : Slot) (w : Bool) → is_some (map.get S slot) ≡ true
       → protected (filled F bytes S) slot w ≡ filled F bytes (protected S slot w)

@@ -144,14 +144,8 @@ module _ (v : View) (before : IsCore v) (s t : State) (first : Alike v.state s) 
         f : ℕ
         f = frame_number word_here.0
 
-        on : page_frame (memory_of v) slot ≡ Some (frame_number word_here.0)
-        on = ap (option_and_then (own_frame 2)) word_here.1 ∙ own_is word_here.0 real
-
         role : (c : ℕ) × (slice_get v.roles (frame_number word_here.0) ≡ Some (Page c))
         role = before.image.memory.sound.pages slot (frame_number word_here.0) (ap (option_and_then (own_frame 2)) word_here.1 ∙ own_is word_here.0 real)
-
-        here : frame_at v slot ≡ frame_number word_here.0
-        here = frame_is v slot word_here.0 word_here.1
 
         -- no slot that is mapped still is on a frame that is free
         none_there : slice_get w.roles (frame_number word_here.0) ≡ Some Free → (b : Slot) (n : ℕ) → is_some (map.get w.state.spaces b) ≡ true → page_word (memory_of v) b ≡ Some n

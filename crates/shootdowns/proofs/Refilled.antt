@@ -1,5 +1,5 @@
 -- What a walk reads while an event that only takes away isn't in the order, was read before the event.
-use Rattle.shootdowns.proofs.Prelude.{◌≡◌, ℕ, ◌<◌, ◌^◌, true, false, ap, sym, ◌∙◌, Option, Some, None, unwrap_or, not, Ok, page_number, frame_number, Access, Read, Write, walk_of, directory_at, table_at, page_word, is_lazy_at, takes_stores, Slot, Cell, at_page, slot_at, cell_or_fresh, fresh, way_of, WalkEndsBy, way_parts, from_map, memory_of, State, View, next, IsCore, Kept, Translation, IsGiven, translation, directory_entry, IsRead, Event, walks_of, ways_of, walk_takes, only_takes, subst, ◌&&◌, MatchBool, not_allowed, FindsBytes, lacks_right}
+use Rattle.shootdowns.proofs.Prelude.{◌≡◌, ℕ, ◌<◌, ◌^◌, true, false, ap, sym, ◌∙◌, Option, Some, None, unwrap_or, not, Ok, page_number, frame_number, Access, Read, Write, walk_of, directory_at, table_at, page_word, is_lazy_at, takes_stores, Slot, Cell, at_page, slot_at, cell_or_fresh, fresh, way_of, WalkEndsBy, way_parts, from_map, memory_of, State, View, next, IsCore, Kept, Translation, IsGiven, translation, directory_entry, IsRead, Event, walks_of, ways_of, walk_takes, only_takes, subst, ◌&&◌, MatchBool, not_allowed, FindsBytes, lacks_right, arith}
 use Rattle.page_words.specs.FiniteMap as map
 use Rattle.shootdowns.proofs.Accesses.{frame_at, frame_is, word_mapped, both, real_by}
 use Rattle.shootdowns.proofs.Alike.{AlikeCell, Alike, with_state}
@@ -60,13 +60,6 @@ module _ (v : View) (before : IsCore v) (s : State) (alike : Alike v.state s) (e
     written writes a small here =
         by (map.get v.state.spaces (slot_at k.slot.pid a)) (there a here) (walks_of before k.slot.pid given.directory a Write live small)
       where
-        may : takes_stores w.state.spaces (memory_of w) (slot_at k.slot.pid a) ≡ true
-        may = walk_takes w core k.slot.pid given.directory a k.frame given.live small (given.written writes a small here)
-
-        right : ((cell_or_fresh w.state.spaces (slot_at k.slot.pid a)).write ≡ true) × (not (is_lazy_at (memory_of w) (slot_at k.slot.pid a)) ≡ true)
-        right = both (cell_or_fresh w.state.spaces (slot_at k.slot.pid a)).write (not (is_lazy_at (memory_of w) (slot_at k.slot.pid a)))
-            (both (map.contains_key w.state.spaces (slot_at k.slot.pid a)) _ (walk_takes w core k.slot.pid given.directory a k.frame given.live small (given.written writes a small here))).1
-
         cell_writes : given.cell.write ≡ true
         cell_writes =
             let r = both (cell_or_fresh w.state.spaces (slot_at k.slot.pid a)).write (not (is_lazy_at (memory_of w) (slot_at k.slot.pid a)))

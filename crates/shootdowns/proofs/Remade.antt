@@ -201,11 +201,8 @@ module _ (w : View) (core : IsCore w) (F : Slot → ℕ) (one : Slot → Bool) (
 
   -- ---- Accounts
 
-  keys_same : (q : Slot) → map.contains_key t.spaces q ≡ map.contains_key w.state.spaces q
-  keys_same q = ap is_some (r.cells q) ∙ is_some-map (change q) (map.get w.state.spaces q)
-
   account_same : (q : ℕ) → account_of t q ≡ account_of w.state q
-  account_same q = grind (arith, cost-same, keys_same)
+  account_same q = grind (arith, cost-same, is_some-map)
 
   charge_same : (q used : ℕ) → IsCharge (memory_of w) q used → IsCharge (memory_of x) q used
   charge_same q used k = record {

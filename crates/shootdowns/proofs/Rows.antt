@@ -1,5 +1,5 @@
 -- What others may do in the window of each call.
-use Rattle.shootdowns.proofs.Prelude.{◌≡◌, Bool, true, false, [], ◌∷◌, refl, if◌then◌else◌, answer, next, completes, Processors, ended_by, of_call, Call, Event, Reply, Ended, State, nobody, settled, CleanStoresComeFirst, StaleStoresComeFirst, StaleLoadsComeFirst, WalksComeFirst, OthersAreRead, may_end, OthersEndNothing, arith}
+use Rattle.shootdowns.proofs.Prelude.{◌≡◌, Bool, true, false, [], ◌∷◌, refl, answer, next, completes, Processors, ended_by, of_call, Call, Event, Reply, Ended, State, nobody, settled, CleanStoresComeFirst, StaleStoresComeFirst, StaleLoadsComeFirst, WalksComeFirst, OthersAreRead, may_end, OthersEndNothing, arith}
 use Rattle.kernel_calls.specs.declared.calls.Call.TheVariants as call
 use Rattle.kernel_calls.specs.declared.translations.Ended.TheVariants as end
 use Rattle.shootdowns.proofs.InOrder.{shootdowns_make_events}
@@ -45,9 +45,6 @@ others_are_read v w keeps e r core all b =
     (shootdowns_make_events v (settled (ended_by v e) nobody w) keeps keeps (e ∷ []) (r ∷ []) core all
     (window.first (window.begun b) (window.first window.ordered window.none))).stands.1
 
-either_nothing : (b : Bool) → (if b then end.Nothing else end.Nothing) ≡ end.Nothing
-either_nothing x0 = grind arith
-
 pub others_end_nothing : OthersEndNothing
 others_end_nothing v e other = by e.call refl other
   where
@@ -55,7 +52,7 @@ others_end_nothing v e other = by e.call refl other
     done = completes (answer v.state e)
 
     ends : (c : Call) → e.call ≡ c → of_call v e.pid c ≡ end.Nothing → ended_by v e ≡ end.Nothing
-    ends c is nothing = grind (arith, done, either_nothing)
+    ends c is nothing = grind (arith, done)
 
     by : (c : Call) → e.call ≡ c → may_end c ≡ false → ended_by v e ≡ end.Nothing
     by (call.Store addr size value) is h = cc

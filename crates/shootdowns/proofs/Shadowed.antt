@@ -1,5 +1,5 @@
 -- Uses of what was kept come after an event that gives lazy pages frames and leaves their zeros.
-use Rattle.shootdowns.proofs.Prelude.{◌≡◌, ◌≢◌, ℕ, Bool, true, false, List, [], ◌∷◌, ◌+◌, refl, ap, sym, ◌∙◌, arith, Some, None, subst, is_some, ◌⊎◌, if◌then◌else◌, slice_get, slice_index, page_number, byte_count, EachTouched, Size, frame_bytes, byte-frame, Read, Write, directory_at, is_lazy_at, kept_place, number_at, Slot, Cell, at_page, byte_at, value_of, each_byte, same_each, memory_of, State, is_live, is_mapped, View, touched_user, plan_at, each_page, walk_completes, Serves, ServesCall, ServesEvent, IsLoad, IsStore, reply_kept, answer, answer_of, after, next, completes, IsCore, IsLeft, Processors, AllAreRead, IsLoaded, LetsThrough, LetCall, Translation, translation, IsGiven, Ends, AreRead, ended_by, is_ended, Call, Event, Reply, Ended, goes-call, next-goes, Touched, loaded_same, live, kept_find, kept_reply, stores_leave_cores, left_read, read_at, answered, goes_frameless, told_planned, IsStale, Uses, ComeAfter, UsesComeAfterZeros}
+use Rattle.shootdowns.proofs.Prelude.{◌≡◌, ◌≢◌, ℕ, Bool, true, false, List, [], ◌∷◌, ◌+◌, refl, ap, sym, ◌∙◌, arith, Some, None, subst, is_some, ◌⊎◌, if◌then◌else◌, slice_get, slice_index, page_number, byte_count, EachTouched, Size, frame_bytes, byte-frame, Read, Write, directory_at, is_lazy_at, kept_place, number_at, Slot, Cell, at_page, byte_at, value_of, each_byte, same_each, memory_of, State, is_mapped, View, touched_user, plan_at, each_page, walk_completes, Serves, ServesCall, ServesEvent, IsLoad, IsStore, reply_kept, answer, answer_of, after, next, completes, IsCore, IsLeft, Processors, AllAreRead, IsLoaded, LetsThrough, LetCall, Translation, translation, IsGiven, Ends, AreRead, ended_by, is_ended, Call, Event, Reply, Ended, goes-call, next-goes, Touched, loaded_same, live, kept_find, kept_reply, stores_leave_cores, left_read, read_at, answered, goes_frameless, told_planned, IsStale, Uses, ComeAfter, UsesComeAfterZeros}
 use Rattle.page_words.specs.FiniteMap as map
 use Rattle.page_words.specs.FiniteSet as set
 use Rattle.process_table.specs.Calls as calls
@@ -51,13 +51,10 @@ module _ (u : View) (core : IsCore u) (p : ℕ) (frames : ℕ → ℕ) where
       (each_page addr size (λ page. Finds u p page (frames page)) (Touched u.state.spaces p) (λ page f. record { cell = f.cell; there = f.there; set = f.accessed }) found)
   call_same _ found = absurd found
 
-  call_done : (c : Call) → FindsCall u p frames c → (completes (reply_kept frames u.bytes c) ≡ true) × (is_live u.state p ≡ true)
-  call_done x0 found = grind arith
-
 -- the load is answered by these bytes, and changes nothing
 load_found : (u : View) (core : IsCore u) (frames : ℕ → ℕ) (a : Event) → FindsCall u a.pid frames a.call
     → (answer u.state a ≡ reply_kept frames u.bytes a.call) × (next u.state a ≡ u.state)
-load_found u core frames a found = grind (arith, call_done, call_found, next-goes, call_same)
+load_found u core frames a found = grind (arith, call_found, next-goes, call_same)
 
 -- ---- What stays while what was kept is used
 

@@ -12,9 +12,7 @@ use Rattle.kernel_calls.specs.declared.calls.Call.TheVariants as call
 -- ---- An access by what is kept of the memory before
 
 pub load_leaves : (frames : ℕ → ℕ) (bytes : List ℕ) (c : Call) → IsLoad c → bytes_kept frames bytes c ≡ bytes
-load_leaves frames bytes (call.Load addr size) h = refl
-load_leaves frames bytes (call.Store addr size value) h = absurd h
-load_leaves frames bytes _ h = refl
+load_leaves frames bytes x2 h = grind arith
 
 module _ (x : Ended) (done : Acknowledged) (e : Event) (r : Reply) (s : State) (w : View) (keeps : Processors) (takes : only_takes e.call ≡ true)
     (v : View) (g : Going x done e r s w keeps v) (i : ℕ) where

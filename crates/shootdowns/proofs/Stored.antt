@@ -71,20 +71,14 @@ module _ (F : Slot → ℕ) (S : Spaces) (p : ℕ) (frames : ℕ → ℕ) where
       own : frame_bytes two f ≡ new
       own = grind (arith, f, all, with_frame-same, byte_is_write, long)
 
-      other : (g : ℕ) → g ≢ f → frame_bytes two g ≡ frame_bytes bytes g
-      other g differ = ap (λ (m : ℕ → List ℕ). m g) all ∙ with_frame-other (frame_bytes bytes) f g (slice_set (frame_bytes bytes f) o (v % 256)) differ
-
-      marked : done ≡ fill F two slot h.cell
-      marked = λ i. record (with_bytes h.cell ((sym own ∙ ap (frame_bytes two) (sym h.frame)) i)) { accessed = sym h.accessed i; dirty = sym h.dirty i }
-
       in_group : (r : Slot) (z : Option Cell) → map.get S r ≡ z → (b : Bool) → set.contains h.cell.holders r ≡ b
           → option_map (λ (c : Cell). if b then with_bytes c new else c) (option_map (fill F bytes r) z) ≡ option_map (fill F two r) z
-      in_group r x1 is x3 k = grind (arith, own, two, other)
+      in_group r x1 is x3 k = grind (arith, own, two, all, with_frame-other, f)
 
       by : (r : Slot) → ((r ≡ slot) × (same slot_order r slot ≡ true)) ⊎ (same slot_order r slot ≡ false)
           → cond (same slot_order r slot) (Some done) (option_map (λ (c : Cell). if set.contains h.cell.holders r then with_bytes c new else c) (option_map (fill F bytes r) (map.get S r)))
           ≡ option_map (fill F two r) (map.get S r)
-      by r (inl is) = grind (arith, done, new, fill, marked, two, slot)
+      by r (inl is) = grind (arith, done, new, fill, own, two, slot)
       by r (inr differ) =
           ap (λ k. cond k (Some done) (option_map (λ (c : Cell). if set.contains h.cell.holders r then with_bytes c new else c) (option_map (fill F bytes r) (map.get S r)))) differ
           ∙ in_group r (map.get S r) refl (set.contains h.cell.holders r) refl

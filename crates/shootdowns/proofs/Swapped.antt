@@ -34,16 +34,13 @@ group_gone S gone h new = same_map _ _ (λ r.
     ∙ by r (gone r) refl
     ∙ sym (get-map_values slot_order (λ k (c : Cell). if set.contains h k then with_bytes c new else c) (without S gone) r))
   where
-    none : (r : Slot) → gone r ≡ true → map.get (without S gone) r ≡ None
-    none r is = get_gone S gone r ∙ ap (λ k. option_map (fewer gone) (cond (not k) (map.get S r) None)) is
-
     inside : (b : Bool) → (b && not false) ≡ b
     inside x0 = grind arith
 
     by : (r : Slot) (b : Bool) → gone r ≡ b
         → option_map (λ (c : Cell). if set.contains (set.retain h (λ x. not (gone x))) r then with_bytes c new else c) (map.get (without S gone) r)
         ≡ option_map (λ (c : Cell). if set.contains h r then with_bytes c new else c) (map.get (without S gone) r)
-    by r x1 is = grind (arith, none, contains-retain, inside)
+    by r x1 is = grind (arith, get_gone, fewer, contains-retain, inside)
 
 -- ---- One page
 
@@ -77,12 +74,6 @@ twice S a x y = same_map _ _ (λ r.
 pub accessed_right : (S : Spaces) (a b : Slot) (w : Bool) → protected (accessed S b) a w ≡ accessed (protected S a w) b
 accessed_right S a b w = by (same_or_not slot_order a b)
   where
-    set_right : Option Cell → Cell
-    set_right z = record (unwrap_or z (fresh a true)) { write = w }
-
-    set_accessed : Option Cell → Cell
-    set_accessed z = record (unwrap_or z (fresh b true)) { accessed = true }
-
     apart : same slot_order a b ≡ false → a ≢ b
     apart other is = let k : true ≡ false = sym (same_itself slot_order b) ∙ sym (ap (λ q. same slot_order q b) is) ∙ other in cc
 
@@ -118,12 +109,7 @@ stored_right S a b c d w o ys apart at there = same_map _ _ (λ r.
     right : map.get (protected S a w) b ≡ Some c
     right = get_protected S a d there w b ∙ ap (λ q. cond q (Some (record d { write = w })) (map.get S b)) (other_slot b a (λ is. apart (sym is))) ∙ at
 
-    pick : (k : Bool) → record (if k then with_bytes d (write_at c.bytes o ys) else d) { write = w } ≡ (if k then with_bytes (record d { write = w }) (write_at c.bytes o ys) else record d { write = w })
-    pick x0 = grind arith
-
     by : (r : Slot) → ((r ≡ a) × (same slot_order r a ≡ true)) ⊎ (same slot_order r a ≡ false) → ((r ≡ b) × (same slot_order r b ≡ true)) ⊎ (same slot_order r b ≡ false)
         → cond (same slot_order r a) (Some (record (grouped c o ys a d) { write = w })) (cond (same slot_order r b) (Some (written c o ys)) (option_map (grouped c o ys r) (map.get S r)))
         ≡ cond (same slot_order r b) (Some (written c o ys)) (option_map (grouped c o ys r) (cond (same slot_order r a) (Some (record d { write = w })) (map.get S r)))
-    by r (inl one) (inl two) = absurd (apart (sym one.0 ∙ two.0))
-    by r (inl one) (inr two) = grind (arith, grouped, written, pick)
-    by r (inr one) two = grind (arith, grouped, written)
+    by r x1 x2 = grind (arith, grouped, written)

@@ -5,7 +5,7 @@ use Rattle.page_words.specs.FiniteSet as set
 use Rattle.kernel_calls.specs.declared.calls.Call.TheVariants as call
 use Rattle.shootdowns.proofs.Alike.{AlikeCell, same_cell}
 use Rattle.shootdowns.proofs.Cells.{first_of, rest_of}
-use Rattle.shootdowns.proofs.Filled.{protects_mapped, completed, same_answer}
+use Rattle.shootdowns.proofs.Filled.{protects_mapped, same_answer}
 use Rattle.shootdowns.proofs.Swapped.{accessed_gone, stored_gone, accessed_right, stored_right}
 use Rattle.shootdowns.proofs.Taking.{left_gone}
 
@@ -300,18 +300,7 @@ turned s e a takes pages done later = by (completes (answer s e)) refl
 
     either : (c : Call) → e.call ≡ c → only_takes c ≡ true → completes (answer s e) ≡ true → after (after s e.pid c) a.pid a.call ≡ after (after s a.pid a.call) e.pid c
     either x0 is h goes =
-        grind (
-          arith,
-          next-goes,
-          moved,
-          gone_turned,
-          spacely,
-          mapped_before,
-          some_value,
-          protects_mapped,
-          completed,
-          right_turned,
-        )
+        grind (arith, next-goes, moved, gone_turned, spacely, mapped_before, some_value, protects_mapped, right_turned)
 
     by : (b : Bool) → completes (answer s e) ≡ b → next (next s e) a ≡ next (next s a) e
     by x0 x1 = grind (arith, next-stays, same, next-goes, either)

@@ -134,9 +134,7 @@ module _ (s : State) (well : IsWellFormed s) (e : Event) (takes : only_takes e.c
   done_after = sym (ap (λ (z : State). completes (answer z a)) state) ∙ ap completes (answered w a d core found live) ∙ by a.call found
     where
       by : (c : Call) → finds_call w a.pid c ≡ true → completes (reply_found w.bytes d c) ≡ true
-      by (call.Load addr size) h = refl
-      by (call.Store addr size value) h = refl
-      by _ h = cc
+      by x0 h = grind arith
 
   live_after : is_live (next s e) a.pid ≡ true
   live_after = owner s well e takes w core state a.pid d live (next s e) (kept-next s e well).0 a.call (mapped_after s e a.pid a.call (next s e) refl pages_in)

@@ -129,12 +129,8 @@ module _ (v w : View) (core : IsCore v) (state : v.state ≡ loaded_state) (real
       (a ∷ reply.Done ∷ reply.Done ∷ []) (settled end.Nothing nobody after) kept_then
   window a walk = first (walked refl walk) (first (stored_clean 0 refl stores) (first (invalidated 0) (first ordered (first (told all) none))))
 
-  -- a Protect ends nothing of the root's
-  other_spared : is_invalidated x_ended other ≡ false
-  other_spared = grind arith
-
   some_left : kept_then 0 ≢ []
-  some_left empty = grind (arith, other_spared)
+  some_left empty = grind arith
 
   core_after : IsCore after
   core_after = (shootdowns_make_events v (settled end.Nothing nobody after) none_kept kept_then (load_copy ∷ store_copy ∷ protect_it ∷ []) (q ∷ reply.Done ∷ reply.Done ∷ []) core (λ i. tt)

@@ -1,5 +1,5 @@
 -- The steps of the worked window.
-use Rattle.shootdowns.proofs.Prelude.{◌≡◌, ◌≢◌, ℕ, ◌+◌, ◌<◌, ◌≤◌, ◌^◌, Bool, true, false, List, [], ◌∷◌, length, refl, ap, sym, ◌∙◌, subst, arith, Some, None, is_some, ◌⊎◌, ◌&&◌, if◌then◌else◌, option_and_then, option_map, slice_get_within, Directory, Table, index_number, slot_number, flag, frame_number, is_present, with_flag, flag-with_flag_other, flag-with_flag_same, is_some-map, some_value, word_at, word_place, with_word, word_in-frame, length-with_word, word_at-with_word_same, Access, Read, Write, with_walked, directory_at, is_user_slot, named_by, present_word, table_at, word_of, Cell, at_page, from_then, memory_of, State, is_live, open_with, View, reply_kept, bytes_kept, answer, answers, next, AllAreRead, IsCore, Processors, with_kept, LetsThrough, IsLoaded, IsMarked, AreRead, Kept, translation, ended_by, left_by, Event, Reply, Ended, Begins, IsStale, KeepsNone, Steps, begun, loaded, marked, ordered, refilled, invalidated, told, none, first, nobody, with_one, settled, under_way, first_store, second_store, unmap_it, load_it, store_it, none_kept, WorkedWindow}
+use Rattle.shootdowns.proofs.Prelude.{◌≡◌, ◌≢◌, ℕ, ◌+◌, ◌<◌, ◌≤◌, ◌^◌, Bool, true, false, List, [], ◌∷◌, length, refl, ap, sym, ◌∙◌, subst, arith, Some, None, is_some, ◌⊎◌, ◌&&◌, if◌then◌else◌, option_and_then, slice_get_within, Directory, Table, index_number, slot_number, flag, frame_number, is_present, with_flag, flag-with_flag_other, flag-with_flag_same, is_some-map, some_value, word_at, word_place, with_word, word_in-frame, length-with_word, word_at-with_word_same, Access, Read, Write, with_walked, directory_at, is_user_slot, named_by, present_word, table_at, word_of, Cell, at_page, from_then, memory_of, State, is_live, open_with, View, reply_kept, bytes_kept, answer, answers, next, AllAreRead, IsCore, Processors, with_kept, LetsThrough, IsLoaded, IsMarked, AreRead, Kept, translation, ended_by, left_by, Event, Reply, Ended, Begins, IsStale, KeepsNone, Steps, begun, loaded, marked, ordered, refilled, invalidated, told, none, first, nobody, with_one, settled, under_way, first_store, second_store, unmap_it, load_it, store_it, none_kept, WorkedWindow}
 use Rattle.page_words.specs.FiniteMap as map
 use Rattle.address_space.proofs.Prelude.{with_flag_lt}
 use Rattle.kernel_calls.specs.declared.calls.Reply.TheVariants as reply
@@ -14,9 +14,6 @@ stored_state = next (next (open_with 16) first_store) second_store
 
 cell_there : (c : Cell) × (map.get stored_state.spaces (at_page 0 0x40000) ≡ Some c)
 cell_there = some_value (map.get stored_state.spaces (at_page 0 0x40000)) refl
-
-flag_there : (flag : Cell → Bool) → option_map flag (map.get stored_state.spaces (at_page 0 0x40000)) ≡ Some true → flag cell_there.0 ≡ true
-flag_there flag h = let e : Some (flag cell_there.0) ≡ Some true = sym (ap (option_map flag) cell_there.1) ∙ h in cc
 
 first_told : (q : Reply) (rest : List Reply) (s : State) (events : List Event) (e : Event) → (q ∷ rest) ≡ (answer s e ∷ answers (next s e) events) → q ≡ answer s e
 first_told q rest s events e h = cc
@@ -106,7 +103,7 @@ module _ (v w y x : View) (core : IsCore v) (state : v.state ≡ stored_state) (
   keeps = with_kept none_kept 0 (kept ∷ [])
 
   is_given : AreRead v (kept ∷ [])
-  is_given = grind (arith, given, there, flag_there, dirty_real)
+  is_given = grind (arith, given, there, dirty_real)
 
   read : AllAreRead v keeps
   read i = grind (arith, is_given)

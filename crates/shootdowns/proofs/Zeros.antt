@@ -1,5 +1,5 @@
 -- A lazy page that an event gives a frame has zeros afterwards, as before.
-use Rattle.shootdowns.proofs.Prelude.{◌≡◌, ◌≢◌, ℕ, zero, suc, ◌+◌, ◌<◌, Bool, true, false, cond, ◌||◌, List, [], ◌∷◌, refl, ap, sym, ◌∙◌, subst, arith, inl, Option, Some, None, unwrap_or, is_some, ◌⊎◌, if◌then◌else◌, IfSome, slice_set, option_map, option_and_then, offset_number, byte_count, EachTouched, Size, same, is_lazy, contains-insert, same_or_not, some_value, frame_bytes, page_word, is_lazy_at, takes_stores, Slot, slot_order, Cell, Spaces, at_page, slot_at, zeros, with_bytes, with_holders, write_at, stored, all_stored, bytes_of, joined, is_slot, IsThere, with_touched-same, each_byte, byte_is_write, after_store, memory_of, State, View, each_page, answer, answer_of, after, completes, IsCore, ended_by, if_lazy, is_ended, of_call, of_pages, Call, Event, Reply, next-goes, not-refused, Begins, LeavesZeros, accept_refusal, offered}
+use Rattle.shootdowns.proofs.Prelude.{◌≡◌, ◌≢◌, ℕ, zero, suc, ◌+◌, ◌<◌, Bool, true, false, cond, ◌||◌, List, [], ◌∷◌, refl, ap, sym, ◌∙◌, subst, arith, inl, Option, Some, None, unwrap_or, is_some, ◌⊎◌, if◌then◌else◌, IfSome, slice_set, option_map, offset_number, byte_count, EachTouched, Size, same, is_lazy, contains-insert, same_or_not, some_value, frame_bytes, page_word, is_lazy_at, takes_stores, Slot, slot_order, Cell, Spaces, at_page, slot_at, zeros, with_bytes, with_holders, write_at, stored, all_stored, bytes_of, joined, is_slot, IsThere, with_touched-same, each_byte, byte_is_write, after_store, memory_of, State, View, each_page, answer, answer_of, after, completes, IsCore, ended_by, is_ended, of_call, of_pages, Call, Event, Reply, next-goes, not-refused, Begins, LeavesZeros, accept_refusal, offered}
 use Rattle.std.proofs.lemmas.List.{set-get_or, get_or-replicate}
 use Rattle.page_words.specs.FiniteMap as map
 use Rattle.page_words.specs.FiniteSet as set
@@ -78,15 +78,12 @@ ended_lazy v e leaves slot = by (completes (answer v.state e))
     if_is : (p page : ℕ) (b : Bool) → is_lazy_at (memory_of v) (at_page p page) ≡ b → IfSome (if b then Some page else None) (λ n. is_lazy_at (memory_of v) (at_page p n) ≡ true)
     if_is p page x2 h = grind arith
 
-    second : (p : ℕ) (y : Option ℕ) → IfSome (option_and_then (if_lazy (memory_of v) p) y) (λ n. is_lazy_at (memory_of v) (at_page p n) ≡ true)
-    second p x1 = grind (arith, if_is)
-
     pages : (p : ℕ) (x y : Option ℕ) → IfSome x (λ n. is_lazy_at (memory_of v) (at_page p n) ≡ true) → IfSome y (λ n. is_lazy_at (memory_of v) (at_page p n) ≡ true)
         → is_ended (of_pages p x y) slot ≡ true → is_lazy_at (memory_of v) slot ≡ true
     pages p x1 x2 a b h = grind (arith, one)
 
     of_kind : (c : Call) → LeavesZeros v e.pid c → is_ended (of_call v e.pid c) slot ≡ true → is_lazy_at (memory_of v) slot ≡ true
-    of_kind x0 leaves h = grind (arith, pages, if_is, second)
+    of_kind x0 leaves h = grind (arith, pages, if_is)
 
     by : (q : Bool) → is_ended (if q then of_call v e.pid e.call else end.Nothing) slot ≡ true → is_lazy_at (memory_of v) slot ≡ true
     by x0 h = grind (arith, of_kind)
