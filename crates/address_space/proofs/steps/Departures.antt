@@ -107,20 +107,13 @@ dropped_at_first inner p before = record {
 pub dropped_past : (v : View) (inner : Inner) (p d from beyond : ℕ) → DroppedBelow v p from (view_of inner) → directory_of inner.directories p ≡ Some d → from ≤ beyond → beyond ≤ 0xf0000
     → ((page : ℕ) → from ≤ page → page < beyond → entry_at (frame_bytes inner.memory) d page ≡ None) → DroppedBelow v p beyond (view_of inner)
 dropped_past v inner p d from beyond so_far live up high none =
-    let low = so_far.low in
-    record {
-      directories = so_far.directories;
-      spaces = so_far.spaces;
-      stay = so_far.stay;
-      loose = so_far.loose;
-      below = λ page l. elim (cases_lt page from) [
-        | inl below ↦ so_far.below page below
-        | inr above ↦ no_cell_unmapped inner.directories inner.memory p d page live (none page above l)
-      ];
-      length = so_far.length;
-      low = omega arith;
-      high = high;
-    }
+    let low : 0x40000 ≤ beyond = omega (arith, so_far.low, up) in
+    let below : (page : ℕ) → page < beyond → map.get (spaces_at inner) (at_page p page) ≡ None = λ page l.
+    elim (cases_lt page from) [
+      | inl below ↦ so_far.below page below
+      | inr above ↦ no_cell_unmapped inner.directories inner.memory p d page live (none page above l)
+    ] in
+    assumption
 
 -- and one page more
 pub dropped_next : (v one two : View) (p page : ℕ) → DroppedBelow v p page one → page < 0xf0000
