@@ -57,7 +57,6 @@ module _ (at : Slot) where
           → (c : Cell) × (map.get S slot ≡ Some c) × AlikeCell c d
       by slot d None is k = absurd (let e : None ≡ Some d = sym (ap (option_map (dirt (same slot_order at slot))) is) ∙ k in cc)
       by slot d (Some c) is k =
-          let e : Some (dirt (same slot_order at slot) c) ≡ Some d = sym (ap (option_map (dirt (same slot_order at slot))) is) ∙ k in
           let q : dirt (same slot_order at slot) c ≡ d = cc in
           (c, is, subst (AlikeCell c) q (dirt_alike (same slot_order at slot) c))
 
