@@ -1,5 +1,5 @@
 -- Memory after an access by a walk, while an event that only takes away isn't in the order.
-use Rattle.shootdowns.proofs.Prelude.{◌≡◌, ℕ, ◌<◌, ◌^◌, Bool, true, false, refl, ap, sym, ◌∙◌, arith, Option, Some, None, is_some, ◌⊎◌, if◌then◌else◌, MatchBool, Ok, slice_get, option_map, option_and_then, slice_get_within, page_number, start_number, frame_number, is_lazy, some_value, frame_bytes, Role, Free, Page, Read, walk_of, directory_at, table_at, page_word, page_frame, is_lazy_at, CellStands, own_frame, Slot, Cell, at_page, slot_at, way_of, WalkEndsBy, way_parts, from_then, owned, own_is, memory_of, State, View, IsWellFormed, next, IsCore, Ends, WalkGives, Event, walks_of, ways_of, tables_map, only_takes, subst, inl, inr}
+use Rattle.shootdowns.proofs.Prelude.{◌≡◌, ℕ, ◌<◌, ◌^◌, Bool, true, false, refl, ap, sym, ◌∙◌, arith, Option, Some, None, is_some, ◌⊎◌, if◌then◌else◌, MatchBool, Ok, slice_get, option_map, option_and_then, slice_get_within, page_number, start_number, frame_number, is_lazy, some_value, frame_bytes, Free, Page, Read, walk_of, directory_at, table_at, page_word, page_frame, is_lazy_at, CellStands, own_frame, Slot, Cell, at_page, slot_at, way_of, WalkEndsBy, way_parts, from_then, owned, own_is, memory_of, State, View, IsWellFormed, next, IsCore, Ends, WalkGives, Event, walks_of, ways_of, tables_map, only_takes, subst, inl, inr}
 use Rattle.page_words.specs.FiniteMap as map
 use Rattle.page_words.specs.FiniteSet as set
 use Rattle.kernel_calls.specs.declared.translations.Ended.TheVariants as end

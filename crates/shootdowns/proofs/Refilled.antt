@@ -1,5 +1,5 @@
 -- What a walk reads while an event that only takes away isn't in the order, was read before the event.
-use Rattle.shootdowns.proofs.Prelude.{◌≡◌, ℕ, ◌<◌, ◌^◌, true, false, ap, sym, ◌∙◌, Option, Some, None, unwrap_or, not, Ok, page_number, frame_number, Access, Read, Write, walk_of, directory_at, table_at, page_word, is_lazy_at, takes_stores, Slot, Cell, at_page, slot_at, cell_or_fresh, fresh, way_of, WalkEndsBy, way_parts, from_map, memory_of, State, View, next, IsCore, Kept, Translation, IsGiven, translation, directory_entry, IsRead, Event, walks_of, ways_of, walk_takes, only_takes, subst, ◌&&◌, MatchBool, not_allowed, FindsBytes, lacks_right, arith}
+use Rattle.shootdowns.proofs.Prelude.{◌≡◌, ℕ, ◌<◌, ◌^◌, true, false, ap, sym, ◌∙◌, Option, Some, None, unwrap_or, not, Ok, page_number, frame_number, Access, Read, Write, walk_of, directory_at, table_at, page_word, is_lazy_at, Slot, Cell, at_page, slot_at, cell_or_fresh, fresh, way_of, WalkEndsBy, way_parts, from_map, memory_of, State, View, next, IsCore, Kept, Translation, IsGiven, translation, directory_entry, IsRead, Event, walks_of, ways_of, walk_takes, only_takes, subst, ◌&&◌, MatchBool, not_allowed, FindsBytes, lacks_right}
 use Rattle.page_words.specs.FiniteMap as map
 use Rattle.shootdowns.proofs.Accesses.{frame_at, frame_is, word_mapped, both, real_by}
 use Rattle.shootdowns.proofs.Alike.{AlikeCell, Alike, with_state}

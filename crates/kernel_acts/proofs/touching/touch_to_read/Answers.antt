@@ -1,4 +1,4 @@
-use Rattle.kernel_acts.proofs.Prelude.{◌≡◌, ℕ, Bool, true, false, refl, sym, arith, subst, if◌then◌else◌, View, Ended, answer, completes, ended_by, Ends, load_byte}
+use Rattle.kernel_acts.proofs.Prelude.{◌≡◌, ℕ, sym, arith, subst, View, Ended, ended_by, Ends, load_byte}
 use Rattle.kernel_calls.specs.declared.translations.Ended.TheVariants as end
 use Rattle.kernel_acts.proofs.Touches.{read_touches}
 use Rattle.kernel_acts.proofs.touching.touch_to_read.Goals as goal
