@@ -1,5 +1,5 @@
 -- Bytes that are put into one page: the right for the time, the stores, and the right taken back.
-use Rattle.kernel_acts.proofs.Prelude.{◌≡◌, ℕ, ◌+◌, ◌<◌, ◌≤◌, Bool, true, false, not, length, List, [], ◌∷◌, ◌++◌, sym, ap, subst, ◌∙◌, is_some, Option, Some, None, unwrap_or, inl, inr, arith, if◌then◌else◌, option_map, page_number, offset_number, same_map, some_value, same_cases, Slot, slot_order, Cell, fresh, cell_or_fresh, is_slot, at_page, slot_at, set_bytes, write_at, after_stores, State, is_live, is_mapped, View, after_protect, IsWellFormed, get-inserted, get-inserted_other, page_is_user, answer, next, completes, refused_or, stores, carried, AreStored, ended_by, is_ended, is_all_of, Event, map_of, protect_of, is_writable_at, opening, store_run, IsRunTo, IsOpened, end_of-append}
+use Rattle.kernel_acts.proofs.Prelude.{◌≡◌, ℕ, ◌+◌, ◌<◌, ◌≤◌, Bool, true, false, not, length, List, [], ◌∷◌, ◌++◌, sym, ap, subst, ◌∙◌, is_some, Option, Some, None, unwrap_or, inl, inr, arith, if◌then◌else◌, option_map, page_number, offset_number, same_map, some_value, same_cases, Slot, slot_order, Cell, fresh, cell_or_fresh, is_slot, at_page, slot_at, set_bytes, write_at, after_stores, State, is_live, is_mapped, View, after_protect, IsWellFormed, get-inserted, get-inserted_other, page_is_user, answer, next, completes, refused_or, stores, carried, AreStored, ended_by, is_ended, is_all_of, Event, protect_of, is_writable_at, store_run, IsRunTo, IsOpened, end_of-append}
 use Rattle.kernel_acts.proofs.TransferLemmas.{carried-append}
 use Rattle.kernel_acts.proofs.TransferSteps.{AreSmall, part_stored}
 use Rattle.page_words.specs.FiniteMap as map

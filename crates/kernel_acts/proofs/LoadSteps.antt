@@ -111,7 +111,6 @@ module _ (v u w : View) (p a at done c k : ℕ) (write : Bool) (bytes part : Lis
       | inl under ↦
           let d : ℕ = offset_number (a + i) - offset_number at in
           let j : ℕ = done + d in
-          let there : a + j ≡ at + d = omega (arith, place) in
           let same : offset_number (a + j) ≡ offset_number (a + i) = omega (arith, place, above, under, within) in
           let page : page_number (a + j) ≡ page_number at = omega (arith, place, above, under, within) in
           let other : page_number (a + i) ≢ page_number at = λ e. absurd (omega (arith, e, page, same, early)) in

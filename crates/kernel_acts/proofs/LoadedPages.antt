@@ -180,7 +180,6 @@ first_unrefused s p page pages u = grind (arith, both_true, first_fits)
 pub rest_unrefused : (s t : State) (p a : ℕ) (part : List ℕ) (write : Bool) (pages : List ℕ) → t ≡ installed s p a part write
     → Unrefused s p (page_number a ∷ pages) → Unrefused t p pages
 rest_unrefused s t p a part write pages is u =
-    let new = installed s p a part write in
     let book = ap (λ (x : State). x.book) is ∙ installed_book s p a part write in
     let W = with_page s.spaces p (page_number a) in
     let keys : SameKeys t.spaces W = λ q. ap (λ (x : State). map.contains_key x.spaces q) is ∙ installed_keys s p a part write q in

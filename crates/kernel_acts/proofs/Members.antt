@@ -1,6 +1,6 @@
 -- The entries of the book: the processes without a child, how many there are, and the entry of a child.
 use Rattle.kernel_acts.proofs.Prelude.{◌≡◌, ◌≢◌, ℕ, ◌+◌, ◌<◌, ◌≤◌, length, Bool, true, false, cond, ◌&&◌, ◌==◌, T, List, [], ◌∷◌, refl, sym, ap, ◌∙◌, Option, Some, unwrap_or, filter, arith, option_map, ne_eqb, eqb-false, Book, Member, is_child, quota_of, number_of_children, given-remove, number-remove, cost, same_Some, State, is_live, container_of, IsWellFormed, is_child_of, eqb-true, eq-eqb, unsigned_tied, nat_cmp_total, find, below_all, is_sorted, length_without}
-use Rattle.std.specs.Ordering.{nat_cmp, is_lt}
+use Rattle.std.specs.Ordering.{nat_cmp}
 use Rattle.quota_tree.specs.declared.Container.{Container}
 use Rattle.page_words.specs.FiniteMap as map
 

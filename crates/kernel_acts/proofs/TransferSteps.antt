@@ -1,5 +1,5 @@
 -- The effect of loads and stores of bytes in one page.
-use Rattle.kernel_acts.proofs.Prelude.{leb-true, le-ltb, and_parts, ◌≡◌, ℕ, zero, suc, ◌+◌, ◌*◌, ◌%◌, ◌<◌, ◌≤◌, true, false, List, [], ◌∷◌, length, drop, length-drop, ◌-◌, refl, ap, sym, subst, ◌∙◌, arith, Option, None, unwrap_or, eq-eqb, get_or-drop, if◌then◌else◌, slice_index, range_with_len, page_number, offset_number, second_page, page_and, touched, IsUserPage, same, first_by_page, page_stays, same_or_not, same-true, get-insert, Read, Write, Slot, Cell, Spaces, at_page, slot_at, cell_or_fresh, fresh, byte_at, accessed, stored, with_pages, all_accessed, takes_stores, of_lazy, kept, key-stored, need-in_one, State, is_live, is_mapped, overdrawn, View, IsCore, memory_of, after_loads, after_stores, get-inserted, outside, plan_of, step_of, Goes, ready, all_user, same_cells, mapped_right, page_is_user, answer, answer_of, next, completes, planned_or, gone_by, load_byte, store_byte, of_lazy_pages, AreLoaded, AreStored, Event, map as each, One, stored-stored, stored-flags, stored-write, ways_of, next-goes, went-on}
+use Rattle.kernel_acts.proofs.Prelude.{leb-true, le-ltb, and_parts, ◌≡◌, ℕ, zero, suc, ◌+◌, ◌*◌, ◌%◌, ◌<◌, ◌≤◌, true, false, List, [], ◌∷◌, length, drop, length-drop, ◌-◌, refl, ap, sym, subst, ◌∙◌, arith, Option, None, unwrap_or, eq-eqb, get_or-drop, if◌then◌else◌, slice_index, range_with_len, page_number, offset_number, second_page, page_and, touched, IsUserPage, same, first_by_page, page_stays, same_or_not, same-true, get-insert, Read, Write, Slot, Cell, Spaces, at_page, slot_at, cell_or_fresh, fresh, byte_at, accessed, stored, with_pages, all_accessed, takes_stores, of_lazy, kept, key-stored, need-in_one, State, is_live, is_mapped, View, IsCore, memory_of, after_loads, after_stores, get-inserted, outside, plan_of, step_of, Goes, ready, all_user, same_cells, mapped_right, page_is_user, answer, answer_of, next, completes, planned_or, gone_by, load_byte, store_byte, of_lazy_pages, AreLoaded, AreStored, Event, map as each, One, stored-stored, stored-flags, stored-write, ways_of, next-goes, went-on}
 use Rattle.kernel_acts.proofs.TransferLemmas.{loaded-none, loaded-first, stored-none, stored-first}
 use Rattle.page_words.specs.FiniteMap as map
 use Rattle.process_table.specs.declared.causes.Cause.TheVariants as cause

@@ -26,15 +26,6 @@ fn near(address: u64) -> Vaddr
     }
 }
 
-/// The Load of a byte.
-fn load_of(pid: Pid, addr: Vaddr) -> Event
-    ensures { result ≡ load_byte pid addr }
-{
-    let size = Size::One;
-    let call = Call::Load { addr, size };
-    Event { cpu: 0, pid, call }
-}
-
 /// The Store of a zero, which is carried out.
 #[inline(never)]
 fn store_of_zero(core: &mut Core, pid: Pid, addr: Vaddr) -> Reply
@@ -55,7 +46,9 @@ fn touch_to_read(core: &mut Core, pid: Pid, address: Vaddr) -> (Reply, Ended)
     ensures { Touches core.old (load_byte pid address) pid address access.Read result.0 result.1 core.new }
 {
     core.stands();
-    let reply = core.step(&load_of(pid, address));
+    let (addr, size) = (address, Size::One);
+    let call = Call::Load { addr, size };
+    let reply = core.step(&Event { cpu: 0, pid, call });
     core.stands();
     (reply, Ended::Nothing)
 }

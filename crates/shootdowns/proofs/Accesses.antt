@@ -1,5 +1,5 @@
 -- Accesses by what a processor keeps of an earlier memory, where the pages of that are still on their frames.
-use Rattle.shootdowns.proofs.Prelude.{◌≡◌, ℕ, ◌+◌, ◌*◌, ◌<◌, ◌≤◌, ◌^◌, Bool, true, false, List, length, refl, ap, sym, ◌∙◌, subst, arith, Option, Some, unwrap_or, is_some, eqb-true, ◌&&◌, not, MatchBool, slice_get, slice_index, option_map, option_and_then, slice_get_within, page_number, offset_number, slot_number, start_number, byte_count, EachTouched, Size, ways_of, goes_frameless, told_planned, frame_number, is_lazy, frame_bytes, byte-frame, Page, Access, Read, Write, table_at, page_word, page_frame, is_lazy_at, takes_stores, SlotStands, CellStands, own_frame, kept_place, number_at, Slot, Cell, Spaces, at_page, slot_at, byte_at, value_of, bytes_of, cell_or_fresh, fresh, all_stored, way_of, IsThere, with_touched-same, way_parts, way_whole, from_map, from_then, owned, own_is, each_byte, same_each, memory_of, State, is_live, is_mapped, View, IsWellFormed, touched_user, plan_of, plan_at, takes_no_frame, each_page, walk_completes, Serves, ServesCall, ServesEvent, reply_kept, bytes_kept, answer, answer_of, after, next, completes, IsCore, Call, Event, goes-call, next-goes, small_page, live, leads, Touched, loaded_same, walk_takes, lives, Role, Reserved}
+use Rattle.shootdowns.proofs.Prelude.{◌≡◌, ℕ, ◌+◌, ◌*◌, ◌<◌, ◌≤◌, ◌^◌, Bool, true, false, List, length, refl, ap, sym, ◌∙◌, subst, arith, Option, Some, unwrap_or, is_some, eqb-true, ◌&&◌, not, MatchBool, slice_get, slice_index, option_map, option_and_then, slice_get_within, page_number, offset_number, slot_number, start_number, byte_count, EachTouched, Size, ways_of, goes_frameless, told_planned, frame_number, is_lazy, frame_bytes, byte-frame, Page, Access, Read, Write, table_at, page_word, page_frame, is_lazy_at, takes_stores, SlotStands, CellStands, own_frame, kept_place, number_at, Slot, Cell, Spaces, at_page, slot_at, byte_at, value_of, bytes_of, cell_or_fresh, fresh, all_stored, way_of, IsThere, with_touched-same, way_parts, way_whole, from_map, from_then, owned, own_is, each_byte, same_each, memory_of, State, is_live, is_mapped, View, IsWellFormed, touched_user, plan_of, plan_at, takes_no_frame, each_page, walk_completes, Serves, ServesCall, ServesEvent, reply_kept, bytes_kept, answer, answer_of, after, next, completes, IsCore, Call, Event, goes-call, next-goes, small_page, live, leads, Touched, loaded_same, walk_takes, lives, Role, Reserved, both_true}
 use Rattle.page_words.specs.FiniteMap as map
 use Rattle.page_words.specs.FiniteSet as set
 use Rattle.process_table.specs.Calls.{loaded}
@@ -17,9 +17,6 @@ frame_at v slot = unwrap_or (option_map frame_number (page_word (memory_of v) sl
 
 pub frame_is : (v : View) (slot : Slot) (word : ℕ) → page_word (memory_of v) slot ≡ Some word → frame_at v slot ≡ frame_number word
 frame_is v slot word is = ap (λ (y : Option ℕ). unwrap_or (option_map frame_number y) 0) is
-
-pub both : (a b : Bool) → (a && b) ≡ true → (a ≡ true) × (b ≡ true)
-both x0 x1 h = grind arith
 
 pub real_by : (b : Bool) → not b ≡ true → b ≡ false
 real_by x0 h = grind arith
@@ -84,8 +81,8 @@ module _ (v : View) (core : IsCore v) (base : State) (alike : Alike v.state base
   real_served : (page frame : ℕ) (s : Serves vs p page frame Write) → is_lazy (on_frame page frame Write s).word ≡ false
   real_served page frame s =
       let o = on_frame page frame Write s in
-      let t = both (map.contains_key v.state.spaces (at_page p page)) _ (takes_served page frame s) in
-      let u = both (cell_or_fresh v.state.spaces (at_page p page)).write (not (is_lazy_at (memory_of v) (at_page p page))) t.1 in
+      let t = both_true (map.contains_key v.state.spaces (at_page p page)) _ (takes_served page frame s) in
+      let u = both_true (cell_or_fresh v.state.spaces (at_page p page)).write (not (is_lazy_at (memory_of v) (at_page p page))) t.1 in
       sym (ap (λ (y : Option ℕ). unwrap_or (option_map is_lazy y) false) o.there) ∙ real_by (is_lazy_at (memory_of v) (at_page p page)) u.1
 
   own_served : (page frame : ℕ) → Serves vs p page frame Write → page_frame (memory_of v) (at_page p page) ≡ Some frame
@@ -189,7 +186,7 @@ module _ (v : View) (core : IsCore v) (base : State) (alike : Alike v.state base
     takes_filled : (page frame : ℕ) → Serves vs p page frame Write → takes_stores s.spaces (memory_of v) (at_page p page) ≡ true
     takes_filled page frame k =
         let own = alike.back (at_page p page) k.given.cell (cell_served page frame Write k) in
-        let t = both (map.contains_key v.state.spaces (at_page p page)) _ (takes_served page frame k) in
+        let t = both_true (map.contains_key v.state.spaces (at_page p page)) _ (takes_served page frame k) in
         let write : k.given.cell.write ≡ own.0.write = own.2.write in
         let there : (cell_or_fresh v.state.spaces (at_page p page)).write ≡ own.0.write =
         ap (λ (z : Option Cell). (unwrap_or z (fresh (at_page p page) true)).write) own.1 in

@@ -45,7 +45,6 @@ alike_filled s t F bytes book get = record {
         → (c : Cell) × (map.get s.spaces slot ≡ Some c) × AlikeCell c d
     by slot d None is h = absurd (let k : None ≡ Some d = sym (ap (option_map (fill F bytes slot)) is) ∙ h in cc)
     by slot d (Some c) is h =
-        let k : Some (fill F bytes slot c) ≡ Some d = sym (ap (option_map (fill F bytes slot)) is) ∙ h in
         let e : fill F bytes slot c ≡ d = cc in
         (c, is, subst (AlikeCell c) e (record { write = refl; may = refl; holders = refl }))
 

@@ -1,5 +1,5 @@
 -- Dirty set in a slot's cell: what it leaves of a state, of an event that takes the right to write, and of a store.
-use Rattle.shootdowns.proofs.Prelude.{◌≡◌, ℕ, zero, suc, ◌+◌, ◌/◌, ◌%◌, ◌<◌, Bool, true, false, cond, List, [], ◌∷◌, refl, ap, sym, ◌∙◌, subst, arith, inl, inr, Option, Some, None, is_some, ◌⊎◌, if◌then◌else◌, option_map, offset_number, byte_count, EachTouched, Size, same, same_map, same_itself, same_or_not, get-insert, get-map_values, Slot, slot_order, Cell, Spaces, at_page, slot_at, cell_or_fresh, with_bytes, set_bytes, write_at, stored, all_stored, bytes_of, protected, IsThere, with_touched-same, each_byte, State, IsWellFormed, get-inserted, each_page, answer, answer_of, after, next, completes, Call, Event, next-stays, next-goes, only_takes, takes_right, some_value}
+use Rattle.shootdowns.proofs.Prelude.{◌≡◌, ℕ, zero, suc, ◌+◌, ◌/◌, ◌%◌, ◌<◌, Bool, true, false, cond, List, [], ◌∷◌, refl, ap, sym, ◌∙◌, subst, arith, Option, Some, None, is_some, ◌⊎◌, if◌then◌else◌, option_map, offset_number, byte_count, EachTouched, Size, same, same_map, same_itself, same_or_not, get-insert, get-map_values, Slot, slot_order, Cell, Spaces, at_page, slot_at, cell_or_fresh, with_bytes, set_bytes, write_at, stored, all_stored, bytes_of, protected, IsThere, with_touched-same, each_byte, State, IsWellFormed, get-inserted, each_page, answer, answer_of, after, next, completes, Call, Event, next-stays, next-goes, only_takes, takes_right, some_value}
 use Rattle.page_words.specs.FiniteMap as map
 use Rattle.page_words.specs.FiniteSet as set
 use Rattle.process_table.proofs.SpaceLaws.{well_formed-flags}
@@ -57,7 +57,6 @@ module _ (at : Slot) where
           → (c : Cell) × (map.get S slot ≡ Some c) × AlikeCell c d
       by slot d None is k = absurd (let e : None ≡ Some d = sym (ap (option_map (dirt (same slot_order at slot))) is) ∙ k in cc)
       by slot d (Some c) is k =
-          let e : Some (dirt (same slot_order at slot) c) ≡ Some d = sym (ap (option_map (dirt (same slot_order at slot))) is) ∙ k in
           let q : dirt (same slot_order at slot) c ≡ d = cc in
           (c, is, subst (AlikeCell c) q (dirt_alike (same slot_order at slot) c))
 

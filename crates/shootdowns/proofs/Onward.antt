@@ -1,5 +1,5 @@
 -- Memory after an access by a walk, while an event that only takes away isn't in the order.
-use Rattle.shootdowns.proofs.Prelude.{◌≡◌, ℕ, ◌<◌, ◌^◌, Bool, true, false, refl, ap, sym, ◌∙◌, arith, Option, Some, None, is_some, ◌⊎◌, if◌then◌else◌, MatchBool, Ok, slice_get, option_map, option_and_then, slice_get_within, page_number, start_number, frame_number, is_lazy, some_value, frame_bytes, Role, Free, Page, Read, walk_of, directory_at, table_at, page_word, page_frame, is_lazy_at, CellStands, own_frame, Slot, Cell, at_page, slot_at, way_of, WalkEndsBy, way_parts, from_then, owned, own_is, memory_of, State, View, IsWellFormed, next, IsCore, Ends, WalkGives, Event, walks_of, ways_of, tables_map, only_takes, subst, inl, inr}
+use Rattle.shootdowns.proofs.Prelude.{◌≡◌, ℕ, ◌<◌, ◌^◌, Bool, true, false, refl, ap, sym, ◌∙◌, arith, Option, Some, None, is_some, ◌⊎◌, if◌then◌else◌, MatchBool, Ok, slice_get, option_map, option_and_then, slice_get_within, page_number, start_number, frame_number, is_lazy, some_value, frame_bytes, Free, Page, Read, walk_of, directory_at, table_at, page_word, page_frame, is_lazy_at, CellStands, own_frame, Slot, Cell, at_page, slot_at, way_of, WalkEndsBy, way_parts, from_then, owned, own_is, memory_of, State, View, IsWellFormed, next, IsCore, Ends, WalkGives, Event, walks_of, ways_of, tables_map, only_takes, subst, inl, inr}
 use Rattle.page_words.specs.FiniteMap as map
 use Rattle.page_words.specs.FiniteSet as set
 use Rattle.kernel_calls.specs.declared.translations.Ended.TheVariants as end
@@ -41,7 +41,6 @@ names_onward w x core later ends back slot word is =
     let now : way_of (memory_of x) slot ≡ Some (way.0, found.0) =
     sym (ap (λ n. way_of (memory_of x) (at_page slot.pid n)) here) ∙ (ways_of later).lead slot.pid way.0 a found.0 Read gives.0 small gives.1 in
     let two = way_parts (memory_of x) slot way.0 found.0 now in
-    let e : Some (frame_number old.0) ≡ Some found.0 = sym (ap (option_map frame_number) old.1) ∙ one.names in
     let f : Some (frame_number word) ≡ Some found.0 = sym (ap (option_map frame_number) is) ∙ two.names in
     let g : frame_number old.0 ≡ frame_number word = cc in
     (old.0, old.1, g)
@@ -64,7 +63,6 @@ tables_onward w x core later ends back p region t is =
     let old = word_mapped w core slot cell.0 cell.1 in
     let table = table_of_word w slot old.0 old.1 in
     let now = ends.tables slot table.0 refl mapped table.1 in
-    let e : Some table.0 ≡ Some t = sym now ∙ ap (table_at (memory_of x) p) maps.inside ∙ is in
     let same : table.0 ≡ t = cc in
     sym (ap (table_at (memory_of w) p) maps.inside) ∙ table.1 ∙ ap Some same
 
@@ -82,7 +80,6 @@ module _ (v : View) (before : IsCore v) (s t : State) (first : Alike v.state s) 
   still : (slot : Slot) (d k : Cell) → map.get t.spaces slot ≡ Some d → map.get x.state.spaces slot ≡ Some k → d.bytes ≡ frame_bytes x.bytes (frame_at v slot)
   still slot d k at there =
       let old = was t e slot k takes (sym (ap (λ (z : State). map.get z.spaces slot) state_x) ∙ there) in
-      let same : Some old.cell ≡ Some d = sym old.there ∙ at in
       let q : old.cell ≡ d = cc in
       let word = word_mapped x later slot k there in
       sym (ap (λ (z : Cell). z.bytes) q) ∙ sym old.bytes ∙ cell_bytes x later slot k word.0 there word.1 ∙ ap (frame_bytes x.bytes) (sym (names_x slot word.0 word.1))
@@ -162,7 +159,6 @@ module _ (v : View) (before : IsCore v) (s t : State) (first : Alike v.state s) 
             by m there same true lazy = grind (arith, lazy_zero, slice_get_within)
             by m there same false full =
                 let page = core.image.memory.sound.pages b (frame_number word_here.0) (ap (option_and_then (own_frame 2)) there ∙ own_is m full ∙ ap Some same) in
-                let k : ◌≡◌ {A = Option Role} (Some Free) (Some (Page page.0)) = sym is_free ∙ page.1 in
                 cc
 
         by : ((slice_get w.roles (frame_number word_here.0) ≡ Some Free) ⊎ ((n : ℕ) × (slice_get w.roles (frame_number word_here.0) ≡ Some (Page n)))) → d.bytes ≡ frame_bytes x.bytes (frame_at v slot)
@@ -186,7 +182,6 @@ module _ (v : View) (before : IsCore v) (s t : State) (first : Alike v.state s) 
             let inside : set.contains own.0.holders r.0 ≡ true =
             (stands.group r.0).1 (subst (λ z. MatchBool z (r.0 ≡ slot) (page_frame (memory_of v) r.0 ≡ Some (frame_number word_here.0))) (sym real) on_v) in
             let other = (well.cells slot d at).alike r.0 (ap (λ g. set.contains g r.0) own.2.holders ∙ inside) in
-            let e : Some other.0 ≡ Some old.cell = sym other.1 ∙ old.there in
             let q : other.0 ≡ old.cell = cc in
             sym other.3 ∙ ap (λ (z : Cell). z.bytes) q ∙ still r.0 old.cell k.0 old.there k.1
             ∙ ap (frame_bytes x.bytes) (frame ∙ sym (frame_is v slot word_here.0 word_here.1))

@@ -59,7 +59,7 @@ pub use Rattle.phys_memory.proofs.Frames.{byte-frame, frames-with_byte, frames-w
 pub use Rattle.phys_memory.proofs.Words.{length-with_word, word_at-with_word_same}
 unfoldable pub use Rattle.phys_memory.specs.Bytes.{frame_bytes, with_word, word_at}
 pub use Rattle.phys_memory.specs.Bytes.{IsInside, with_frame, with_word_in, word_in, word_place}
-pub use Rattle.process_table.proofs.CellLaws.{get-inserted}
+pub use Rattle.process_table.proofs.CellLaws.{both_true, get-inserted}
 pub use Rattle.process_table.proofs.SharingLaws.{touched_user}
 pub use Rattle.process_table.specs.Calls.{accept_refusal, after_store, offered}
 pub use Rattle.process_table.specs.Image.{Account, IsCharge, IsSoundImage, account_of, image_of, memory_of, quota_from}

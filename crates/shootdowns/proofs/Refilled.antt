@@ -1,7 +1,7 @@
 -- What a walk reads while an event that only takes away isn't in the order, was read before the event.
-use Rattle.shootdowns.proofs.Prelude.{◌≡◌, ℕ, ◌<◌, ◌^◌, true, false, ap, sym, ◌∙◌, Option, Some, None, unwrap_or, not, Ok, page_number, frame_number, Access, Read, Write, walk_of, directory_at, table_at, page_word, is_lazy_at, takes_stores, Slot, Cell, at_page, slot_at, cell_or_fresh, fresh, way_of, WalkEndsBy, way_parts, from_map, memory_of, State, View, next, IsCore, Kept, Translation, IsGiven, translation, directory_entry, IsRead, Event, walks_of, ways_of, walk_takes, only_takes, subst, ◌&&◌, MatchBool, not_allowed, FindsBytes, lacks_right, arith}
+use Rattle.shootdowns.proofs.Prelude.{◌≡◌, ℕ, ◌<◌, ◌^◌, true, false, ap, sym, ◌∙◌, Option, Some, None, unwrap_or, not, Ok, page_number, frame_number, Access, Read, Write, walk_of, directory_at, table_at, page_word, is_lazy_at, Slot, Cell, at_page, slot_at, cell_or_fresh, fresh, way_of, WalkEndsBy, way_parts, from_map, memory_of, State, View, next, IsCore, Kept, Translation, IsGiven, translation, directory_entry, IsRead, Event, walks_of, ways_of, walk_takes, only_takes, subst, ◌&&◌, MatchBool, not_allowed, FindsBytes, lacks_right, both_true}
 use Rattle.page_words.specs.FiniteMap as map
-use Rattle.shootdowns.proofs.Accesses.{frame_at, frame_is, word_mapped, both, real_by}
+use Rattle.shootdowns.proofs.Accesses.{frame_at, frame_is, word_mapped, real_by}
 use Rattle.shootdowns.proofs.Alike.{AlikeCell, Alike, with_state}
 use Rattle.shootdowns.proofs.Untouched.{Was, was}
 
@@ -62,8 +62,8 @@ module _ (v : View) (before : IsCore v) (s : State) (alike : Alike v.state s) (e
       where
         cell_writes : given.cell.write ≡ true
         cell_writes =
-            let r = both (cell_or_fresh w.state.spaces (slot_at k.slot.pid a)).write (not (is_lazy_at (memory_of w) (slot_at k.slot.pid a)))
-            (both (map.contains_key w.state.spaces (slot_at k.slot.pid a)) _ (walk_takes w core k.slot.pid given.directory a k.frame given.live small (given.written writes a small here))).1 in
+            let r = both_true (cell_or_fresh w.state.spaces (slot_at k.slot.pid a)).write (not (is_lazy_at (memory_of w) (slot_at k.slot.pid a)))
+            (both_true (map.contains_key w.state.spaces (slot_at k.slot.pid a)) _ (walk_takes w core k.slot.pid given.directory a k.frame given.live small (given.written writes a small here))).1 in
             sym (ap (λ (z : Option Cell). (unwrap_or z (fresh (slot_at k.slot.pid a) true)).write) (ap (λ n. map.get w.state.spaces (at_page k.slot.pid n)) here ∙ given.mapped)) ∙ r.0
 
         before_writes : first.0.write ≡ true
@@ -71,8 +71,8 @@ module _ (v : View) (before : IsCore v) (s : State) (alike : Alike v.state s) (e
 
         real : is_lazy_at (memory_of v) (slot_at k.slot.pid a) ≡ false
         real =
-            let r = both (cell_or_fresh w.state.spaces (slot_at k.slot.pid a)).write (not (is_lazy_at (memory_of w) (slot_at k.slot.pid a)))
-            (both (map.contains_key w.state.spaces (slot_at k.slot.pid a)) _ (walk_takes w core k.slot.pid given.directory a k.frame given.live small (given.written writes a small here))).1 in
+            let r = both_true (cell_or_fresh w.state.spaces (slot_at k.slot.pid a)).write (not (is_lazy_at (memory_of w) (slot_at k.slot.pid a)))
+            (both_true (map.contains_key w.state.spaces (slot_at k.slot.pid a)) _ (walk_takes w core k.slot.pid given.directory a k.frame given.live small (given.written writes a small here))).1 in
             lazies a small here ∙ real_by (is_lazy_at (memory_of w) (slot_at k.slot.pid a)) r.1
 
         by : (z : Option Cell) → z ≡ Some first.0 → WalkEndsBy v.bytes given.directory a Write (is_lazy_at (memory_of v) (slot_at k.slot.pid a)) z → walk_of v.bytes given.directory a Write ≡ Ok k.frame

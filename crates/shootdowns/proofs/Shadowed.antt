@@ -180,7 +180,6 @@ module _ (v : View) (before : IsCore v) (x : Ended) (keeps : Processors) (all : 
               out s there true is = absurd (
                   let here = t.core.well_formed.cells (at_page a.pid page) s.served.given.cell there in
                   let other = here.alike slot is in
-                  let e : Some other.0 ≡ Some z.cell = sym other.1 ∙ z.there in
                   let q : other.0 ≡ z.cell = cc in
                   alone s (z.alone (at_page a.pid page) (ap (λ (c : Cell). set.contains c.holders (at_page a.pid page)) (sym q) ∙ ap (λ g. set.contains g (at_page a.pid page)) other.2 ∙ here.own)))
                 where

@@ -137,7 +137,6 @@ module _ (v w : View) (before : IsCore v) (later : IsCore w) (e : Event) (takes 
       let old = word_mapped v before slot cell.0 cell.1 in
       let way = way_at v slot old.0 old.1 in
       let now = way_parts (memory_of w) slot way.0 (frame_number old.0) (stay.ways slot way.0 (frame_number old.0) (left.1 (frame_number old.0)) way.1) in
-      let e : Some (frame_number word) ≡ Some (frame_number old.0) = sym (ap (option_map frame_number) is) ∙ now.names in
       let same : frame_number word ≡ frame_number old.0 = cc in
       frame_is v slot old.0 old.1 ∙ sym same
 
@@ -150,7 +149,6 @@ module _ (v w : View) (before : IsCore v) (later : IsCore w) (e : Event) (takes 
       let way = way_at v slot old.0 old.1 in
       let first = way_parts (memory_of v) slot way.0 (frame_number old.0) way.1 in
       let now = way_parts (memory_of w) slot way.0 (frame_number old.0) (stay.ways slot way.0 (frame_number old.0) (left.1 (frame_number old.0)) way.1) in
-      let e : Some way.0 ≡ Some d = sym now.live ∙ live in
       let same : way.0 ≡ d = cc in
       first.live ∙ ap Some same
 
@@ -165,7 +163,6 @@ module _ (v w : View) (before : IsCore v) (later : IsCore w) (e : Event) (takes 
       let way = way_at v slot old.0 old.1 in
       let table = table_of_word v slot old.0 old.1 in
       let now = stay.tables slot way.0 (frame_number old.0) table.0 (left.1 (frame_number old.0)) way.1 table.1 in
-      let e : Some table.0 ≡ Some t = sym now ∙ ap (table_at (memory_of w) p) maps.inside ∙ is in
       let same : table.0 ≡ t = cc in
       sym (ap (table_at (memory_of v) p) maps.inside) ∙ table.1 ∙ ap Some same
 

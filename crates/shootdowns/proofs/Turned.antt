@@ -84,7 +84,6 @@ grows_bytes S h new = record {
         → (c : Cell) × (map.get S slot ≡ Some c) × AlikeCell c d
     by slot d None is k = absurd (let e : None ≡ Some d = sym (ap (option_map (λ (c : Cell). if set.contains h slot then with_bytes c new else c)) is) ∙ k in cc)
     by slot d (Some c) is k =
-        let e : Some (if set.contains h slot then with_bytes c new else c) ≡ Some d = sym (ap (option_map (λ (c : Cell). if set.contains h slot then with_bytes c new else c)) is) ∙ k in
         let q : (if set.contains h slot then with_bytes c new else c) ≡ d = cc in
         (c, is, subst (AlikeCell c) q (alike (set.contains h slot) c))
 

@@ -19,7 +19,6 @@ accessed_bytes S b slot k c has at = by (same_or_not slot_order slot b)
 
     by : ((slot ≡ b) × (same slot_order slot b ≡ true)) ⊎ (same slot_order slot b ≡ false) → (d : Cell) × (map.get (accessed S b) slot ≡ Some d) × (d.bytes ≡ c.bytes)
     by (inl is) =
-        let e : Some k ≡ Some c = sym has ∙ sym (ap (map.get S) is.0) ∙ at in
         let q : k ≡ c = cc in
         (record k { accessed = true }, get true is.1, ap (λ (z : Cell). z.bytes) q)
     by (inr other) = (c, get false other ∙ at, refl)
@@ -113,7 +112,6 @@ was_gone s gone slot d at = by (gone slot) refl (map.get s.spaces slot) refl (sy
     by true is z there h = absurd (let k : None ≡ Some d = sym (ap (λ b. option_map (fewer gone) (cond (not b) (map.get s.spaces slot) None)) is) ∙ h in cc)
     by false is None there h = absurd (let k : None ≡ Some d = sym (λ i. option_map (fewer gone) (cond (not (is i)) (there i) None)) ∙ h in cc)
     by false is (Some c) there h =
-        let k : Some (fewer gone c) ≡ Some d = sym (λ i. option_map (fewer gone) (cond (not (is i)) (there i) None)) ∙ h in
         let e : fewer gone c ≡ d = cc in
         record {
           cell = c;

@@ -1,12 +1,11 @@
 -- An access by a walk, while an event that only takes away isn't in the order.
-use Rattle.shootdowns.proofs.Prelude.{◌≡◌, ℕ, ◌+◌, Bool, true, false, refl, ap, sym, ◌∙◌, subst, Option, Some, unwrap_or, is_some, ◌&&◌, not, if◌then◌else◌, page_number, byte_count, Size, some_value, Access, Read, Write, finds_at, finds, directory_at, is_lazy_at, takes_stores, Slot, Cell, at_page, slot_at, byte_at, value_of, cell_or_fresh, fresh, each_byte, same_each, memory_of, State, is_live, is_mapped, View, IsWellFormed, touched_user, plan_of, plan_at, takes_no_frame, each_page, walk_completes, answer, answer_of, next, completes, IsCore, finds_call, finds_event, reply_found, Call, Event, goes-call, next-goes, kept-next, answered, each_found, page_mapped, page_takes, only_takes, goes_frameless, told_planned, arith}
+use Rattle.shootdowns.proofs.Prelude.{◌≡◌, ℕ, ◌+◌, Bool, true, false, refl, ap, sym, ◌∙◌, subst, Option, Some, unwrap_or, is_some, ◌&&◌, not, if◌then◌else◌, page_number, byte_count, Size, some_value, Access, Read, Write, finds_at, finds, directory_at, is_lazy_at, takes_stores, Slot, Cell, at_page, slot_at, byte_at, value_of, cell_or_fresh, fresh, each_byte, same_each, memory_of, State, is_live, is_mapped, View, IsWellFormed, touched_user, plan_of, plan_at, takes_no_frame, each_page, walk_completes, answer, answer_of, next, completes, IsCore, finds_call, finds_event, reply_found, Call, Event, goes-call, next-goes, kept-next, answered, each_found, page_mapped, page_takes, only_takes, goes_frameless, told_planned, arith, both_true}
 use Rattle.page_words.specs.FiniteMap as map
 use Rattle.page_words.specs.FiniteSet as set
 use Rattle.process_table.specs.Calls.{loaded}
 use Rattle.process_table.specs.declared.causes.Cause.TheVariants as cause
 use Rattle.kernel_calls.specs.declared.calls.Call.TheVariants as call
 use Rattle.kernel_calls.specs.declared.calls.Reply.TheVariants as reply
-use Rattle.shootdowns.proofs.Accesses.{both}
 use Rattle.shootdowns.proofs.Turned.{Pages, StaysMapped, Mapped, mapped_before, mapped_after}
 use Rattle.shootdowns.proofs.Taking.{left_next}
 use Rattle.shootdowns.proofs.Untouched.{was, Beside, Besides, after_beside}
@@ -32,15 +31,15 @@ module _ (s : State) (well : IsWellFormed s) (e : Event) (takes : only_takes e.c
       (λ a found. stays (page_number a) false (page_mapped w core p d live Read a found) (λ no. (let k = no in cc))) h
   found_pages (call.Store addr size value) h = each_found w core p d live Write addr size (StaysMapped s e p true)
       (λ a found. stays (page_number a) true (page_mapped w core p d live Write a found)
-      (λ _. (both (cell_or_fresh w.state.spaces (slot_at p a)).write _ (both (map.contains_key w.state.spaces (slot_at p a)) _ (page_takes w core p d live a found)).1).0)) h
+      (λ _. (both_true (cell_or_fresh w.state.spaces (slot_at p a)).write _ (both_true (map.contains_key w.state.spaces (slot_at p a)) _ (page_takes w core p d live a found)).1).0)) h
   found_pages _ h = cc
 
   -- it takes stores as memory is, where the walk finds it for one
   takes_there : (a : ℕ) → finds_at (memory_of w) p Write a ≡ true → takes_stores s.spaces (memory_of w) (slot_at p a) ≡ true
   takes_there a found =
       let mapped = page_mapped w core p d live Write a found in
-      let t = both (map.contains_key w.state.spaces (slot_at p a)) _ (page_takes w core p d live a found) in
-      let u = both (cell_or_fresh w.state.spaces (slot_at p a)).write (not (is_lazy_at (memory_of w) (slot_at p a))) t.1 in
+      let t = both_true (map.contains_key w.state.spaces (slot_at p a)) _ (page_takes w core p d live a found) in
+      let u = both_true (cell_or_fresh w.state.spaces (slot_at p a)).write (not (is_lazy_at (memory_of w) (slot_at p a))) t.1 in
       let cell = some_value (map.get w.state.spaces (slot_at p a)) mapped in
       let old = was s e (slot_at p a) cell.0 takes (sym (ap (λ (z : State). map.get z.spaces (slot_at p a)) state) ∙ cell.1) in
       let write : old.cell.write ≡ true = old.write (sym (ap (λ (z : Option Cell). (unwrap_or z (fresh (slot_at p a) true)).write) cell.1) ∙ u.0) in

@@ -121,7 +121,6 @@ module _ (v : View) (core : IsCore v) where
         let each = λ (i : ℕ) (l : i < byte_count size). each_byte addr size (λ page. HasZeros S (at_page p page)) has i l in
         let z = zero_bytes (byte_count size) addr p S slot each (c, there, zeros_there) in
         let d = (bytes_grow (byte_count size) 0 addr p S (λ i l. (let h = each i l in (h.0, h.1)))).cells slot c there in
-        let k : Some z.0 ≡ Some d.0 = sym z.1 ∙ d.1 in
         let q : z.0 ≡ d.0 = cc in
         let same = with_touched-same S p addr size (each_page addr size (λ page. HasZeros S (at_page p page)) (IsThere S p) (λ page h. ap is_some h.1) has) in
         subst (λ (T : Spaces). Zeroed v (record v.state { spaces = all_stored T p addr (bytes_of (byte_count size) 0) }) slot) (sym same)

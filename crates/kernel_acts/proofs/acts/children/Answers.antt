@@ -18,6 +18,5 @@ loop-number-preserved c =
 pub returns-clause-children : goal.returns-clause-children
 returns-clause-children c =
     let i = c.loop-number.invariant in
-    let past = c.loop-number-test.false in
     let e : c.loop-number.number ≡ 64 = omega arith in
     i.found ∙ ap (λ n. filter (is_child_of c.args.core.now.state c.args.pid) (range_with_len 0 n)) e

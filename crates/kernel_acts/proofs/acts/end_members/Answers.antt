@@ -31,8 +31,8 @@ pub exit_leaf-requires-clause-not_root : goal.exit_leaf-requires-clause-not_root
 exit_leaf-requires-clause-not_root c =
     descends_not_root c.requires.not_root (descends_then c.leaves.invariant.going.here c.leaf_below-leaf.ensures.below)
 
-pub returns-then-eq-clause-family : goal.returns-then-eq-clause-family
-returns-then-eq-clause-family c =
+pub returns-then-eq : goal.returns-then-eq
+returns-then-eq c =
     let w = c.leaves.core in
     let g = c.leaves.invariant.going in
     let few : c.leaves.count < 64 = going_room c.args.core.now w c.args.pid c.leaves.at c.leaves.count c.leaves.exited g in
@@ -45,27 +45,15 @@ returns-then-eq-clause-family c =
       ended = c.exit_leaf.ensures.ended;
       carried = c.exit_leaf.ensures.carried;
     } in
-    (going_out c.args.core.now w c.exit_leaf.new.core c.args.pid c.leaves.at c.leaves.count c.leaf_below-leaf.result c.leaves.exited c.requires.not_root
+    let out = going_out c.args.core.now w c.exit_leaf.new.core c.args.pid c.leaves.at c.leaves.count c.leaf_below-leaf.result c.leaves.exited c.requires.not_root
     c.stands.ensures.well_formed c.stands-in-leaves.ensures.well_formed g l within
-    (eqb-true c.leaf_below-leaf.result c.args.pid (sym c.eq.ensures ∙ c.if-eq.true))).0
-
-pub returns-then-eq-clause-ended : goal.returns-then-eq-clause-ended
-returns-then-eq-clause-ended c =
-    let w = c.leaves.core in
-    let g = c.leaves.invariant.going in
-    let few : c.leaves.count < 64 = going_room c.args.core.now w c.args.pid c.leaves.at c.leaves.count c.leaves.exited g in
-    let within : c.leaves.count < length c.leaves.exited = search rules in
-    let l : Leaves w c.exit_leaf.new.core c.leaves.at c.leaf_below-leaf.result = record {
-      below = c.leaf_below-leaf.ensures.below;
-      childless = c.leaf_below-leaf.ensures.childless;
-      done = c.exit_leaf.ensures.done;
-      state = c.exit_leaf.ensures.state;
-      ended = c.exit_leaf.ensures.ended;
-      carried = c.exit_leaf.ensures.carried;
-    } in
-    (going_out c.args.core.now w c.exit_leaf.new.core c.args.pid c.leaves.at c.leaves.count c.leaf_below-leaf.result c.leaves.exited c.requires.not_root
-    c.stands.ensures.well_formed c.stands-in-leaves.ensures.well_formed g l within
-    (eqb-true c.leaf_below-leaf.result c.args.pid (sym c.eq.ensures ∙ c.if-eq.true))).1
+    (eqb-true c.leaf_below-leaf.result c.args.pid (sym c.eq.ensures ∙ c.if-eq.true)) in
+    record {
+      family = out.0;
+      ended = out.1;
+      few = omega (arith, few);
+      rest = set_rest c.leaves.exited c.args.exited.now c.leaves.count c.leaf_below-leaf.result c.leaves.invariant.rest;
+    }
 
 pub leaves-smaller : goal.leaves-smaller
 leaves-smaller c =
@@ -97,6 +85,3 @@ leaves-preserved c =
       going = subst (λ (n : ℕ). Going v u c.args.pid n (c.leaves.count + 1) (slice_set c.leaves.exited c.leaves.count leaf)) (sym (c.parent_of-parent.ensures m.0 m.1))
           (going_on v w u c.args.pid c.leaves.at c.leaves.count leaf c.leaves.exited c.requires.not_root c.stands.ensures.well_formed c.stands-in-leaves.ensures.well_formed g l within apart m.0 m.1);
     }
-
-pub returns-then-eq-clause-rest : goal.returns-then-eq-clause-rest
-returns-then-eq-clause-rest c = set_rest c.leaves.exited c.args.exited.now c.leaves.count c.leaf_below-leaf.result c.leaves.invariant.rest

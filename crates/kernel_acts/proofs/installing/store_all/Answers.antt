@@ -5,20 +5,8 @@ use Rattle.kernel_acts.proofs.TransferLemmas.{length-stores}
 use Rattle.kernel_acts.proofs.StoresEnd.{stores_end}
 use Rattle.kernel_acts.proofs.installing.store_all.Goals as goal
 
-pub returns-clause-state : goal.returns-clause-state
-returns-clause-state c =
-    let s = c.args.core.now.state in
-    let r = all_stored_there s c.args.pid c.args.address c.args.part.now c.stands.ensures.well_formed c.requires.mapped c.requires.write c.requires.within c.requires.some (λ i. (c.type_inv.part i).fits) in
-    c.write_bytes.ensures.state ∙ ap (end_of s) r.all ∙ r.after
-
-pub returns-clause-stored : goal.returns-clause-stored
-returns-clause-stored c =
-    let s = c.args.core.now.state in
-    let r = all_stored_there s c.args.pid c.args.address c.args.part.now c.stands.ensures.well_formed c.requires.mapped c.requires.write c.requires.within c.requires.some (λ i. (c.type_inv.part i).fits) in
-    subst (λ (t : State). AreStored s c.args.pid c.args.address c.args.part.now t) (sym (c.write_bytes.ensures.state ∙ ap (end_of s) r.all ∙ r.after)) r
-
-pub returns-clause-marks : goal.returns-clause-marks
-returns-clause-marks c =
+pub returns : goal.returns
+returns c =
     let s = c.args.core.now.state in
     let p = c.args.pid in
     let a = c.args.address in
@@ -28,7 +16,11 @@ returns-clause-marks c =
     let r = all_stored_there s p a part now.well_formed c.requires.mapped c.requires.write c.requires.within c.requires.some (λ i. (c.type_inv.part i).fits) in
     let after = c.write_bytes.ensures.state ∙ ap (end_of s) r.all ∙ r.after in
     let count = c.write_bytes.ensures.count ∙ ap length r.all ∙ length-stores p a part in
-    stores_end c.args.core.now c.write_bytes.new.core p a part
-    now.core later.core
-    c.requires.within c.requires.some (ap (λ (t : State). t.spaces) after)
-    (subst (λ (n : ℕ). FramesStay (of_lazy_pages p a n) (memory_of c.args.core.now) (memory_of c.write_bytes.new.core)) count c.write_bytes.ensures.stay)
+    record {
+      stored = subst (λ (t : State). AreStored s p a part t) (sym after) r;
+      state = after;
+      marks = stores_end c.args.core.now c.write_bytes.new.core p a part
+          now.core later.core
+          c.requires.within c.requires.some (ap (λ (t : State). t.spaces) after)
+          (subst (λ (n : ℕ). FramesStay (of_lazy_pages p a n) (memory_of c.args.core.now) (memory_of c.write_bytes.new.core)) count c.write_bytes.ensures.stay);
+    }

@@ -1,5 +1,5 @@
-use Rattle.kernel_acts.proofs.Prelude.{◌≡◌, ◌+◌, ◌==◌, ◌∙◌, ℕ, sym, ap, subst, arith, eq-eqb, IsUserPage}
-use Rattle.kernel_acts.proofs.LoadNeeds.{behind, counting_on, counting_all, later}
+use Rattle.kernel_acts.proofs.Prelude.{◌≡◌, ◌+◌, ℕ, sym, subst, arith, eq-eqb, IsUserPage}
+use Rattle.kernel_acts.proofs.LoadNeeds.{counting_on, counting_all, later}
 use Rattle.kernel_acts.proofs.LoadedPages.{user_first, user_rest}
 use Rattle.kernel_acts.proofs.loading.need_of_all.Goals as goal
 
@@ -18,8 +18,6 @@ loop-done-preserved c =
     let at = c.loop-done.at in
     let i = c.loop-done.invariant in
     let done : ℕ = c.loop-done.done in
-    let need : ℕ = c.loop-done.need in
-    let more : ℕ = c.need_behind-need.result in
     let part : ℕ = c.count_in_page-part.result in
     let e = c.count_in_page-part.ensures in
     let most = e.most in
@@ -31,7 +29,6 @@ loop-done-preserved c =
     let few = i.few in
     let two = c.need_behind-need.ensures.most in
     let next : c.at.inside.0 + part ≡ at + part = omega (arith, view) in
-    let told = c.need_behind-need.ensures.value ∙ ap (λ n. behind s.spaces p n (done == 0)) c.page_of.ensures.value in
     record {
       place = omega (arith, next, place);
       within = omega (arith, most, within, below);
@@ -42,6 +39,5 @@ loop-done-preserved c =
 
 pub returns : goal.returns
 returns c =
-    let within = c.loop-done.invariant.within in
     let ended = c.loop-done-test.false in
     counting_all c.args.core.now.state c.args.pid c.args.address c.args.count c.loop-done.at c.loop-done.done c.loop-done.need c.loop-done.invariant.counted (omega (arith, ended))

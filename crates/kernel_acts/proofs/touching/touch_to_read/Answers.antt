@@ -1,15 +1,11 @@
-use Rattle.kernel_acts.proofs.Prelude.{◌≡◌, ℕ, Bool, true, false, refl, sym, ap, ◌∙◌, subst, if◌then◌else◌, FramesStay, memory_of, View, gone_by, Event, Ended, answer, next, completes, ended_by, Ends, load_byte}
+use Rattle.kernel_acts.proofs.Prelude.{◌≡◌, ℕ, sym, arith, subst, View, Ended, ended_by, Ends, load_byte}
 use Rattle.kernel_calls.specs.declared.translations.Ended.TheVariants as end
 use Rattle.kernel_acts.proofs.Touches.{read_touches}
 use Rattle.kernel_acts.proofs.touching.touch_to_read.Goals as goal
 
 -- a Load makes nothing stale
 load_ends : (v : View) (p address : ℕ) → end.Nothing ≡ ended_by v (load_byte p address)
-load_ends v p address = by (completes (answer v.state (load_byte p address)))
-  where
-    by : (b : Bool) → end.Nothing ≡ (if b then end.Nothing else end.Nothing)
-    by true = refl
-    by false = refl
+load_ends v p address = grind arith
 
 pub returns : goal.returns
 returns c =
@@ -18,10 +14,7 @@ returns c =
     let now = c.stands.ensures in
     let later = c.stands-2.ensures in
     let made = c.step-reply.ensures in
-    let is = c.load_of.ensures in
     let none = load_ends v c.args.pid c.args.address in
     read_touches v w c.args.pid c.args.address c.step-reply.result end.Nothing
     now.core later.core
-    (made.reply ∙ ap (answer v.state) is) none (made.state ∙ ap (next v.state) is)
-    (subst (λ (e : Ended). Ends e v w) (ap (ended_by v) is ∙ sym none) made.ends)
-    (subst (λ (e : Event). FramesStay (gone_by v.state e) (memory_of v) (memory_of w)) is made.stay) made.kept
+    made.reply none made.state (subst (λ (e : Ended). Ends e v w) (sym none) made.ends) made.stay made.kept
