@@ -1,8 +1,9 @@
 -- What the kernel does for its processes: runs of their own events.
 use Rattle.std.proofs.Common.{◌≡◌, ℕ, ◌+◌, Bool, true, false, not, ◌||◌, ◌==◌, List, [], ◌∷◌, map, filter, Some}
 use Rattle.std.specs.Prelude.{◌↔◌}
-use Rattle.kernel_acts.specs.Words.{Cell, Ended, Event, Member, Reply, Slot, State, answers, end_of, given, is_live}
-use Rattle.kernel_acts.specs.Words.{list_any, option_map, range_with_len, with_holders, without}
+use Rattle.std.specs.List.{list_any, range_with_len}
+use Rattle.std.specs.Option.{option_map}
+use Rattle.kernel_acts.specs.Below.{Cell, Ended, Event, Member, Reply, Slot, State, answers, end_of, given, is_live, with_holders, without}
 use Rattle.page_words.specs.FiniteMap as map
 use Rattle.page_words.specs.FiniteSet as set
 use Rattle.kernel_calls.specs.Integrity.{is_child_of}

@@ -1,7 +1,7 @@
 -- Bytes that the kernel puts into one page of a process, whatever right the process has there.
 use Rattle.std.proofs.Common.{◌≡◌, ℕ, Bool, true, false, if◌then◌else◌, List, [], ◌∷◌, ◌++◌, unwrap_or}
-use Rattle.kernel_acts.specs.Words.{Cell, Event, Reply, Slot, State, View, after_protect, after_stores, answer, at_page}
-use Rattle.kernel_acts.specs.Words.{completes, end_of, ended_by, is_mapped, next, option_map, page_number}
+use Rattle.std.specs.Option.{option_map}
+use Rattle.kernel_acts.specs.Below.{Cell, Event, Reply, Slot, State, View, after_protect, after_stores, answer, at_page, completes, end_of, ended_by, is_mapped, next, page_number}
 use Rattle.page_words.specs.FiniteMap as map
 use Rattle.kernel_acts.specs.Transfers.{stores, carried}
 use Rattle.kernel_calls.specs.declared.calls.Call.TheVariants as call

@@ -1,8 +1,8 @@
 pub mod Acts
+pub mod Below
 pub mod Installed
 pub mod Loaded
 pub mod Steps
 pub mod TakenBack
 pub mod Touched
 pub mod Transfers
-pub mod Words

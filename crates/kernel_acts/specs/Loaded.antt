@@ -1,8 +1,7 @@
 -- Bytes that the kernel puts into the pages of a process in which they lie: all of them, or none.
 use Rattle.std.proofs.Common.{◌≡◌, ℕ, zero, suc, ◌+◌, ◌-◌, ◌<◌, ◌≤◌, Bool, false, not, if◌then◌else◌, length, List, [], ◌++◌, Option, Some, None}
-use Rattle.kernel_acts.specs.Words.{Cause, EndsMarks, IsCore, State, View, at_page, cell_or_fresh, is_live}
-use Rattle.kernel_acts.specs.Words.{is_user_page, list_all, offset_number, overdrawn, page_number, range_with_len}
-use Rattle.kernel_acts.specs.Words.{slot_at}
+use Rattle.std.specs.List.{list_all, range_with_len}
+use Rattle.kernel_acts.specs.Below.{Cause, EndsMarks, IsCore, State, View, at_page, cell_or_fresh, is_live, is_user_page, offset_number, overdrawn, page_number, slot_at}
 use Rattle.process_table.specs.declared.causes.Cause.TheVariants as cause
 use Rattle.kernel_calls.specs.Integrity.{shares}
 use Rattle.kernel_acts.specs.Installed.{installed, Installs}

@@ -1,8 +1,8 @@
 -- The other slots of a slot's group, and their Unmaps.
 use Rattle.std.proofs.Common.{◌≡◌, ℕ, ◌+◌, ◌*◌, ◌≤◌, Bool, true, not, ◌&&◌, List, map, length, Some}
-use Rattle.kernel_acts.specs.Words.{All, CarriesOut, EndAlong, Ended, Event, Slot, State, View, answers, at_page}
-use Rattle.kernel_acts.specs.Words.{cell_or_fresh, end_of, ended_by, frame_bytes, is_mapped, is_slot, list_any}
-use Rattle.kernel_acts.specs.Words.{memory_of, option_map, way_of, without}
+use Rattle.std.specs.List.{All, list_any}
+use Rattle.std.specs.Option.{option_map}
+use Rattle.kernel_acts.specs.Below.{CarriesOut, EndAlong, Ended, Event, Slot, State, View, answers, at_page, cell_or_fresh, end_of, ended_by, frame_bytes, is_mapped, is_slot, memory_of, way_of, without}
 use Rattle.page_words.specs.FiniteMap as map
 use Rattle.kernel_acts.specs.Acts.{all_done, ungrouped}
 use Rattle.kernel_calls.specs.Integrity.{shares}

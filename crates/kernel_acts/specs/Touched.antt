@@ -1,9 +1,7 @@
 -- A processor's page fault as an event: the access of the byte at its address, which changes no byte.
 use Rattle.std.proofs.Common.{◌≡◌, ℕ, true, false, if◌then◌else◌}
 use Rattle.std.specs.Prelude.{nat_lt}
-use Rattle.kernel_acts.specs.Words.{Access, Ended, Ends, Event, FramesStay, IsUserPage, Reply, Slot, Spaces, State}
-use Rattle.kernel_acts.specs.Words.{View, answer, byte_at, cell_or_fresh, completes, ended_by, finds_at, gone_by}
-use Rattle.kernel_acts.specs.Words.{is_write, memory_of, next, page_number, slot_at, takes_stores}
+use Rattle.kernel_acts.specs.Below.{Access, Ended, Ends, Event, FramesStay, IsUserPage, Reply, Slot, Spaces, State, View, answer, byte_at, cell_or_fresh, completes, ended_by, finds_at, gone_by, is_write, memory_of, next, page_number, slot_at, takes_stores}
 use Rattle.table_walk.specs.declared.Access.TheVariants.{Read, Write}
 use Rattle.kernel_acts.specs.Transfers.{load_byte, store_byte}
 

@@ -1,8 +1,7 @@
 -- A process's memory in and out: the accesses of one byte each that it represents, up to the first that stops.
 use Rattle.std.proofs.Common.{◌≡◌, ℕ, zero, suc, ◌+◌, ◌-◌, if◌then◌else◌, ◌&&◌, ◌==◌, List, [], ◌∷◌, ◌++◌, length, drop, map, Option, Some, None}
 use Rattle.std.specs.Prelude.{nat_le}
-use Rattle.kernel_acts.specs.Words.{Event, Gone, Reply, State, answer, answers, completes, end_of, is_of, next}
-use Rattle.kernel_acts.specs.Words.{page_number}
+use Rattle.kernel_acts.specs.Below.{Event, Gone, Reply, State, answer, answers, completes, end_of, is_of, next, page_number}
 use Rattle.page_words.specs.declared.addresses.Size.TheVariants.{One}
 use Rattle.kernel_acts.specs.declared.transfers.Transfer.{Transfer}
 use Rattle.kernel_calls.specs.declared.calls.Call.TheVariants as call

@@ -2,8 +2,7 @@
 //! others have.
 
 ghost use Rattle.std.specs.Prelude.{◌≡◌, ◌≢◌, ℕ, ◌+◌, ◌<◌, ◌≤◌, ◌++◌, ◌∷◌, [], if◌then◌else◌, true, false, Err, IfSome, IfNone, IsOk, IfOk, IsErr, take, drop};
-ghost use Rattle.kernel_acts.specs.Words.{CarriesOut, EndAlong, Member, StandsFor, answer, ended_by, image_of, is_live};
-ghost use Rattle.kernel_acts.specs.Words.{next};
+ghost use Rattle.kernel_acts.specs.Below.{CarriesOut, EndAlong, Member, StandsFor, answer, ended_by, image_of, is_live, next};
 ghost use Rattle.kernel_acts.specs.Acts.{children_in, exit_of, exits, spaces_of_all, Descends, EndsFamily};
 ghost use Rattle.kernel_calls.specs.Integrity.{is_child_of};
 ghost use Rattle.kernel_calls.specs.declared.calls.Reply.TheVariants as reply;

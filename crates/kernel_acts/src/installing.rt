@@ -1,8 +1,7 @@
 //! Putting bytes into a page of a process, whatever right the process has there: a run of its own events.
 
 ghost use Rattle.std.specs.Prelude.{◌≡◌, ◌+◌, ◌<◌, ◌≤◌, true, false, IsOk, IsErr, IfSome, IfNone, IfErr, MatchOption, length};
-ghost use Rattle.kernel_acts.specs.Words.{EndsMarks, StandsFor, after_stores, at_page, image_of, is_mapped};
-ghost use Rattle.kernel_acts.specs.Words.{offset_number, page_number, slot_at};
+ghost use Rattle.kernel_acts.specs.Below.{EndsMarks, StandsFor, after_stores, at_page, image_of, is_mapped, offset_number, page_number, slot_at};
 ghost use Rattle.kernel_acts.specs.Installed.{is_writable_at, store_run, closed, installed, IsRunTo, Installs, IsNotOpened, IsOpening, IsOpened};
 ghost use Rattle.kernel_acts.specs.Steps.{event_of};
 ghost use Rattle.kernel_acts.specs.Transfers.{AreStored};

@@ -1,9 +1,8 @@
 //! Putting bytes into the pages of a process in which they lie: all of them, or none.
 
 ghost use Rattle.std.specs.Prelude.{◌≡◌, ℕ, ◌+◌, ◌-◌, ◌∷◌, ◌<◌, ◌≤◌, ◌==◌, ◌&&◌, not, if◌then◌else◌, true, None, [], IsOk, IsErr, length, slice_index};
-ghost use Rattle.kernel_acts.specs.Words.{EndsMarks, IsCore, IsUserPage, StandsFor, at_page, byte_at, done_unless};
-ghost use Rattle.kernel_acts.specs.Words.{extra_cost, image_of, is_mapped, is_user_page, list_all, need, offset_number};
-ghost use Rattle.kernel_acts.specs.Words.{page_number, slot_at, slot_number};
+ghost use Rattle.std.specs.List.{list_all};
+ghost use Rattle.kernel_acts.specs.Below.{EndsMarks, IsCore, IsUserPage, StandsFor, at_page, byte_at, done_unless, extra_cost, image_of, is_mapped, is_user_page, need, offset_number, page_number, slot_at, slot_number};
 ghost use Rattle.kernel_acts.specs.Installed.{is_writable_at, installed, Installs};
 ghost use Rattle.kernel_acts.specs.Loaded.{pages_under, may_at, load_refusal, Loads, IsLastThere};
 ghost use Rattle.kernel_calls.specs.declared.translations.Ended.TheVariants as end;

@@ -1,8 +1,8 @@
 //! Looking at a process's pages without a call: nothing is mapped, marked or charged.
 
 ghost use Rattle.std.specs.Prelude.{◌≡◌, ℕ, ◌+◌, ◌*◌, ◌++◌, ◌<◌, ◌≤◌, true, false, IfSome, IfNone, length, map, drop};
-ghost use Rattle.kernel_acts.specs.Words.{IsUserPage, at_page, byte_at, bytes_at, frame_bytes, is_dirty_at, is_mapped};
-ghost use Rattle.kernel_acts.specs.Words.{offset_number, page_number, range_with_len, slot_at};
+ghost use Rattle.std.specs.List.{range_with_len};
+ghost use Rattle.kernel_acts.specs.Below.{IsUserPage, at_page, byte_at, bytes_at, frame_bytes, is_dirty_at, is_mapped, offset_number, page_number, slot_at};
 
 use crate::taking::frame_at;
 use crate::transfers::count_in_page;

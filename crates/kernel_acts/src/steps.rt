@@ -1,8 +1,7 @@
 //! A step of the core: what all runs of this crate are made of.
 
 ghost use Rattle.std.specs.Prelude.{◌≡◌, false};
-ghost use Rattle.kernel_acts.specs.Words.{CarriesOut, Ends, FramesStay, answer, completes, ended_by, gone_by};
-ghost use Rattle.kernel_acts.specs.Words.{memory_of, next};
+ghost use Rattle.kernel_acts.specs.Below.{CarriesOut, Ends, FramesStay, answer, completes, ended_by, gone_by, memory_of, next};
 ghost use Rattle.kernel_acts.specs.Steps.{event_of};
 
 use kernel_calls::{Call, Core, Event, Reply};

@@ -1,8 +1,7 @@
 //! Who else has a page, and taking it back: the Unmaps of all other slots of its group.
 
 ghost use Rattle.std.specs.Prelude.{◌≡◌, ℕ, ◌<◌, ◌≤◌, ◌==◌, ◌&&◌, not, true, false, IsOk, IfSome, IfNone, IfOk, IfErr, IsErr, length, take, drop};
-ghost use Rattle.kernel_acts.specs.Words.{EndAlong, IsUserPage, Slot, StandsFor, View, answer, at_page, completes};
-ghost use Rattle.kernel_acts.specs.Words.{image_of, info_of_page, is_mapped, is_slot};
+ghost use Rattle.kernel_acts.specs.Below.{EndAlong, IsUserPage, Slot, StandsFor, View, answer, at_page, completes, image_of, info_of_page, is_mapped, is_slot};
 ghost use Rattle.kernel_calls.specs.Effects.{IsAlone};
 ghost use Rattle.kernel_acts.specs.TakenBack.{Leads, unmaps, pages_of_all, is_beside, TakesBack, Taking, Unmapped};
 ghost use Rattle.kernel_calls.specs.declared.calls.Reply.TheVariants as reply;

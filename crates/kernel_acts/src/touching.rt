@@ -1,9 +1,7 @@
 //! A processor's page fault: the access of one byte, as an event that changes no byte.
 
 ghost use Rattle.std.specs.Prelude.{◌≡◌, ℕ, true, false};
-ghost use Rattle.kernel_acts.specs.Words.{Ends, FramesStay, IsUserPage, StandsFor, answer, byte_at, completes};
-ghost use Rattle.kernel_acts.specs.Words.{ended_by, finds_at, gone_by, image_of, memory_of, next, of_call, page_number};
-ghost use Rattle.kernel_acts.specs.Words.{slot_at};
+ghost use Rattle.kernel_acts.specs.Below.{Ends, FramesStay, IsUserPage, StandsFor, answer, byte_at, completes, ended_by, finds_at, gone_by, image_of, memory_of, next, of_call, page_number, slot_at};
 ghost use Rattle.table_walk.specs.declared.Access.TheVariants as access;
 ghost use Rattle.kernel_calls.specs.declared.calls.Reply.TheVariants as reply;
 ghost use Rattle.kernel_calls.specs.declared.translations.Ended.TheVariants as end;

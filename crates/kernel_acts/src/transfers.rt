@@ -2,8 +2,7 @@
 //! first that is refused or faults. A page that is ready is looked up once, and its bytes are copied as one slice.
 
 ghost use Rattle.std.specs.Prelude.{◌≡◌, ◌+◌, ◌++◌, ◌<◌, ◌≤◌, Some, IfSome, IsSome, IsNone, false, length, drop, slice_index};
-ghost use Rattle.kernel_acts.specs.Words.{FramesStay, IsUserPage, StandsFor, answer, answers, completes, end_of};
-ghost use Rattle.kernel_acts.specs.Words.{image_of, memory_of, none_goes, of_lazy, offset_number, page_number};
+ghost use Rattle.kernel_acts.specs.Below.{FramesStay, IsUserPage, StandsFor, answer, answers, completes, end_of, image_of, memory_of, none_goes, of_lazy, offset_number, page_number};
 ghost use Rattle.kernel_calls.specs.declared.calls.Call.TheVariants as call;
 ghost use Rattle.page_words.specs.declared.addresses.Size.TheVariants.{One};
 ghost use Rattle.kernel_acts.specs.Transfers.{load_byte, store_byte, loads, stores, carried, stop_of, values, of_lazy_pages, AreLoaded, AreStored, Reads, Writes};

@@ -1,7 +1,7 @@
 //! Which frames an event may write: for whoever keeps something by frames, such as code that was translated.
 
 ghost use Rattle.std.specs.Prelude.{◌≡◌, ◌↔◌, ◌⊎◌, ℕ, ◌<◌, IsTrue, Some, length};
-ghost use Rattle.kernel_acts.specs.Words.{IsUserPage, MayWrite, TakesLazy, at_page, is_lazy_at, memory_of, page_frame};
+ghost use Rattle.kernel_acts.specs.Below.{IsUserPage, MayWrite, TakesLazy, at_page, is_lazy_at, memory_of, page_frame};
 
 use crate::taking::{are_one, frame_at};
 use alloc_table::Role;

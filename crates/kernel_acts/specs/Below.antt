@@ -1,8 +1,7 @@
--- The definitions of other crates that those of this crate and its clauses name. Declares nothing.
+-- The definitions of other crates that this crate names, passed on from one place. Declares nothing.
 pub use Rattle.address_space.specs.ByWalk.{finds_at}
 pub use Rattle.address_space.specs.Image.{is_lazy_at, page_frame, takes_stores}
-pub use Rattle.address_space.specs.Spaces.{Cell, Slot, Spaces, at_page, byte_at, bytes_at, cell_or_fresh, is_of}
-pub use Rattle.address_space.specs.Spaces.{is_slot, need, slot_at, with_holders, without}
+pub use Rattle.address_space.specs.Spaces.{Cell, Slot, Spaces, at_page, byte_at, bytes_at, cell_or_fresh, is_of, is_slot, need, slot_at, with_holders, without}
 pub use Rattle.address_space.specs.Stays.{FramesStay, Gone, none_goes, of_lazy, way_of}
 pub use Rattle.kernel_calls.specs.Along.{CarriesOut, EndAlong}
 pub use Rattle.kernel_calls.specs.Cleaned.{EndsMarks, info_of_page, is_dirty_at}
@@ -25,7 +24,5 @@ pub use Rattle.process_table.specs.TestAnswers.{done_unless}
 pub use Rattle.process_table.specs.View.{View}
 pub use Rattle.process_table.specs.declared.causes.Cause.{Cause}
 pub use Rattle.quota_tree.specs.Book.{Member, given}
-pub use Rattle.std.specs.List.{All, list_all, list_any, range_with_len}
-pub use Rattle.std.specs.Option.{option_map}
 pub use Rattle.table_walk.specs.Walk.{is_write}
 pub use Rattle.table_walk.specs.declared.Access.{Access}
