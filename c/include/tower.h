@@ -144,7 +144,7 @@ enum tower_right {
 };
 
 /* A number in a byte. One that is too large becomes 255, which is no process, size or right. */
-static inline uint8_t tower_byte(uint32_t number) {
+static inline uint8_t tower_byte(uint64_t number) {
     return number < 255 ? (uint8_t)number : (uint8_t)255;
 }
 
@@ -153,10 +153,12 @@ static inline uint32_t tower_pid_at(uint32_t pid, uint64_t place) {
     return place >> 32 ? 255 : pid;
 }
 
-/* An event of these numbers, from CPU 0. */
-TOWER_NODISCARD static inline struct tower_event tower_event_of(uint32_t pid, uint32_t call, uint32_t flag,
-                                                                uint32_t first, uint32_t second, uint32_t third) {
-    struct tower_event event = {0, tower_byte(pid), tower_byte(call), tower_byte(flag), first, second, third};
+/* An event of these numbers, from CPU 0. If one of them has more than 32 bits, it is no event. */
+TOWER_NODISCARD static inline struct tower_event tower_event_of(uint64_t pid, uint64_t call, uint64_t flag,
+                                                                uint64_t first, uint64_t second, uint64_t third) {
+    uint8_t maker = (first | second | third) >> 32 ? (uint8_t)255 : tower_byte(pid);
+    struct tower_event event = {0, maker, tower_byte(call), tower_byte(flag),
+                                (uint32_t)first, (uint32_t)second, (uint32_t)third};
     return event;
 }
 
@@ -166,70 +168,64 @@ TOWER_NODISCARD static inline struct tower_event tower_on_cpu(uint8_t cpu, struc
     return event;
 }
 
-/* An event of an address or of pages, likewise. If one of these has more than 32 bits, it is no event. */
-TOWER_NODISCARD static inline struct tower_event tower_event_at(uint32_t pid, uint32_t call, uint32_t flag,
-                                                                uint64_t first, uint32_t second, uint64_t third) {
-    return tower_event_of(tower_pid_at(pid, first | third), call, flag, (uint32_t)first, second, (uint32_t)third);
-}
-
 /* Each call as an event of process pid, from CPU 0. These only make the event, which tower_step carries out. The
- * arguments are in the order of docs/MACHINE.md. A size is 1, 2 or 4, a right one of enum tower_right. If the process,
- * the size or the right is no such number, or an address or a page has more than 32 bits, tower_step replies
- * TOWER_NO_EVENT: no number is cut off, and becomes another. It is no fault, since a fault's reply has an address of 32
- * bits. */
-TOWER_NODISCARD static inline struct tower_event tower_load(uint32_t pid, uint64_t address, uint32_t size) {
-    return tower_event_at(pid, TOWER_LOAD, size, address, 0, 0);
+ * arguments are in the order of docs/MACHINE.md. A size is 1, 2 or 4, a right one of enum tower_right. All but a value
+ * take a register of 64 bits whole, such as a system call's: if the process, the size or the right is no such number, or
+ * another number has more than 32 bits, tower_step replies TOWER_NO_EVENT. None is cut off, and becomes another. It is no
+ * fault, since a fault's reply has an address of 32 bits. A value has 32 bits; C cuts off what a wider one has above. */
+TOWER_NODISCARD static inline struct tower_event tower_load(uint64_t pid, uint64_t address, uint64_t size) {
+    return tower_event_of(pid, TOWER_LOAD, size, address, 0, 0);
 }
 
-TOWER_NODISCARD static inline struct tower_event tower_store(uint32_t pid, uint64_t address, uint32_t size,
+TOWER_NODISCARD static inline struct tower_event tower_store(uint64_t pid, uint64_t address, uint64_t size,
                                                              uint32_t value) {
-    return tower_event_at(pid, TOWER_STORE, size, address, value, 0);
+    return tower_event_of(pid, TOWER_STORE, size, address, value, 0);
 }
 
-TOWER_NODISCARD static inline struct tower_event tower_map(uint32_t pid, uint64_t page, uint32_t right) {
-    return tower_event_at(pid, TOWER_MAP, right, page, 0, 0);
+TOWER_NODISCARD static inline struct tower_event tower_map(uint64_t pid, uint64_t page, uint64_t right) {
+    return tower_event_of(pid, TOWER_MAP, right, page, 0, 0);
 }
 
-TOWER_NODISCARD static inline struct tower_event tower_unmap(uint32_t pid, uint64_t page) {
-    return tower_event_at(pid, TOWER_UNMAP, 0, page, 0, 0);
+TOWER_NODISCARD static inline struct tower_event tower_unmap(uint64_t pid, uint64_t page) {
+    return tower_event_of(pid, TOWER_UNMAP, 0, page, 0, 0);
 }
 
-TOWER_NODISCARD static inline struct tower_event tower_protect(uint32_t pid, uint64_t page, uint32_t right) {
-    return tower_event_at(pid, TOWER_PROTECT, right, page, 0, 0);
+TOWER_NODISCARD static inline struct tower_event tower_protect(uint64_t pid, uint64_t page, uint64_t right) {
+    return tower_event_of(pid, TOWER_PROTECT, right, page, 0, 0);
 }
 
-TOWER_NODISCARD static inline struct tower_event tower_info(uint32_t pid, uint64_t page) {
-    return tower_event_at(pid, TOWER_INFO, 0, page, 0, 0);
+TOWER_NODISCARD static inline struct tower_event tower_info(uint64_t pid, uint64_t page) {
+    return tower_event_of(pid, TOWER_INFO, 0, page, 0, 0);
 }
 
-TOWER_NODISCARD static inline struct tower_event tower_offer(uint32_t pid, uint64_t page, uint32_t target,
-                                                             uint32_t right) {
-    return tower_event_at(pid, TOWER_OFFER, right, page, target, 0);
+TOWER_NODISCARD static inline struct tower_event tower_offer(uint64_t pid, uint64_t page, uint64_t target,
+                                                             uint64_t right) {
+    return tower_event_of(pid, TOWER_OFFER, right, page, target, 0);
 }
 
-TOWER_NODISCARD static inline struct tower_event tower_withdraw(uint32_t pid, uint64_t page, uint32_t target) {
-    return tower_event_at(pid, TOWER_WITHDRAW, 0, page, target, 0);
+TOWER_NODISCARD static inline struct tower_event tower_withdraw(uint64_t pid, uint64_t page, uint64_t target) {
+    return tower_event_of(pid, TOWER_WITHDRAW, 0, page, target, 0);
 }
 
 /* `page` is the process's own page, at which it maps giver_page of the giver. */
-TOWER_NODISCARD static inline struct tower_event tower_accept(uint32_t pid, uint32_t giver, uint64_t giver_page,
+TOWER_NODISCARD static inline struct tower_event tower_accept(uint64_t pid, uint64_t giver, uint64_t giver_page,
                                                               uint64_t page) {
-    return tower_event_at(pid, TOWER_ACCEPT, 0, giver_page, giver, page);
+    return tower_event_of(pid, TOWER_ACCEPT, 0, giver_page, giver, page);
 }
 
-TOWER_NODISCARD static inline struct tower_event tower_spawn(uint32_t pid, uint32_t quota) {
+TOWER_NODISCARD static inline struct tower_event tower_spawn(uint64_t pid, uint64_t quota) {
     return tower_event_of(pid, TOWER_SPAWN, 0, quota, 0, 0);
 }
 
-TOWER_NODISCARD static inline struct tower_event tower_exit(uint32_t pid) {
+TOWER_NODISCARD static inline struct tower_event tower_exit(uint64_t pid) {
     return tower_event_of(pid, TOWER_EXIT, 0, 0, 0, 0);
 }
 
-TOWER_NODISCARD static inline struct tower_event tower_quota(uint32_t pid) {
+TOWER_NODISCARD static inline struct tower_event tower_quota(uint64_t pid) {
     return tower_event_of(pid, TOWER_QUOTA, 0, 0, 0, 0);
 }
 
-TOWER_NODISCARD static inline struct tower_event tower_fork(uint32_t pid, uint32_t quota) {
+TOWER_NODISCARD static inline struct tower_event tower_fork(uint64_t pid, uint64_t quota) {
     return tower_event_of(pid, TOWER_FORK, 0, quota, 0, 0);
 }
 

@@ -130,6 +130,16 @@ static void makes_events(void) {
         tower_load(0, FAR, 1), tower_store(0, FAR, 1, 0), tower_map(0, FAR, 1), tower_unmap(0, FAR),
         tower_protect(0, FAR, 1), tower_info(0, FAR), tower_offer(0, FAR, 1, 1), tower_withdraw(0, FAR, 1),
         tower_accept(0, 1, FAR, PAGE), tower_accept(0, 1, PAGE, FAR)};
+    /* Numbers of 33 bits, whose low ones are a process's, a size, a right or a quota. */
+    const uint64_t bit = (uint64_t)1 << 32;
+    const struct tower_event wide_events[] = {
+        tower_quota(bit), tower_exit(bit | 1), tower_load(0, ADDRESS, bit | 4), tower_store(0, ADDRESS, bit | 4, 0),
+        tower_map(0, OTHER_PAGE, bit | 1), tower_protect(0, PAGE, bit | 1), tower_offer(0, PAGE, bit | 1, 1),
+        tower_offer(0, PAGE, 1, bit | 1), tower_withdraw(0, PAGE, bit | 1), tower_accept(1, bit, PAGE, OTHER_PAGE),
+        tower_spawn(0, bit | 1), tower_fork(0, bit | 9), tower_event_of(0, bit | TOWER_QUOTA, 0, 0, 0, 0)};
+    for (size_t i = 0; i < sizeof wide_events / sizeof *wide_events; i++) {
+        expect(tower_do(&tower, wide_events[i], NULL) == TOWER_OUTCOME_NO_EVENT, "nor is a number of 33 bits cut off");
+    }
     for (size_t i = 0; i < sizeof far_events / sizeof *far_events; i++) {
         expect(tower_do(&tower, far_events[i], NULL) == TOWER_OUTCOME_NO_EVENT, "in no call");
     }
