@@ -114,7 +114,9 @@ run_it() {
 # If the program's last line names a malformed line, shows that line of standard input, and which word is wrong.
 show_malformed() {
     nth=$(printf '%s\n' "$1" | sed -n "s/^$name: line \([0-9]*\) is malformed\$/\1/p")
-    [ -z "$nth" ] || sed -n "$nth{p;q}" | LC_ALL=C awk -v name="$name" -f "$root/tools/malformed.awk" >&2
+    # (awk takes quadratic time for a long line, of which 101 bytes say what is wrong)
+    [ -z "$nth" ] || sed -n "$nth{p;q}" | LC_ALL=C cut -b 1-101 |
+        LC_ALL=C awk -v name="$name" -f "$root/tools/malformed.awk" >&2
 }
 
 # Prints the first source that isn't what a program was built from.
