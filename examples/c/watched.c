@@ -24,7 +24,8 @@ static struct tower_event event_at(uint32_t page, bool is_store) {
 
 /* Every second page may not be written to. */
 static void open_all(void) {
-    static const uint64_t half[TOWER_SHADOW_HALF_BYTES / 8];
+    static const uint64_t half[TOWER_SHADOW_HALF_BYTES / 8] = {0x21}; /* present, accessed */
+    const struct tower_shadow_places places = {.pool = POOL_AT, .core = BLOCK_AT};
     struct tower_memory pool;
     struct tower_walk found;
     EXPECT(tower_boot_over(CORE_FRAMES, &core, core_block, sizeof core_block) == TOWER_BOOTED);
@@ -36,7 +37,7 @@ static void open_all(void) {
         EXPECT(tower_walk(&core, CHILD, page_number(page) << 12, false, &found) && found.kind == TOWER_WALK_FRAME);
         translations[page] = BLOCK_AT + (uint64_t)found.frame * TOWER_FRAME_BYTES + (is_written ? LINK : READS);
     }
-    EXPECT(tower_shadow_open_over(POOL_FRAMES, POOL_AT, BLOCK_AT, half, &shadow, pool_block, sizeof pool_block) ==
+    EXPECT(tower_shadow_open_over(POOL_FRAMES, places, half, &shadow, pool_block, sizeof pool_block) ==
            TOWER_SHADOW_OPENED);
     EXPECT(tower_shadow_pool(&shadow, &pool) && pool.begins == pool_block);
     EXPECT(pool.length == POOL_FRAMES * (size_t)TOWER_FRAME_BYTES);

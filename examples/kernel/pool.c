@@ -20,8 +20,8 @@ struct pool_counts pool_counts(void) {
 void open_pool(void) {
     need(POOL_FRAMES >= SHADOW_LEAST * processors_there(),
          "the pool of shadow tables has what an instruction can need, on each processor");
-    uint32_t status = tower_shadow_open_over(POOL_FRAMES, physical_of(block), core_physical(), open_roots(), &shadow,
-                                             block, sizeof block);
+    struct tower_shadow_places places = {.pool = physical_of(block), .core = core_physical()};
+    uint32_t status = tower_shadow_open_over(POOL_FRAMES, places, open_roots(), &shadow, block, sizeof block);
     need(status == TOWER_SHADOW_OPENED, "shadow tables are opened");
 }
 
