@@ -76,7 +76,8 @@ impl Core<'_> {
     ///
     /// # Errors
     ///
-    /// The fault or the refusal, as docs/MACHINE.md has it; nothing changed then.
+    /// The first that applies: the [`Cause`](crate::Cause) `NoProcess`, a fault with code 4 if a byte lies outside the
+    /// user range, and the cause `Quota`; nothing changed then.
     pub fn load(&mut self, pid: Pid, addr: Vaddr, size: Size) -> Result<u32, Failure> {
         match self.call(pid, Call::Load { addr, size })? {
             Reply::Value(value) => Ok(value),
@@ -91,7 +92,9 @@ impl Core<'_> {
     ///
     /// # Errors
     ///
-    /// The fault or the refusal, as docs/MACHINE.md has it; nothing changed then.
+    /// The first that applies: the [`Cause`](crate::Cause) `NoProcess`, a fault with code 6 if a byte lies outside the
+    /// user range, one with code 7 if a byte lies in a page that is mapped without write, and the cause `Quota`; nothing
+    /// changed then.
     pub fn store(
         &mut self,
         pid: Pid,
@@ -108,7 +111,8 @@ impl Core<'_> {
     ///
     /// # Errors
     ///
-    /// The fault or the refusal, as docs/MACHINE.md has it; nothing changed then.
+    /// The first [`Cause`](crate::Cause) that applies, of `NoProcess`, `BadPage`, `Mapped` and `Quota`; nothing changed
+    /// then.
     pub fn map(&mut self, pid: Pid, page: Page, write: bool) -> Result<(), Failure> {
         self.done(pid, Call::Map { page, write })
     }
@@ -119,7 +123,7 @@ impl Core<'_> {
     ///
     /// # Errors
     ///
-    /// The fault or the refusal, as docs/MACHINE.md has it; nothing changed then.
+    /// The first [`Cause`](crate::Cause) that applies, of `NoProcess`, `BadPage` and `NotMapped`; nothing changed then.
     pub fn unmap(&mut self, pid: Pid, page: Page) -> Result<Ended, Failure> {
         self.ending(pid, Call::Unmap { page })
     }
@@ -130,7 +134,8 @@ impl Core<'_> {
     ///
     /// # Errors
     ///
-    /// The fault or the refusal, as docs/MACHINE.md has it; nothing changed then.
+    /// The first [`Cause`](crate::Cause) that applies, of `NoProcess`, `BadPage`, `NotMapped` and `Rights`; nothing
+    /// changed then.
     pub fn protect(&mut self, pid: Pid, page: Page, write: bool) -> Result<Ended, Failure> {
         self.ending(pid, Call::Protect { page, write })
     }
@@ -141,7 +146,7 @@ impl Core<'_> {
     ///
     /// # Errors
     ///
-    /// The fault or the refusal, as docs/MACHINE.md has it; nothing changed then.
+    /// The first [`Cause`](crate::Cause) that applies, of `NoProcess`, `BadPage` and `NotMapped`; nothing changed then.
     pub fn info(&mut self, pid: Pid, page: Page) -> Result<Info, Failure> {
         match self.call(pid, Call::Info { page })? {
             Reply::Info {
@@ -167,7 +172,8 @@ impl Core<'_> {
     ///
     /// # Errors
     ///
-    /// The fault or the refusal, as docs/MACHINE.md has it; nothing changed then.
+    /// The first [`Cause`](crate::Cause) that applies, of `NoProcess`, `BadPage`, `NotMapped`, `SelfOffer`, `NoTarget`,
+    /// `Rights`, `OfferPending` and `TooManyOffers`; nothing changed then.
     pub fn offer(&mut self, pid: Pid, page: Page, target: Pid, write: bool) -> Result<(), Failure> {
         self.done(
             pid,
@@ -185,7 +191,7 @@ impl Core<'_> {
     ///
     /// # Errors
     ///
-    /// The fault or the refusal, as docs/MACHINE.md has it; nothing changed then.
+    /// The first [`Cause`](crate::Cause) that applies, of `NoProcess`, `BadPage` and `NoOffer`; nothing changed then.
     pub fn withdraw(&mut self, pid: Pid, page: Page, target: Pid) -> Result<(), Failure> {
         self.done(pid, Call::Withdraw { page, target })
     }
@@ -197,7 +203,8 @@ impl Core<'_> {
     ///
     /// # Errors
     ///
-    /// The fault or the refusal, as docs/MACHINE.md has it; nothing changed then.
+    /// The first [`Cause`](crate::Cause) that applies, of `NoProcess`, `BadPage` (of `page`), `NoOffer`, `Mapped` and
+    /// `Quota`; nothing changed then.
     pub fn accept(
         &mut self,
         pid: Pid,
@@ -221,7 +228,8 @@ impl Core<'_> {
     ///
     /// # Errors
     ///
-    /// The fault or the refusal, as docs/MACHINE.md has it; nothing changed then.
+    /// The first [`Cause`](crate::Cause) that applies, of `NoProcess`, `BadQuota`, `TableFull` and `Quota`; nothing
+    /// changed then.
     pub fn spawn(&mut self, pid: Pid, quota: u32) -> Result<Pid, Failure> {
         self.child(pid, Call::Spawn { quota })
     }
@@ -232,7 +240,8 @@ impl Core<'_> {
     ///
     /// # Errors
     ///
-    /// The fault or the refusal, as docs/MACHINE.md has it; nothing changed then.
+    /// The first [`Cause`](crate::Cause) that applies, of `NoProcess`, `BadQuota`, `TableFull`, `TooSmall` and `Quota`;
+    /// nothing changed then.
     pub fn fork(&mut self, pid: Pid, quota: u32) -> Result<Pid, Failure> {
         self.child(pid, Call::Fork { quota })
     }
@@ -244,7 +253,8 @@ impl Core<'_> {
     ///
     /// # Errors
     ///
-    /// The fault or the refusal, as docs/MACHINE.md has it; nothing changed then.
+    /// The first [`Cause`](crate::Cause) that applies, of `NoProcess`, `RootExit` and `HasChildren`; nothing changed
+    /// then.
     pub fn exit(&mut self, pid: Pid) -> Result<Ended, Failure> {
         self.ending(pid, Call::Exit)
     }
@@ -255,7 +265,7 @@ impl Core<'_> {
     ///
     /// # Errors
     ///
-    /// The fault or the refusal, as docs/MACHINE.md has it; nothing changed then.
+    /// The only cause is `NoProcess`; nothing changed then.
     pub fn quota(&mut self, pid: Pid) -> Result<Usage, Failure> {
         match self.call(pid, Call::Quota)? {
             Reply::Quota { quota, used, given } => Ok(Usage { quota, used, given }),
