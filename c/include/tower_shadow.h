@@ -11,7 +11,9 @@
  *  - What any other function ended of that core's translations is forgotten before the next call with both handles. These
  *    are an event of tower_step_ending or tower_touch (pass its `ended` to tower_shadow_forget), the processes that
  *    tower_end listed, the pages that tower_take_back listed, that tower_load_bytes or tower_write wrote, or that
- *    tower_clean cleared. tower_free forgets all.
+ *    tower_clean cleared. tower_step, tower_run and tower_run_until don't tell what they ended: ask tower_ends before
+ *    each event, or call tower_shadow_forget_all afterwards. tower_free forgets nothing here: call that, too, before the
+ *    handle has another core.
  *  - Before a call frees a root, no processor has it in CR3, the caller's own included. The root and all tables below it
  *    may be another process's after the next fill, and the kernel's half of the root is gone. Roots are freed by
  *    tower_shadow_forget of TOWER_ENDS_SPACE, tower_shadow_forget_all, tower_shadow_close, and tower_shadow_step of a

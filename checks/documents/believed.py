@@ -16,6 +16,7 @@ from sources import crates, functions_of
 # The functions whose clauses are the main promises, in the order in which they add to the list.
 PROMISES = (
     ("Core::run", "kernel_calls/src/cores.rt"),
+    ("Core::stands", "kernel_calls/src/cores.rt"),
     ("Cpu::call", "locked_core/src/cpu.rt"),
     ("run_script", "script_run/src/script.rt"),
     ("check", "image_check/src/verdicts.rt"),

@@ -13,6 +13,7 @@ ghost use Rattle.process_table.specs.Image.{StandsFor, image_of, memory_of};
 ghost use Rattle.kernel_calls.specs.Gone.{gone_by, gives_back};
 ghost use Rattle.kernel_calls.specs.Machine.{answer, next, completes};
 ghost use Rattle.kernel_calls.specs.Translations.{Ends, ended_by, is_all_of};
+ghost use Rattle.kernel_calls.specs.Written.{WritesItsOwn};
 ghost use Rattle.kernel_acts.specs.Touched.{touch_of};
 ghost use Rattle.page_words.specs.Addresses.{page_number};
 ghost use Rattle.shadow_tables.specs.Needs.{frames_needed, TablesStay};
@@ -86,6 +87,7 @@ impl ShadowedCore {
             (memory_of self.old.core) (memory_of self.new.core) }
         ensures loose { gives_back event.now.call ≡ true
             → LooseStay (memory_of self.old.core) (memory_of self.new.core) }
+        ensures writes { WritesItsOwn self.old.core self.new.core event.now }
         ensures left { self.new.shadow.translations
             ≡ left_by (ended_by self.old.core event.now) self.old.shadow.translations }
         ensures stands { StandsFor (image_of self.new.core) self.new.core.state }

@@ -11,6 +11,7 @@ ghost use Rattle.kernel_calls.specs.Cleaned.{is_dirty_at};
 ghost use Rattle.kernel_calls.specs.Gone.{gone_by, gives_back};
 ghost use Rattle.kernel_calls.specs.Machine.{answer, next, completes};
 ghost use Rattle.kernel_calls.specs.Translations.{Ends, ended_by, is_all_of, IsGiven, WalkGives};
+ghost use Rattle.kernel_calls.specs.Written.{WritesItsOwn};
 ghost use Rattle.kernel_calls.specs.declared.translations.Ended.TheVariants as end;
 ghost use Rattle.kernel_acts.specs.Touched.{touch_of, AreMarked};
 ghost use Rattle.shadow_tables.specs.Shadow.{IsFixed, root_frame};
@@ -95,6 +96,7 @@ pub fn carry_out(core: &mut Core, shadow: &mut ShadowTables, event: &Event) -> (
     ensures ends { Ends result.1 core.old core.new }
     ensures stay { FramesStay (gone_by core.old.state event.now) (memory_of core.old) (memory_of core.new) }
     ensures loose { gives_back event.now.call ≡ true → LooseStay (memory_of core.old) (memory_of core.new) }
+    ensures writes { WritesItsOwn core.old core.new event.now }
     ensures left { shadow.new.translations ≡ left_by result.1 shadow.old.translations }
     ensures stands { StandsFor (image_of core.new) core.new.state }
     ensures roots { (p : ℕ) → is_all_of result.1 p ≡ false → root_frame shadow.new p ≡ root_frame shadow.old p }

@@ -4,7 +4,10 @@ use Rattle.std.specs.Prelude.{◌↔◌}
 use Rattle.page_words.specs.Addresses.{page_number}
 use Rattle.table_walk.specs.declared.Access.{Access}
 use Rattle.address_space.specs.Spaces.{byte_at}
+use Rattle.address_space.specs.Stays.{FramesStay}
+use Rattle.process_table.specs.Image.{memory_of}
 use Rattle.process_table.specs.View.{View}
+use Rattle.kernel_calls.specs.Gone.{gone_by}
 use Rattle.kernel_calls.specs.Machine.{answer, next}
 use Rattle.kernel_calls.specs.Translations.{Ends, ended_by}
 use Rattle.kernel_calls.specs.declared.translations.Ended.{Ended}
@@ -43,10 +46,12 @@ pub handles : (v : View) (s : Shadow) (p address : ℕ) (write : Bool) (h : Hand
     → (lacks_frames s p address ≡ false → h ≡ handled_of (answer v.state (touch_of v.state p address (access_of write))))
     → (lacks_frames s p address ≡ false → ended ≡ ended_by v (touch_of v.state p address (access_of write)))
     → (lacks_frames s p address ≡ false → w.state ≡ next v.state (touch_of v.state p address (access_of write)))
-    → Ends ended v w → ((q at : ℕ) → byte_at w.state.spaces q at ≡ byte_at v.state.spaces q at) → (IsStopped h → (w ≡ v) × (u ≡ s))
+    → Ends ended v w
+    → (lacks_frames s p address ≡ false → FramesStay (gone_by v.state (touch_of v.state p address (access_of write))) (memory_of v) (memory_of w))
+    → ((q at : ℕ) → byte_at w.state.spaces q at ≡ byte_at v.state.spaces q at) → (IsStopped h → (w ≡ v) × (u ≡ s))
     → (h ≡ Filled → HasFilled w (left_by ended s.translations) u p address (access_of write)) → (h ≡ Filled → s.free ≡ u.free + frames_needed s p (page_number address)) → RootsStay s p u → ((q : ℕ) → TablesStay s q u) → IsFixed s u
     → Handles v s p address write (status_of h) (told_of h) (ended_numbers ended) w u
-handles v s p address write h ended w u full unchanged handled ended_is state ends bytes stopped filled spent roots tables fixed = record {
+handles v s p address write h ended w u full unchanged handled ended_is state ends stay bytes stopped filled spent roots tables fixed = record {
   full = (λ e. full.0 (full_number h e), λ few. ap status_of (full.1 few));
   unchanged = λ few. let all = unchanged few in (all.1, all.2, ap ended_numbers all.0);
   status_is = λ room. ap status_of (handled room);
@@ -54,6 +59,7 @@ handles v s p address write h ended w u full unchanged handled ended_is state en
   ended_is = λ room. ap ended_numbers (ended_is room);
   state = state;
   ends = λ room. subst (λ (x : Ended). Ends x v w) (ended_is room) ends;
+  stay = stay;
   bytes = bytes;
   stopped = λ e. stopped (stopped_number h e);
   filled = λ e.
@@ -84,10 +90,11 @@ pub handles_as : (v : View) (s : Shadow) (o : Option ℕ) (p address : ℕ) (wri
     → (lacks_frames s p address ≡ false → h ≡ handled_of (answer v.state (touch_of v.state p address access)))
     → (lacks_frames s p address ≡ false → ended ≡ ended_by v (touch_of v.state p address access))
     → (lacks_frames s p address ≡ false → w.state ≡ next v.state (touch_of v.state p address access))
-    → Ends ended v w → ((q at : ℕ) → byte_at w.state.spaces q at ≡ byte_at v.state.spaces q at) → (IsStopped h → (w ≡ v) × (u ≡ s))
+    → Ends ended v w → (lacks_frames s p address ≡ false → FramesStay (gone_by v.state (touch_of v.state p address access)) (memory_of v) (memory_of w))
+    → ((q at : ℕ) → byte_at w.state.spaces q at ≡ byte_at v.state.spaces q at) → (IsStopped h → (w ≡ v) × (u ≡ s))
     → (h ≡ Filled → HasFilled w (left_by ended s.translations) u p address access) → (h ≡ Filled → s.free ≡ u.free + frames_needed s p (page_number address)) → RootsStay s p u → ((q : ℕ) → TablesStay s q u) → IsFixed s u
     → HandlesIn v s o address write status a b w u
-handles_as v s o p address write access h ended status a b w u there same number numbers ends_numbers full unchanged handled ended_is state ends bytes stopped filled spent roots tables fixed =
+handles_as v s o p address write access h ended status a b w u there same number numbers ends_numbers full unchanged handled ended_is state ends stay bytes stopped filled spent roots tables fixed =
     subst (λ (o : Option ℕ). HandlesIn v s o address write status a b w u) there
     (subst (λ (n : ℕ). Handles v s p address write n a b w u) (sym number)
     (subst (λ (r : TowerReply). Handles v s p address write (status_of h) r b w u) (sym numbers)
@@ -96,4 +103,5 @@ handles_as v s o p address write access h ended status a b w u there same number
     (λ room. handled room ∙ ap (λ k. handled_of (answer v.state (touch_of v.state p address k))) same)
     (λ room. ended_is room ∙ ap (λ k. ended_by v (touch_of v.state p address k)) same)
     (λ room. state room ∙ ap (λ k. next v.state (touch_of v.state p address k)) same)
-    ends bytes stopped (λ is. subst (λ (k : Access). HasFilled w (left_by ended s.translations) u p address k) same (filled is)) spent roots tables fixed))))
+    ends (λ room. subst (λ (k : Access). FramesStay (gone_by v.state (touch_of v.state p address k)) (memory_of v) (memory_of w)) same (stay room))
+    bytes stopped (λ is. subst (λ (k : Access). HasFilled w (left_by ended s.translations) u p address k) same (filled is)) spent roots tables fixed))))

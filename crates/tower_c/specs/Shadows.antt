@@ -4,7 +4,10 @@ use Rattle.std.specs.Option.{option_map}
 use Rattle.page_words.specs.Addresses.{page_number}
 use Rattle.page_words.specs.FiniteMap as map
 use Rattle.address_space.specs.Spaces.{byte_at}
+use Rattle.address_space.specs.Stays.{FramesStay}
+use Rattle.process_table.specs.Image.{memory_of}
 use Rattle.process_table.specs.View.{View}
+use Rattle.kernel_calls.specs.Gone.{gone_by}
 use Rattle.kernel_calls.specs.Machine.{answer, next}
 use Rattle.kernel_calls.specs.Translations.{Ends, ended_by, is_all_of}
 use Rattle.kernel_calls.specs.declared.translations.Ended.{Ended}
@@ -66,6 +69,8 @@ pub record Handles (v : View) (s : Shadow) (p address : ℕ) (write : Bool) (sta
   pub ended_is : lacks_frames s p address ≡ false → ended ≡ ended_numbers (ended_by v (touch_of v.state p address (access_of write)))
   pub state : lacks_frames s p address ≡ false → w.state ≡ next v.state (touch_of v.state p address (access_of write))
   pub ends : lacks_frames s p address ≡ false → Ends (ended_by v (touch_of v.state p address (access_of write))) v w
+  -- each way that it doesn't take leads where it led
+  pub stay : lacks_frames s p address ≡ false → FramesStay (gone_by v.state (touch_of v.state p address (access_of write))) (memory_of v) (memory_of w)
   pub bytes : (q at : ℕ) → byte_at w.state.spaces q at ≡ byte_at v.state.spaces q at
   pub stopped : status ≡ 2 → (w ≡ v) × (u ≡ s)
   -- the page's translation is there, and a processor's walk completes the access

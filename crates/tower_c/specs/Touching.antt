@@ -2,9 +2,11 @@
 use Rattle.std.specs.Prelude.{◌≡◌, ℕ, Bool, true, Option, Some, None}
 use Rattle.address_space.specs.ByWalk.{finds_at}
 use Rattle.address_space.specs.Spaces.{byte_at}
+use Rattle.address_space.specs.Stays.{FramesStay, Gone, none_goes}
 use Rattle.process_table.specs.Image.{memory_of}
 use Rattle.process_table.specs.State.{State}
 use Rattle.process_table.specs.View.{View}
+use Rattle.kernel_calls.specs.Gone.{gone_by}
 use Rattle.kernel_calls.specs.Translations.{Ends}
 use Rattle.kernel_calls.specs.declared.calls.Event.{Event}
 use Rattle.kernel_acts.specs.Touched.{touch_of}
@@ -16,6 +18,11 @@ use Rattle.tower_c.specs.declared.numbers.TowerEnded.{TowerEnded}
 abbrev pub touch_in : State → Option ℕ → ℕ → Bool → Option Event
 touch_in s (Some p) address write = Some (touch_of s p address (access_of write))
 touch_in s None address write = None
+
+-- the ways that it takes
+abbrev pub touch_takes : State → Option ℕ → ℕ → Bool → Gone
+touch_takes s (Some p) address write = gone_by s (touch_of s p address (access_of write))
+touch_takes s None address write = none_goes
 
 -- what that event will end, in numbers: None without a core or a process
 abbrev pub touch_ends : Option View → Option ℕ → ℕ → Bool → Option TowerEnded
@@ -33,5 +40,6 @@ pub record IsTouchedIn (v : View) (p : Option ℕ) (address : ℕ) (write : Bool
   pub ended_is : ended ≡ ended_numbers (ends_in v (touch_in v.state p address write))
   pub state : w.state ≡ state_after v.state (touch_in v.state p address write)
   pub ends : Ends (ends_in v (touch_in v.state p address write)) v w
+  pub stay : FramesStay (touch_takes v.state p address write) (memory_of v) (memory_of w)
   pub bytes : (q at : ℕ) → byte_at w.state.spaces q at ≡ byte_at v.state.spaces q at
   pub through : is_carried_out v.state (touch_in v.state p address write) ≡ true → LetsThrough w p address write

@@ -6,7 +6,7 @@ ghost use Rattle.kernel_calls.specs.Translations.{Ends};
 ghost use Rattle.c_handle.specs.Handle.{IsTower};
 ghost use Rattle.c_handle.specs.ShadowHandle.{IsTowerShadow};
 ghost use Rattle.shadow_core.specs.Paired.{IsShadowed};
-ghost use Rattle.tower_c.specs.Border.{event_in, pid_of, reply_in, state_after, is_carried_out, ends_in, ended_numbers};
+ghost use Rattle.tower_c.specs.Border.{LeavesMemory, event_in, pid_of, reply_in, state_after, is_carried_out, ends_in, ended_numbers};
 ghost use Rattle.tower_c.specs.Shadows.{AreShadowed, HandlesIn, Forgets, status_of, told_of};
 
 use crate::numbers::{
@@ -144,6 +144,7 @@ fn step(core: &mut Core, tables: &mut ShadowTables, event: &TowerEvent) -> (Towe
     ensures ended { result.1 ≡ ended_numbers (ends_in core.old (event_in event.now)) }
     ensures state { core.new.state ≡ state_after core.old.state (event_in event.now) }
     ensures ends { Ends (ends_in core.old (event_in event.now)) core.old core.new }
+    ensures memory { LeavesMemory core.old core.new (event_in event.now) }
     ensures forgets { Forgets tables.old (ends_in core.old (event_in event.now)) tables.new }
     ensures refused { is_carried_out core.old.state (event_in event.now) ≡ false
         → (core.new ≡ core.old) × (tables.new ≡ tables.old) }
@@ -185,6 +186,8 @@ pub extern "C" fn tower_shadow_step(
         (λ next. next.state ≡ state_after core.state (event_in event.now))) }
     ensures ends { result ≡ true → IfSome tower.old.hold.core (λ core. IfSome tower.new.hold.core
         (λ next. Ends (ends_in core (event_in event.now)) core next)) }
+    ensures memory { result ≡ true → IfSome tower.old.hold.core (λ core. IfSome tower.new.hold.core
+        (λ next. LeavesMemory core next (event_in event.now))) }
     ensures forgets { result ≡ true → IfSome tower.old.hold.core (λ core. IfSome shadow.old.hold.tables
         (λ tables. IfSome shadow.new.hold.tables
         (λ later. Forgets tables (ends_in core (event_in event.now)) later))) }

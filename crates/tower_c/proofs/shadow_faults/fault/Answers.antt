@@ -9,4 +9,4 @@ returns-clause-handled c =
     handles_as c.args.core.now c.args.tables.now (pid_of c.args.pid) c.in-Some.pid c.args.address c.args.write c.access_from.result h.result.0 h.result.1
     c.status_of-status.result c.told_of-told.result c.ended_from-ends.result h.new.core h.new.shadow c.in-Some.ensures c.access_from.ensures
     c.status_of-status.ensures c.told_of-told.ensures c.ended_from-ends.ensures
-    made.full made.unchanged made.handled made.ended made.state made.ends made.bytes made.stopped made.filled made.spent made.roots made.tables made.fixed
+    made.full made.unchanged made.handled made.ended made.state made.ends made.stay made.bytes made.stopped made.filled made.spent made.roots made.tables made.fixed

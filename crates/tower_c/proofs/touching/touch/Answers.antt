@@ -14,7 +14,7 @@ returns-clause-touched c =
     let made = t.ensures in
     touched_some_as c.args.core.now t.new.core (pid_of c.args.pid) c.in-Some.pid c.args.address c.args.write c.access_from.result t.result.0 t.result.1
     c.told_from-numbers.result c.ended_from-ends.result c.in-Some.ensures c.access_from.ensures c.told_from-numbers.ensures c.ended_from-ends.ensures
-    made.reply made.ended made.state made.ends made.bytes made.finds
+    made.reply made.ended made.state made.ends made.stay made.bytes made.finds
 
 pub returns-clause-refused : goal.returns-clause-refused
 returns-clause-refused c = λ stops.
