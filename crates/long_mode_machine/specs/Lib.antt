@@ -1,0 +1,4 @@
+pub mod LongMode
+pub mod Moves
+pub mod Wide
+pub mod WorkedRun
