@@ -1,0 +1,40 @@
+//! A box as its pointer and its allocator.
+
+ghost use Rattle.std.specs.Prelude.{◌≡◌};
+ghost use Rattle.std.specs.Box.Ownership.{box_owns};
+
+use std::alloc::Allocator;
+use std::marker::Model;
+
+/// What a box of one value is made of. Whoever holds it owns the value.
+pub struct Loose<T, A: Allocator> {
+    pub(crate) at: *mut T,
+    pub(crate) alloc: A,
+    pub ghost value: { T },
+}
+
+impl<T, A: Allocator> Model for Loose<T, A> {
+    ghost also_owns = { λ l. box_owns (A.dealloc_token l.alloc) T.row l.at l.value };
+}
+
+impl<T, A: Allocator> Loose<T, A> {
+    /// Takes a box apart.
+    #[inline(always)]
+    pub fn of(whole: Box<T, A>) -> Loose<T, A>
+    where
+        T: Drop,
+        ensures { result.value ≡ whole.value }
+    {
+        let (at, alloc) = Box::into_raw_with_allocator(whole);
+        Loose { at, alloc }
+    }
+
+    /// Puts the box together again.
+    #[inline(always)]
+    pub fn into_box(self) -> Box<T, A>
+        ensures { result.value ≡ self.value }
+    {
+        let Loose { at, alloc } = self;
+        unsafe { Box::from_raw(alloc, at) }
+    }
+}
