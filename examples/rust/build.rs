@@ -1,4 +1,5 @@
-//! Links the archive of `crates/tower_c`, and with the feature `images` that of `crates/tower_images`.
+//! Links the archive of `crates/tower_c`, with the feature `images` that of `crates/tower_images`, and with `threads` that
+//! of `crates/tower_threads`.
 //!
 //! If `TOWER_LIB` names a folder, they are that folder's. Otherwise, in a release, they are those in its `lib/`.
 //! Otherwise they are the repository's: the one that was made there if it is of the present sources, or that of
@@ -11,9 +12,11 @@ use std::{env, fs};
 /// The crates whose archives are linked.
 fn crates() -> Vec<&'static str> {
     let with_images = env::var_os("CARGO_FEATURE_IMAGES").is_some();
+    let with_threads = env::var_os("CARGO_FEATURE_THREADS").is_some();
     ["tower_c"]
         .into_iter()
         .chain(with_images.then_some("tower_images"))
+        .chain(with_threads.then_some("tower_threads"))
         .collect()
 }
 

@@ -158,6 +158,17 @@ impl Core<'static> {
     }
 }
 
+impl<'block> Core<'block> {
+    /// The core that a CPU took into a handle, over the block that it was shared with.
+    #[cfg(feature = "threads")]
+    pub(crate) fn of_block(handle: raw::Tower) -> Core<'block> {
+        Core {
+            handle: UnsafeCell::new(handle),
+            block: PhantomData,
+        }
+    }
+}
+
 impl Core<'_> {
     /// The handle, for a call.
     pub(crate) fn handle_mut(&mut self) -> *mut raw::Tower {

@@ -192,6 +192,8 @@ mod images;
 mod memory;
 mod numbers;
 mod raw;
+#[cfg(feature = "threads")]
+mod shared;
 #[cfg(feature = "streams")]
 mod streams;
 #[cfg(any(feature = "heap", feature = "blocks"))]
@@ -208,6 +210,8 @@ pub use core::{BootFault, Core, UnequalLengths, version};
 pub use images::{CoreImageFault, ImageFault, NoMemory, RestoreFault, Verdict, check_image};
 pub use memory::{Mapped, Pages, Stopped};
 pub use numbers::{NoEvent, Numbers};
+#[cfg(feature = "threads")]
+pub use shared::{Absent, Cpu, Monitor, Report, ShareFault, Taken};
 #[cfg(feature = "streams")]
 pub use streams::{ResumeFault, SaveFault};
 pub use words::{

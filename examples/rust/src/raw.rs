@@ -295,3 +295,51 @@ unsafe extern "C" {
         verdict: *mut Verdict,
     ) -> u32;
 }
+
+#[cfg(feature = "threads")]
+#[repr(C)]
+pub struct TowerCpu {
+    pub live: bool,
+    pub cpu: *mut c_void,
+}
+
+#[cfg(feature = "threads")]
+#[repr(C)]
+pub struct TowerMonitor {
+    pub live: bool,
+    pub monitor: *mut c_void,
+}
+
+#[cfg(feature = "threads")]
+#[repr(C)]
+#[derive(Clone, Copy, Debug, Default)]
+pub struct Row {
+    pub live: bool,
+    pub parent: u8,
+    pub quota: u32,
+    pub used: u32,
+    pub given: u32,
+}
+
+#[cfg(feature = "threads")]
+unsafe extern "C" {
+    pub fn tower_share(
+        tower: *mut Tower,
+        cpus: *mut TowerCpu,
+        cpu_count: usize,
+        monitors: *mut TowerMonitor,
+        monitor_count: usize,
+    ) -> u32;
+    pub fn tower_cpu_take(cpu: *mut TowerCpu, tower: *mut Tower) -> u32;
+    pub fn tower_cpu_give(cpu: *mut TowerCpu, tower: *mut Tower, publish: bool) -> u32;
+    pub fn tower_cpu_count(cpu: *mut TowerCpu) -> u64;
+    pub fn tower_cpu_close(cpu: *mut TowerCpu) -> u32;
+    pub fn tower_cpu_free(cpu: *mut TowerCpu);
+    pub fn tower_monitor_read(
+        monitor: *mut TowerMonitor,
+        count: *mut u64,
+        rows: *mut Row,
+        row_count: usize,
+    ) -> u32;
+    pub fn tower_monitor_free(monitor: *mut TowerMonitor);
+}

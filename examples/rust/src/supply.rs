@@ -44,7 +44,7 @@ fn from_heap(size: usize) -> Option<NonNull<u8>> {
 }
 
 /// Returns a larger block with the first bytes of the old one, and frees the old one. `libtower_images.a` imports it.
-#[cfg(feature = "images")]
+#[cfg(any(feature = "images", feature = "threads"))]
 #[unsafe(no_mangle)]
 unsafe extern "C" fn rattle_realloc(
     block: NonNull<u8>,
