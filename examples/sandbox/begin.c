@@ -23,8 +23,7 @@ void tenant_begin(const char *name, const char *path, uint32_t quota, uint32_t a
     struct program program;
     struct tower_reply child = kernel_event(tower_spawn(0, quota)), told = child;
     struct registers start = {.general = {[EAX] = child.first, [EBX] = argument, [ESP] = STACK_TOP},
-                              .eflags = 0x202, .mxcsr = 0x1f80, .control = 0x37f, .tags = 0xffff,
-                              .segments = {0x23, 0x23, 0x23, 0x23}};
+                              .eflags = 0x202, .segments = {0x23, 0x23, 0x23, 0x23}};
     if (!program_read(&program, path)) {
         fail("can't read", path);
     }

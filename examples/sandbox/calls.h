@@ -13,5 +13,8 @@ enum {
     CALLS_END,
 };
 
+/* A call by int 0x80 is a signal. Without one it is a far jump to here, to segment 33, with the address to return to in EDI. */
+enum { GATE = 0x20000000 };
+
 /* A program begins with EAX its process, EBX its argument and ESP STACK_TOP. Its stack is in one region with it. */
 enum { STACK_TOP = 0x40400000 };

@@ -12,16 +12,14 @@
 
 enum { PAGE_BYTES = 4096 };
 enum { SOCKET = 3 }; /* the descriptor of the engine's end */
-/* Where the engine's process has its tenant's byte 0: the user range from there on is its window. */
-#define WINDOW 0x200000000000
-
 /* All that a tenant can change of a processor. */
+enum { MOST_EXTENDED = 4096 };
 struct registers {
     uint32_t general[8]; /* EAX, ECX, EDX, EBX, ESP, EBP, ESI, EDI */
-    uint32_t eip, eflags, mxcsr;
-    uint16_t segments[4]; /* DS, ES, FS, GS: 0 if the tenant loaded the null segment */
-    uint16_t control, status, tags;
-    uint8_t x87[8][10], xmm[8][16];
+    uint32_t eip, eflags;
+    uint16_t segments[4];    /* DS, ES, FS, GS: 0 if the tenant loaded the null segment */
+    uint32_t extended_bytes; /* those of the x87, SSE and AVX, as XSAVE writes them; none: as a program begins */
+    uint8_t extended[MOST_EXTENDED];
 };
 enum { EAX, ECX, EDX, EBX, ESP, EBP, ESI, EDI };
 
@@ -42,9 +40,9 @@ enum { MOST_PAGES = 4096 };
 struct order {
     uint32_t kind;
     struct words words;
-    uint64_t instructions; /* the turn ends after so many; UNCOUNTED: by time */
-    uint32_t out_count;    /* of the channel's pages that are taken out */
-    uint32_t page;         /* that is put in, on the file that comes through the socket */
+    uint64_t steps;     /* calls and page faults that are left of the turn; UNCOUNTED: it ends by time */
+    uint32_t out_count; /* of the channel's pages that are taken out */
+    uint32_t page;      /* that is put in, on the file that comes through the socket */
     uint8_t has_page, write, begins_turn;
 };
 #define UNCOUNTED UINT64_MAX
@@ -61,7 +59,6 @@ enum report_kind {
 struct report {
     uint32_t kind;
     struct words words;
-    uint64_t executed; /* instructions, if they are counted, since the last order */
     uint32_t access, address;
 };
 

@@ -19,7 +19,7 @@
 static pid_t fork_server; /* the first process of the engines' program, and its socket */
 static int server_socket;
 
-/* ---- Time and memory */
+/* ---- Time */
 
 uint64_t nanoseconds(clockid_t clock) {
     struct timespec now = {0};
@@ -43,27 +43,23 @@ uint64_t engine_time(struct engine *it) {
     return owed;
 }
 
-/* A number in one of the host's files on a process; 0 if it can't be read. */
-static uint64_t read_number(pid_t process, const char *name, const char *format) {
+/* The second number of the host's file on it; 0 if it can't be read. */
+static uint64_t read_delay(pid_t process) {
     char path[64];
-    unsigned long long first = 0, second = 0;
-    snprintf(path, sizeof path, "/proc/%d/%s", process, name);
+    unsigned long long delay = 0;
+    snprintf(path, sizeof path, "/proc/%d/schedstat", process);
     FILE *file = fopen(path, "re");
-    int count = file ? fscanf(file, format, &first, &second) : 0;
+    bool is_read = file && fscanf(file, "%*u %llu", &delay) == 1;
     if (file) {
         fclose(file);
     }
-    return count == 2 && first > second ? first - second : count == 1 ? first : 0;
+    return is_read ? delay : 0;
 }
 
 uint64_t engine_delay(struct engine *it) {
-    uint64_t now = read_number(it->process, "schedstat", "%*u %llu"), before = it->delay;
+    uint64_t now = read_delay(it->process), before = it->delay;
     it->delay = now;
     return now > before ? now - before : 0;
-}
-
-uint64_t engine_memory(const struct engine *it) {
-    return read_number(it->process, "statm", "%*u %llu %llu") * PAGE_BYTES;
 }
 
 /* ---- The engines' program */
@@ -74,9 +70,9 @@ static void on_child(int number) {
 }
 
 /* It gets no environment, and no descriptor that it keeps but its socket. */
-void engines_begin(bool counts_instructions) {
+void engines_begin(void) {
     static char program[4096];
-    char *words[] = {program, counts_instructions ? "counts" : NULL, NULL}, *none[] = {NULL};
+    char *words[] = {program, NULL}, *none[] = {NULL};
     struct sigaction action = {.sa_handler = on_child};
     posix_spawn_file_actions_t actions;
     int pair[2];
@@ -158,9 +154,9 @@ static const char *gave_up(struct engine *it) {
     static char why[64];
     int status = engine_close(it);
     if (WIFSIGNALED(status)) {
-        snprintf(why, sizeof why, "the emulator gave up, by signal %d", WTERMSIG(status));
+        snprintf(why, sizeof why, "the engine gave up, by signal %d", WTERMSIG(status));
     } else {
-        snprintf(why, sizeof why, "the emulator gave up, with status %d", WEXITSTATUS(status));
+        snprintf(why, sizeof why, "the engine gave up, with status %d", WEXITSTATUS(status));
     }
     return why;
 }
@@ -177,7 +173,6 @@ static bool order(struct engine *it) {
     if (it->next.out_count) {
         memcpy(to->outs, it->outs, it->next.out_count * sizeof *it->outs);
     }
-    it->since = it->next.instructions == UNCOUNTED ? 0 : nanoseconds(CLOCK_MONOTONIC);
     to->order = it->next;
     it->next = (struct order){.kind = ORDER_RUN};
     channel_pass(to, HELD_BY_ENGINE);
@@ -189,7 +184,7 @@ static bool has_ended(const struct engine *it) {
     return waitid(P_PID, (id_t)it->process, &ended, WEXITED | WNOHANG | WNOWAIT) == 0 && ended.si_pid == it->process;
 }
 
-/* It does nothing until it is continued, also if it was taken over. One that obeys then reports before its next block. */
+/* It does nothing until it is continued, also if it was taken over. One that obeys then reports before its tenant goes on. */
 static void stop(struct engine *it) {
     siginfo_t stopped;
     kill(it->process, SIGPROF);
@@ -228,7 +223,7 @@ const char *engine_run(struct engine *it, uint64_t until, struct report *report)
     const char *why = await_report(it, until, report);
     if (!why && !it->is_waited_for && (report->kind >= REPORTS || (report->kind == REPORT_ACCESS && report->access >= ACCESSES))) {
         engine_close(it);
-        why = "the emulator's report makes no sense";
+        why = "the engine's report makes no sense";
     }
     it->is_at_rest = !why && has_registers(report);
     return why;

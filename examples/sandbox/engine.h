@@ -1,4 +1,4 @@
-/* A tenant's processor: a confined process of its own that runs an emulator. This is the kernel's side of it. Nothing that
+/* A tenant's processor: a confined process of its own that runs its code. This is the kernel's side of it. Nothing that
  * comes from there is believed but for its own tenant. */
 #pragma once
 
@@ -17,7 +17,6 @@ struct engine {
     pid_t process; /* 0: it isn't open */
     int socket;
     struct channel *channel;
-    uint64_t since;     /* when it got its order, if it counts instructions */
     uint32_t looks;     /* for a report, before the kernel sleeps */
     bool is_waited_for; /* it has an order, and is stopped: no report came in time */
     bool was_slow;      /* the kernel slept until its last report */
@@ -30,12 +29,11 @@ struct engine {
     struct given given[MOST_PAGES];
     uint32_t given_count;
     uint64_t time, owed; /* processor time that it had used at the last look, and what wasn't asked for yet */
-    uint64_t unlooked;   /* the part of it since its memory was looked at */
     uint64_t delay;      /* for which it had waited for a processor of the host's, at the last look */
 };
 
-/* Begins the engines' program, which then opens an emulator. Once, before any engine. */
-void engines_begin(bool counts_instructions);
+/* Begins the engines' program. Once, before any engine. */
+void engines_begin(void);
 /* Ends it, after all engines. */
 void engines_end(void);
 /* Makes an engine with these registers, which the kernel of the host ends after that much processor time. False if the host
@@ -58,7 +56,5 @@ struct registers engine_registers(const struct engine *it);
 uint64_t engine_time(struct engine *it);
 /* For how long it waited since this was asked last while it could have run. */
 uint64_t engine_delay(struct engine *it);
-/* The host's memory that is its own, in bytes. */
-uint64_t engine_memory(const struct engine *it);
 /* A clock, in nanoseconds. */
 uint64_t nanoseconds(clockid_t clock);

@@ -2,6 +2,7 @@
 #include "frames.h"
 
 #include <fcntl.h>
+#include <stdio.h>
 #include <string.h>
 #include <sys/mman.h>
 #include <sys/resource.h>
@@ -13,9 +14,8 @@
 enum { NO_FILE = 0, ZEROS = 0 }; /* a lazy page is on the frame of zeros, which no event changes */
 
 static struct {
-    int file;
-    bool is_sealed; /* nobody can write by what is opened or mapped from now on */
-    uint32_t count; /* how many pages of engines are on the file */
+    int file, read_only; /* the second is for those that may not write: another descriptor of the file, once one is needed */
+    uint32_t count;      /* how many pages of engines are on the file */
 } frames[TOWER_MAX_FRAMES];
 
 void frames_begin(uint32_t count) {
@@ -23,7 +23,7 @@ void frames_begin(uint32_t count) {
     struct rlimit most;
     need(getrlimit(RLIMIT_NOFILE, &most) == 0, "a limit of descriptors");
     most.rlim_cur = most.rlim_max;
-    if (most.rlim_max < count + OTHERS || setrlimit(RLIMIT_NOFILE, &most) != 0) {
+    if (most.rlim_max < 2 * count + OTHERS || setrlimit(RLIMIT_NOFILE, &most) != 0) {
         fail("a process may open too few files (ulimit -Hn) for so many frames", "--frames");
     }
 }
@@ -46,13 +46,6 @@ static void tell_out(struct engine *it, struct given *which) {
     }
     which->is_in = false;
     it->next.has_page = it->next.has_page && it->next.page != which->page;
-}
-
-void frames_out(uint32_t pid, uint32_t page, bool only_if_written) {
-    struct given *found = find(&kernel.engines[pid], page);
-    if (found && (found->write || !only_if_written)) {
-        tell_out(&kernel.engines[pid], found);
-    }
 }
 
 static void forget(struct engine *it, struct given *which) {
@@ -83,7 +76,9 @@ static void replace(uint32_t frame, int file) {
     int old = frames[frame].file;
     move(frame, file);
     need(old == NO_FILE || (ftruncate(old, 0) == 0 && close(old) == 0), "a file is emptied");
+    need(frames[frame].read_only == NO_FILE || close(frames[frame].read_only) == 0, "a file is closed");
     frames[frame].file = file;
+    frames[frame].read_only = NO_FILE;
     for (uint32_t pid = 0; frames[frame].count && pid < TOWER_PROCESSES; pid++) {
         struct engine *it = &kernel.engines[pid];
         for (uint32_t i = it->given_count; i-- > 0;) {
@@ -106,15 +101,25 @@ void frames_revoke(uint32_t pid, uint32_t page, uint32_t frame) {
     }
 }
 
-void frames_show(uint32_t pid, uint32_t page, uint32_t frame, bool may, bool write) {
-    struct engine *it = &kernel.engines[pid];
-    if (frames[frame].file == NO_FILE || frames[frame].is_sealed == may) {
-        int file = memfd_create("frame", MFD_CLOEXEC | MFD_ALLOW_SEALING);
+/* Nothing that is mapped by a descriptor for reading can be written, and an engine can't open another. */
+static int file_of(uint32_t frame, bool may) {
+    if (frames[frame].file == NO_FILE) {
+        int file = memfd_create("frame", MFD_CLOEXEC);
         need(file >= 0 && ftruncate(file, PAGE_BYTES) == 0, "there is a file for a frame");
         replace(frame, file);
-        need(may || fcntl(file, F_ADD_SEALS, F_SEAL_FUTURE_WRITE) == 0, "a file is sealed");
-        frames[frame].is_sealed = !may;
     }
+    if (!may && frames[frame].read_only == NO_FILE) {
+        char path[32];
+        snprintf(path, sizeof path, "/proc/self/fd/%d", frames[frame].file);
+        frames[frame].read_only = open(path, O_RDONLY | O_CLOEXEC);
+        need(frames[frame].read_only > 0, "a file is opened for reading");
+    }
+    return may ? frames[frame].file : frames[frame].read_only;
+}
+
+void frames_show(uint32_t pid, uint32_t page, uint32_t frame, bool may, bool write) {
+    struct engine *it = &kernel.engines[pid];
+    int file = file_of(frame, may);
     struct given *before = find(it, page);
     if (before) {
         need(before->frame == frame || before->frame == ZEROS, "a page stays on its frame until it is taken back");
@@ -123,7 +128,7 @@ void frames_show(uint32_t pid, uint32_t page, uint32_t frame, bool may, bool wri
     need(it->given_count < MOST_PAGES && !it->next.has_page, "an engine has no more pages than the core has frames");
     it->given[it->given_count++] = (struct given){page, frame, write, true};
     frames[frame].count++;
-    it->file = frames[frame].file;
+    it->file = file;
     it->next.page = page;
     it->next.write = write;
     it->next.has_page = true;

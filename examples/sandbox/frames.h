@@ -9,9 +9,6 @@ void frames_begin(uint32_t frames);
 /* The page of a process's engine is on this frame from its next order on. If it `may` not be written, no process of the host
  * can write there by what it has got. Otherwise the engine is trusted to write only once `write` is true. */
 void frames_show(uint32_t pid, uint32_t page, uint32_t frame, bool may, bool write);
-/* The engine is told to take the page out, with what it translated of it, if it has it, or if it may write there. The process
- * still may have it. */
-void frames_out(uint32_t pid, uint32_t page, bool only_if_written);
 /* The process may not have the page any more, which was on that frame, or was lazy (0): what any process has got of it leads
  * nowhere from now on. */
 void frames_revoke(uint32_t pid, uint32_t page, uint32_t frame);

@@ -59,18 +59,6 @@ static void invalidate(const struct tower_ended *ended, uint32_t frame) {
     }
 }
 
-/* An emulator drops what it translated only at stores that it makes itself, through the same page. So one page of a frame
- * may be written in engines, and then no other page of it is in any; or several are, and none may be written. */
-static void take_from_others(uint32_t pid, uint32_t page, bool write) {
-    for (uint32_t other = 0; other < TOWER_PROCESSES; other++) {
-        uint32_t at = 0, from = 0;
-        while (engine_is_open(&kernel.engines[other]) && tower_next_holder(&kernel.core, pid, page, other, from, &at)) {
-            frames_out(other, at, !write);
-            from = at + 1;
-        }
-    }
-}
-
 /* ---- Events */
 
 struct tower_reply kernel_event(struct tower_event event) {
@@ -80,11 +68,6 @@ struct tower_reply kernel_event(struct tower_event event) {
     need(tower_step_ending(&kernel.core, &event, &reply, &ended), "a core replies");
     kernel.events++;
     invalidate(&ended, frame);
-    bool is_stored = event.call == TOWER_STORE && reply.kind == TOWER_DONE; /* by the core, in at most two pages */
-    for (uint32_t page = event.first >> 12; is_stored && page <= (event.first + event.flag - 1) >> 12; page++) {
-        frames_out(event.pid, page, false);
-        take_from_others(event.pid, page, true);
-    }
     return reply;
 }
 
@@ -97,9 +80,6 @@ static void fill(uint32_t pid, uint32_t page) {
     need(is_found, "a walk finds the page of an access");
     need(tower_next_page(&kernel.core, pid, page, &at, &found) && at == page, "the page of an access is mapped");
     bool may = found.write && !found.lazy, write = may && found.dirty;
-    if (found.holders > 1) {
-        take_from_others(pid, page, write);
-    }
     frames_show(pid, page, walk.frame, may, write);
 }
 

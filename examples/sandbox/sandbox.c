@@ -1,4 +1,4 @@
-/* Runs programs for 32-bit x86 as tenants: the core has their memory, an engine of Unicorn each is their processor.
+/* Runs programs for 32-bit x86 as tenants: the core has their memory, an engine each runs their code.
  *
  *     sandbox [options] [NAME=]PROGRAM[:ARGUMENT]...
  */
@@ -22,8 +22,8 @@ static const char usage[] =
     "--frames N   the core's frames, 16 to 4096: 4096 by default\n"
     "--quota N    the quota of each program after it, in frames, 1 to 4096: 64 by default\n"
     "--seconds N  a program after it, or any of --load, is ended after that processor time: 1 to 1000000, 10 by default\n"
-    "--turn N     turns of N instructions, which are then counted one by one\n"
-    "--after N    stops all tenants once N instructions are executed\n"
+    "--turn N     turns of N steps, each a call or a page fault\n"
+    "--after N    stops all tenants once N steps are made\n"
     "--engines N  how many engines are open at a time, 1 to 63: 32 by default\n"
     "--save FILE  if tenants are left at that stop, or at SIGINT or SIGTERM, stores them\n"
     "--load FILE  resumes what --save stored\n"
@@ -138,7 +138,7 @@ static void open_terminal(void) {
     close(file);
 }
 
-/* The core's memory is still sound, although the emulators wrote there. */
+/* The core's memory is still sound, although the engines wrote there. */
 static void check(void) {
     struct tower_verdict verdict;
     need(tower_check(&kernel.core, &verdict) == TOWER_SOUND, "the core is sound at the end");

@@ -14,7 +14,7 @@
 #include "tenants.h"
 #include "tower_region_images.h"
 
-enum { VERSION = 3, MOST_FRONT = TOWER_FRONT_LENGTH(TOWER_PROCESSES * TOWER_OFFERS) };
+enum { VERSION = 4, MOST_FRONT = TOWER_FRONT_LENGTH(TOWER_PROCESSES * TOWER_OFFERS) };
 enum { MOST_IMAGE = MOST_FRONT + TOWER_RECORD_BYTES * TOWER_MAX_FRAMES };
 
 /* The file: this, the records in the order of the queue, and the core's image of version 3, which has the offers. */
@@ -110,7 +110,7 @@ static uint32_t take_head(FILE *file) {
     struct head head;
     take(file, &head, sizeof head);
     must(memcmp(head.magic, EMPTY.magic, sizeof head.magic) == 0, "it begins with something else");
-    must(head.version == VERSION && head.record_bytes == EMPTY.record_bytes, "it is of another version");
+    must(head.version == EMPTY.version && head.record_bytes == EMPTY.record_bytes, "it is of another version");
     must(head.tenants <= TOWER_PROCESSES, "it has too many tenants");
     return head.tenants;
 }

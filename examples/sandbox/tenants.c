@@ -13,8 +13,6 @@
 enum { MOST_WHY = 128 };
 /* By the clock a turn ends after so long. Its family pays for what neither of both processes worked of it, if that is more. */
 static const uint64_t MOST_TURN = 200000000, FREE_SLEEP = 1000000;
-/* An engine whose process takes more memory is closed; it is looked at after so much of its time. */
-enum { MOST_MEMORY = 64 << 20, LOOK_AFTER = 50000000 };
 
 struct tenant tenants[TOWER_PROCESSES];
 struct queue queue;
@@ -22,10 +20,10 @@ struct limits limits = {.engines = 32};
 
 static struct {
     uint64_t worked, clock;       /* when it began: the kernel's processor time, and the clock */
-    uint64_t instructions, until; /* it ends at that number of them, and at that time */
+    uint64_t steps, until;        /* it ends at that number of them, and at that time */
     bool is_over;
 } turn;
-static uint64_t executed;
+static uint64_t steps;
 static volatile sig_atomic_t is_stopping;
 static unsigned long long turns, calls, faults, engines;
 
@@ -161,7 +159,7 @@ static const char *on_report(uint32_t pid, const struct report *report) {
     } else if (report->kind == REPORT_CALL) {
         on_call(pid, &report->words);
     } else {
-        turn.is_over |= report->kind == REPORT_LATE || !limits.turn || executed >= turn.instructions || is_stopping;
+        turn.is_over |= report->kind == REPORT_LATE || !limits.turn || steps >= turn.steps || is_stopping;
     }
     return NULL;
 }
@@ -170,26 +168,26 @@ static const char *on_report(uint32_t pid, const struct report *report) {
 
 /* A turn of instructions ends by the clock, too: once each took a microsecond, or all that its family has left. */
 static void begin_turn(uint32_t pid) {
-    uint64_t left = limits.after ? limits.after - executed : INT64_MAX, most = time_left(pid);
+    uint64_t left = limits.after ? limits.after - steps : INT64_MAX, most = time_left(pid);
     uint64_t length = limits.turn && limits.turn < left ? limits.turn : left;
     turns++;
     turn.is_over = false;
     turn.worked = nanoseconds(CLOCK_PROCESS_CPUTIME_ID);
     turn.clock = nanoseconds(CLOCK_MONOTONIC);
-    turn.instructions = executed + length;
+    turn.steps = steps + length;
     turn.until = turn.clock + MOST_TURN + (!limits.turn ? 0 : length < most / 1000 ? length * 1000 : most);
 }
 
-/* An engine counts its tenant's instructions itself: at most one in four nanoseconds is believed. */
+/* A step is a call or a page fault. */
+static bool is_step(const struct report *report) {
+    return report->kind == REPORT_CALL || report->kind == REPORT_ACCESS;
+}
+
 static const char *run_to_report(uint32_t pid, struct report *report) {
     struct engine *it = &kernel.engines[pid];
-    uint64_t left = turn.instructions - executed;
-    it->next.instructions = limits.turn || limits.after ? left : UNCOUNTED;
+    it->next.steps = limits.turn || limits.after ? turn.steps - steps : UNCOUNTED;
     const char *why = engine_run(it, turn.until, report);
-    if (!why && it->since) {
-        uint64_t passed = nanoseconds(CLOCK_MONOTONIC) - it->since, most = left < passed / 4 ? left : passed / 4;
-        executed += report->executed < most ? report->executed : most;
-    }
+    steps += !why && is_step(report) && steps < turn.steps;
     return why ? why : on_report(pid, report);
 }
 
@@ -206,7 +204,7 @@ static const char *run(uint32_t pid) {
         turn.is_over |= (i % LOOK_EACH == 0 || it->was_slow) && nanoseconds(CLOCK_MONOTONIC) > turn.until;
     }
     it->restless = it->is_at_rest ? 0 : it->restless + 1;
-    return why || it->restless < MOST_RESTLESS ? why : "the emulator doesn't end its turn";
+    return why || it->restless < MOST_RESTLESS ? why : "the engine doesn't end its turn";
 }
 
 /* The family pays for its engines, and for what the kernel does for it. It pays as well for the time in which neither of both
@@ -218,7 +216,6 @@ static void pay(uint32_t pid) {
     uint64_t passed = nanoseconds(CLOCK_MONOTONIC) - turn.clock, used = engine_time(it);
     uint64_t all = used + nanoseconds(CLOCK_PROCESS_CPUTIME_ID) - turn.worked;
     family->spent += all;
-    it->unlooked += used;
     if (passed > all + FREE_SLEEP) {
         own.process = getpid();
         all += engine_delay(it) + engine_delay(&own);
@@ -228,7 +225,6 @@ static void pay(uint32_t pid) {
 
 static void take_turn(uint32_t pid) {
     char line[MOST_WHY + 16];
-    struct engine *it = &kernel.engines[pid];
     leave_queue(pid);
     begin_turn(pid);
     const char *why = run(pid);
@@ -241,12 +237,6 @@ static void take_turn(uint32_t pid) {
     } else if (tenants[pid].runs) {
         enter_queue(pid);
     }
-    if (it->unlooked > LOOK_AFTER && engine_is_open(it)) {
-        it->unlooked = 0;
-        if (engine_memory(it) > MOST_MEMORY) {
-            park(pid);
-        }
-    }
 }
 
 static void on_stop(int number) {
@@ -256,9 +246,9 @@ static void on_stop(int number) {
 
 bool tenants_run(void) {
     struct sigaction action = {.sa_handler = on_stop, .sa_flags = SA_RESTART};
-    engines_begin(limits.turn || limits.after);
+    engines_begin();
     need(sigaction(SIGINT, &action, NULL) == 0 && sigaction(SIGTERM, &action, NULL) == 0, "a signal's handler");
-    while (queue.count && !is_stopping && (!limits.after || executed < limits.after)) {
+    while (queue.count && !is_stopping && (!limits.after || steps < limits.after)) {
         take_turn(queue.pids[0]);
     }
     return queue.count > 0;
@@ -279,6 +269,6 @@ void print_counts(void) {
     need(getrusage(RUSAGE_CHILDREN, &used) == 0, "the engines' time is known");
     double all = 1e-9 * (double)nanoseconds(CLOCK_PROCESS_CPUTIME_ID) + (double)(used.ru_utime.tv_sec + used.ru_stime.tv_sec) +
                  1e-6 * (double)(used.ru_utime.tv_usec + used.ru_stime.tv_usec);
-    fprintf(stderr, "%.3f s; %llu turns, %llu calls, %llu page faults, %llu events, %llu engines, %llu instructions counted\n", all,
-            turns, calls, faults, (unsigned long long)kernel.events, engines, (unsigned long long)executed);
+    fprintf(stderr, "%.3f s; %llu turns, %llu calls, %llu page faults, %llu events, %llu engines, %llu steps counted\n", all,
+            turns, calls, faults, (unsigned long long)kernel.events, engines, (unsigned long long)steps);
 }

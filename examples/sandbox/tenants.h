@@ -28,8 +28,8 @@ struct queue {
 extern struct queue queue;
 
 struct limits {
-    uint64_t turn;    /* instructions of a turn; 0: turns end by time */
-    uint64_t after;   /* all tenants stop once so many instructions are executed; 0: they don't */
+    uint64_t turn;    /* steps of a turn; 0: turns end by time */
+    uint64_t after;   /* all tenants stop once so many steps are made; 0: they don't */
     uint64_t engines; /* that are open at a time */
 };
 extern struct limits limits;

@@ -9,6 +9,7 @@
 #include <signal.h>
 #include <stddef.h>
 #include <stdio.h>
+#include <sys/mman.h>
 #include <sys/prctl.h>
 #include <sys/resource.h>
 #include <sys/syscall.h>
@@ -37,10 +38,9 @@ static void limit(int which, uint64_t most) {
     need(setrlimit(which, &both) == 0, "a limit is set");
 }
 
-/* The emulator's own memory grows with what it translates: the kernel ends an engine before this limit does. Also root's
- * processes have no rights then. */
+/* An engine needs no more memory than at its start. Also root's processes have no rights then. */
 void confine_all(void) {
-    enum { MORE = 256 << 20, FILES = 16 };
+    enum { MORE = 1 << 20, FILES = 16 };
     struct __user_cap_header_struct header = {_LINUX_CAPABILITY_VERSION_3, 0};
     const struct __user_cap_data_struct none[2] = {{0, 0, 0}, {0, 0, 0}};
     unsigned long pages = 0;
@@ -56,26 +56,54 @@ void confine_all(void) {
     need(prctl(PR_SET_NO_NEW_PRIVS, 1, 0, 0, 0) == 0, "no program gives this process more rights");
 }
 
-/* All that the emulator and the C library do is memory of their own, its size, and the time; the rest is for the channel, the
- * ticks and the end. Any other call, also one by another table of calls, kills the process. */
-static const uint32_t calls[] = {
-    SYS_futex, SYS_recvmsg, SYS_close, SYS_mmap, SYS_munmap, SYS_mremap, SYS_mprotect, SYS_brk, SYS_sysinfo,
-    SYS_clock_gettime, SYS_gettimeofday, SYS_getrandom, SYS_rt_sigreturn, SYS_rt_sigprocmask, SYS_exit_group,
-};
-enum { CALLS = sizeof calls / sizeof *calls, BEFORE = 4 };
+/* ---- System calls */
+
+/* They are for the channel and its pages, the return from signals, and the end. Any other kills the process. */
+static const uint32_t calls[] = {SYS_rt_sigreturn, SYS_futex, SYS_mmap, SYS_recvmsg, SYS_close, SYS_exit_group};
+
+static struct sock_filter filter[64];
+static unsigned short length;
+
+static void add(struct sock_filter instruction) {
+    need(length < sizeof filter / sizeof *filter, "a filter is short");
+    filter[length++] = instruction;
+}
+
+static void load(size_t from) {
+    add((struct sock_filter)BPF_STMT(BPF_LD | BPF_W | BPF_ABS, (uint32_t)from));
+}
+
+/* The next one is skipped unless the word is that one. */
+static void unless(uint32_t word) {
+    add((struct sock_filter)BPF_JUMP(BPF_JMP | BPF_JEQ | BPF_K, word, 0, 1));
+}
+
+static void end(uint32_t action) {
+    add((struct sock_filter)BPF_STMT(BPF_RET | BPF_K, action));
+}
+
+/* Of mmap: what has rights is a file's, and is shared with it. */
+static void forbid_new_memory(void) {
+    load(offsetof(struct seccomp_data, nr));
+    add((struct sock_filter)BPF_JUMP(BPF_JMP | BPF_JEQ | BPF_K, SYS_mmap, 0, 5));
+    load(offsetof(struct seccomp_data, args[2]));
+    add((struct sock_filter)BPF_JUMP(BPF_JMP | BPF_JEQ | BPF_K, PROT_NONE, 3, 0));
+    load(offsetof(struct seccomp_data, args[3]));
+    add((struct sock_filter)BPF_JUMP(BPF_JMP | BPF_JSET | BPF_K, MAP_ANONYMOUS | MAP_PRIVATE, 0, 1));
+    end(SECCOMP_RET_KILL_PROCESS);
+}
 
 void confine(void) {
-    struct sock_filter filter[BEFORE + CALLS + 2] = {
-        BPF_STMT(BPF_LD | BPF_W | BPF_ABS, offsetof(struct seccomp_data, arch)),
-        BPF_JUMP(BPF_JMP | BPF_JEQ | BPF_K, AUDIT_ARCH_X86_64, 1, 0),
-        BPF_STMT(BPF_RET | BPF_K, SECCOMP_RET_KILL_PROCESS),
-        BPF_STMT(BPF_LD | BPF_W | BPF_ABS, offsetof(struct seccomp_data, nr)),
-    };
-    for (uint32_t i = 0; i < CALLS; i++) {
-        filter[BEFORE + i] = (struct sock_filter)BPF_JUMP(BPF_JMP | BPF_JEQ | BPF_K, calls[i], (uint8_t)(CALLS - i), 0);
+    load(offsetof(struct seccomp_data, arch));
+    add((struct sock_filter)BPF_JUMP(BPF_JMP | BPF_JEQ | BPF_K, AUDIT_ARCH_X86_64, 1, 0));
+    end(SECCOMP_RET_TRAP); /* a tenant's call */
+    forbid_new_memory();
+    load(offsetof(struct seccomp_data, nr));
+    for (size_t i = 0; i < sizeof calls / sizeof *calls; i++) {
+        unless(calls[i]);
+        end(SECCOMP_RET_ALLOW);
     }
-    filter[BEFORE + CALLS] = (struct sock_filter)BPF_STMT(BPF_RET | BPF_K, SECCOMP_RET_KILL_PROCESS);
-    filter[BEFORE + CALLS + 1] = (struct sock_filter)BPF_STMT(BPF_RET | BPF_K, SECCOMP_RET_ALLOW);
-    const struct sock_fprog program = {sizeof filter / sizeof *filter, filter};
+    end(SECCOMP_RET_KILL_PROCESS);
+    const struct sock_fprog program = {length, filter};
     need(prctl(PR_SET_SECCOMP, SECCOMP_MODE_FILTER, &program) == 0, "the host filters system calls");
 }

@@ -7,5 +7,5 @@
 void confine_first(pid_t kernel);
 /* It has no rights and little memory more than now. All engines inherit that. */
 void confine_all(void);
-/* It has few system calls. */
+/* It has few system calls, and those of the i386 table are signals. */
 void confine(void);

@@ -1,4 +1,4 @@
-/* The engines' program. Its first process is a fork server: it opens an emulator, and has no tenant. Each engine is a copy of
+/* The engines' program. Its first process is a fork server: it opens a processor, and has no tenant. Each engine is a copy of
  * it, which the kernel's process requests. */
 #define _GNU_SOURCE
 #include <sched.h>
@@ -9,16 +9,14 @@
 
 #include "../need.h"
 #include "confine.h"
+#include "processor.h"
 #include "serve.h"
 
-/* With an argument instructions are counted. */
-int main(int count, char **words) {
-    static struct processor processor;
+int main(void) {
     pid_t kernel = getppid(), engine;
-    (void)words;
     confine_first(kernel);
     signal(SIGPROF, SIG_IGN); /* until an engine counts its ticks */
-    processor_open(&processor, count > 1);
+    processor_open();
     confine_all();
     for (int socket; (socket = file_take(SOCKET)) >= 0; close(socket)) {
         /* a child of the kernel's process, and not of this one */
@@ -26,7 +24,7 @@ int main(int count, char **words) {
         if (engine == 0) {
             need(dup2(socket, SOCKET) == SOCKET, "an engine has its own socket");
             confine_first(kernel);
-            serve(&processor);
+            serve();
         }
         need(send(SOCKET, &engine, sizeof engine, MSG_NOSIGNAL) == sizeof engine, "the kernel is there");
     }

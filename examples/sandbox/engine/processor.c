@@ -1,202 +1,289 @@
+#define _GNU_SOURCE
 #include "processor.h"
 
+#include <signal.h>
+#include <string.h>
+#include <sys/auxv.h>
+#include <sys/mman.h>
+#include <sys/prctl.h>
+#include <ucontext.h>
+
 #include "../need.h"
+#include "gate.h"
 #include "serve.h"
-#include "window.h"
 
-static struct processor *running; /* for what Unicorn's hooks say */
+enum { CODE_32 = 0x23, DATA_32 = 0x2b }; /* Linux's selectors of segments of 4 GiB in user mode */
+enum { TRAP_PROTECTION = 13, TRAP_PAGE = 14 };
+enum { ERROR_WRITE = 2, ERROR_FETCH = 16, ERROR_KEY = 32, ERROR_INT_80 = 0x80 << 3 | 2 };
 
-void need_uc(uc_err error, const char *what) {
-    if (error != UC_ERR_OK) {
-        need(false, what);
-    }
+static uint64_t own_base; /* of FS, by which the C library finds what is a thread's */
+static uint8_t stack[1 << 16] __attribute__((aligned(64)));
+/* A signal of this process's own: the tenant begins, or leaves the gate after its call or for it. */
+static enum { STOP_NONE, STOP_BEGIN, STOP_GATE, STOP_CALL } stop;
+static struct registers *begin;
+static volatile sig_atomic_t is_late; /* the turn was over while the tenant was behind the gate */
+/* The tenant's registers, in the frame of the signal that stopped it; those of the x87, SSE and AVX as XSAVE writes them. */
+static greg_t *general;
+static uint8_t *extended;
+
+/* ---- Memory */
+
+static const uint64_t LOWEST = 0x10000, END = (uint64_t)1 << 32; /* Linux maps nothing below unless it is asked to */
+
+static void clear(uint64_t from, uint64_t bytes, int flags) {
+    void *at = (void *)(uintptr_t)from;
+    flags |= MAP_PRIVATE | MAP_ANONYMOUS | MAP_NORESERVE;
+    need(mmap(at, bytes, PROT_NONE, flags, -1, 0) == at, "32-bit addresses are the tenant's");
+}
+
+void processor_show(uint32_t page, int file, bool write) {
+    void *to = (void *)((uintptr_t)page * PAGE_BYTES);
+    int rights = PROT_READ | PROT_EXEC | (write ? PROT_WRITE : 0);
+    need(mmap(to, PAGE_BYTES, rights, MAP_SHARED | MAP_FIXED | MAP_POPULATE, file, 0) == to, "a frame is shown");
+}
+
+void processor_hide(uint32_t page) {
+    clear((uint64_t)page * PAGE_BYTES, PAGE_BYTES, MAP_FIXED);
 }
 
 /* ---- Registers */
 
-static void get(const struct processor *it, int name, void *to) {
-    need_uc(uc_reg_read(it->uc, name, to), "a register is read");
-}
-
-static void set(struct processor *it, int name, const void *from) {
-    need_uc(uc_reg_write(it->uc, name, from), "a register is written");
-}
-
 enum { USER_FLAGS = 0x240cd5, FIXED_FLAGS = 0x202 }; /* of the flags a program in user mode can change only the first */
-#define PLACES(it) \
-    &it->general[0], &it->general[1], &it->general[2], &it->general[3], &it->general[4], &it->general[5], &it->general[6], \
-        &it->general[7], &it->eip, &it->eflags, &it->mxcsr, &it->control, &it->status, &it->tags, &it->segments[0], \
-        &it->segments[1], &it->segments[2], &it->segments[3]
-static int names[] = {UC_X86_REG_EAX, UC_X86_REG_ECX, UC_X86_REG_EDX, UC_X86_REG_EBX, UC_X86_REG_ESP, UC_X86_REG_EBP,
-                      UC_X86_REG_ESI, UC_X86_REG_EDI, UC_X86_REG_EIP, UC_X86_REG_EFLAGS, UC_X86_REG_MXCSR, UC_X86_REG_FPCW,
-                      UC_X86_REG_FPSW, UC_X86_REG_FPTAG, UC_X86_REG_DS, UC_X86_REG_ES, UC_X86_REG_FS, UC_X86_REG_GS};
-enum { NAMES = sizeof names / sizeof *names, SEGMENTS = 4 };
+static const int names[] = {REG_RAX, REG_RCX, REG_RDX, REG_RBX, REG_RSP, REG_RBP, REG_RSI, REG_RDI};
 
-void processor_registers(const struct processor *it, struct registers *to) {
-    void *places[] = {PLACES(to)};
-    need_uc(uc_reg_read_batch(it->uc, names, places, NAMES), "registers are read");
-    for (int i = 0; i < 8; i++) {
-        get(it, UC_X86_REG_FP0 + i, to->x87[i]);
-        get(it, UC_X86_REG_XMM0 + i, to->xmm[i]);
-    }
+/* What Linux adds to the area of XSAVE is in bytes that no register has: its length, too. */
+enum { LINUX_FROM = 464, LINUX_LENGTH = LINUX_FROM + 16, HEADER = 512, MXCSR = 24 };
+
+static uint32_t extended_bytes(void) {
+    uint32_t bytes;
+    memcpy(&bytes, extended + LINUX_LENGTH, sizeof bytes);
+    need(bytes > HEADER && bytes <= MOST_EXTENDED, "the registers of XSAVE have a place");
+    return bytes;
 }
 
-void processor_set_registers(struct processor *it, struct registers *from) {
-    void *const places[] = {PLACES(from)};
-    from->eflags = (from->eflags & USER_FLAGS) | FIXED_FLAGS;
+static void copy_extended(uint8_t *to, const uint8_t *from, uint32_t bytes) {
+    memcpy(to, from, LINUX_FROM);
+    memcpy(to + HEADER, from + HEADER, bytes - HEADER);
+}
+
+/* As a program begins: a header without a component means that all of them are as after a reset. */
+static void reset_extended(void) {
+    const uint32_t mxcsr = 0x1f80;
+    memset(extended + HEADER, 0, 64);
+    memcpy(extended + MXCSR, &mxcsr, sizeof mxcsr);
+}
+
+/* DS, ES, FS and GS are no part of the frame: they are still the tenant's. */
+static void get_segments(uint16_t *to) {
+    __asm__ volatile("mov %%ds, %0" : "=r"(to[0]));
+    __asm__ volatile("mov %%es, %0" : "=r"(to[1]));
+    __asm__ volatile("mov %%fs, %0" : "=r"(to[2]));
+    __asm__ volatile("mov %%gs, %0" : "=r"(to[3]));
+}
+
+void processor_registers(struct registers *to) {
     for (int i = 0; i < 8; i++) {
-        set(it, UC_X86_REG_FP0 + i, from->x87[i]);
-        set(it, UC_X86_REG_XMM0 + i, from->xmm[i]);
+        to->general[i] = (uint32_t)general[names[i]];
     }
-    need_uc(uc_reg_write_batch(it->uc, names, places, NAMES - SEGMENTS), "registers are written");
-    for (int i = 0; i < SEGMENTS; i++) {
-        if (!from->segments[i]) {
-            set(it, names[NAMES - SEGMENTS + i], &from->segments[i]);
+    to->eip = (uint32_t)general[REG_RIP];
+    to->eflags = (uint32_t)general[REG_EFL];
+    get_segments(to->segments);
+    to->extended_bytes = extended_bytes();
+    copy_extended(to->extended, extended, to->extended_bytes);
+}
+
+/* The registers may be anybody's: Linux checks those of XSAVE when the handler returns. Returns FS's selector. */
+static uint16_t set_registers(const struct registers *from) {
+    uint16_t segments[4];
+    for (int i = 0; i < 8; i++) {
+        general[names[i]] = from->general[i];
+    }
+    general[REG_RIP] = from->eip;
+    general[REG_EFL] = (from->eflags & USER_FLAGS) | FIXED_FLAGS;
+    general[REG_CSGSFS] = CODE_32 | (greg_t)DATA_32 << 48; /* its last word is SS */
+    for (int i = 0; i < 4; i++) {
+        segments[i] = from->segments[i] ? DATA_32 : 0;
+    }
+    __asm__ volatile("mov %0, %%ds; mov %1, %%es; mov %2, %%gs" : : "r"(segments[0]), "r"(segments[1]), "r"(segments[3]));
+    if (from->extended_bytes) {
+        if (from->extended_bytes != extended_bytes()) {
+            serve_end("its registers are another processor's", 0);
         }
+        copy_extended(extended, from->extended, from->extended_bytes);
+    } else {
+        reset_extended();
     }
+    return segments[2];
 }
 
-uint32_t processor_eip(const struct processor *it) {
-    uint32_t eip = 0;
-    get(it, UC_X86_REG_EIP, &eip);
-    return eip;
+/* ---- What stopped the tenant */
+
+static uint32_t eip(void) {
+    return (uint32_t)general[REG_RIP];
 }
 
-static int names_of_call[] = {UC_X86_REG_EAX, UC_X86_REG_EBX, UC_X86_REG_ECX, UC_X86_REG_EDX, UC_X86_REG_ESI};
-
-struct words processor_words(const struct processor *it) {
-    struct words words;
-    void *places[] = {&words.eax, &words.ebx, &words.ecx, &words.edx, &words.esi};
-    need_uc(uc_reg_read_batch(it->uc, names_of_call, places, 5), "registers are read");
-    return words;
+static void on_call(void) {
+    struct words words = {(uint32_t)general[REG_RAX], (uint32_t)general[REG_RBX], (uint32_t)general[REG_RCX],
+                          (uint32_t)general[REG_RDX], (uint32_t)general[REG_RSI]};
+    words = serve_call(words);
+    general[REG_RAX] = words.eax;
+    general[REG_RBX] = words.ebx;
+    general[REG_RCX] = words.ecx;
+    general[REG_RDX] = words.edx;
+    general[REG_RSI] = words.esi;
 }
 
-void processor_set_words(struct processor *it, struct words words) {
-    void *const places[] = {&words.eax, &words.ebx, &words.ecx, &words.edx, &words.esi};
-    need_uc(uc_reg_write_batch(it->uc, names_of_call, places, 5), "registers are written");
+static void on_page_fault(uint64_t address, uint64_t error) {
+    if (error & ERROR_KEY) {
+        serve_end("a protection key", eip());
+    }
+    serve_access(error & ERROR_FETCH ? ACCESS_FETCH : error & ERROR_WRITE ? ACCESS_STORE : ACCESS_LOAD, (uint32_t)address);
 }
 
-/* ---- Hooks */
-
-static void on_interrupt(uc_engine *uc, uint32_t number, void *data) {
+static void on_exception(uint32_t number) {
     static char what[] = "exception 00";
-    (void)uc, (void)data;
-    if (number == 0x80) {
-        processor_set_words(running, serve_call(processor_words(running)));
-        return;
-    }
     what[10] = (char)('0' + number / 10 % 10);
     what[11] = (char)('0' + number % 10);
-    serve_end(number < 32 ? what : "an interrupt that is no call", processor_eip(running));
+    serve_end(what, eip());
 }
 
-/* Outside of the window no access is carried out. */
-static bool on_access(uc_engine *uc, uc_mem_type type, uint64_t address, int size, int64_t value, void *data) {
-    (void)uc, (void)size, (void)value, (void)data;
-    enum access read = type == UC_MEM_FETCH_UNMAPPED ? ACCESS_FETCH : ACCESS_LOAD;
-    serve_access(type == UC_MEM_WRITE_UNMAPPED ? ACCESS_STORE : read, (uint32_t)address);
-    return false;
-}
-
-/* Before each block of instructions, or before each instruction, which takes long. Only there may a run that goes on be
- * stopped: elsewhere the emulator loses EIP. */
-static void on_step(uc_engine *uc, uint64_t address, uint32_t size, void *data) {
-    (void)address, (void)size, (void)data;
-    running->is_stopping = !running->stale_count && serve_step();
-    if (running->is_stopping || running->stale_count) {
-        uc_emu_stop(uc);
+static void on_trap(uint64_t address) {
+    uint64_t number = (uint64_t)general[REG_TRAPNO], error = (uint64_t)general[REG_ERR];
+    if (number == TRAP_PAGE) {
+        on_page_fault(address, error);
+    } else if (number == TRAP_PROTECTION && error == ERROR_INT_80) { /* the host has no i386 table of calls */
+        general[REG_RIP] += 2;
+        on_call();
+    } else {
+        on_exception((uint32_t)number);
     }
 }
 
-/* Instructions that no tenant may use, although they raise no exception. */
-static uint32_t on_in(uc_engine *uc, uint32_t port, int size, void *data) {
-    (void)uc, (void)port, (void)size, (void)data;
-    serve_end("a port", 0);
-    return 0;
+/* A call by SYSENTER or SYSCALL would return to the host's own code. */
+static void on_system_call(void) {
+    if ((uint64_t)general[REG_RIP] >= END) {
+        serve_end("another system call", 0);
+    }
+    on_call();
 }
 
-static void on_out(uc_engine *uc, uint32_t port, int size, uint32_t value, void *data) {
-    (void)uc, (void)port, (void)size, (void)value, (void)data;
-    serve_end("a port", 0);
+static void on_stop(int signal, const siginfo_t *why) {
+    if ((general[REG_CSGSFS] & 0xffff) != CODE_32) {
+        serve_end("64-bit code", 0);
+    } else if (signal == SIGPROF) {
+        serve_over();
+    } else if (signal == SIGSYS) {
+        on_system_call();
+    } else {
+        on_trap((uint64_t)(uintptr_t)why->si_addr);
+    }
 }
 
-static void on_system_call(uc_engine *uc, void *data) {
-    (void)uc, (void)data;
-    serve_end("another system call", 0);
+/* ---- The handler */
+
+/* The C library needs its own base of FS, and aligns little. */
+static void take_own_state(void) {
+    const uint64_t alignment_check = 0x40000;
+    __asm__ volatile("wrfsbase %0" : : "r"(own_base));
+    __asm__ volatile("pushfq; notq %0; andq %0, (%%rsp); popfq" : : "r"(alignment_check) : "cc", "memory");
 }
 
-static void hook(struct processor *it, int kind, void *function, int instruction) {
-    uc_hook made;
-    need_uc(uc_hook_add(it->uc, &made, kind, function, NULL, 1, 0, instruction), "a hook");
+/* The tenant is behind the gate, where a turn isn't ended: its registers aren't in a frame. */
+static bool is_behind_gate(const greg_t *frame) {
+    uint64_t at = (uint64_t)frame[REG_RIP];
+    return (frame[REG_CSGSFS] & 0xffff) != CODE_32 && (at >= END || at / PAGE_BYTES == GATE / PAGE_BYTES);
 }
 
-static void add_hooks(struct processor *it, bool of_each_instruction) {
-    hook(it, UC_HOOK_INTR, (void *)on_interrupt, 0);
-    hook(it, UC_HOOK_MEM_INVALID, (void *)on_access, 0);
-    hook(it, UC_HOOK_INSN, (void *)on_in, UC_X86_INS_IN);
-    hook(it, UC_HOOK_INSN, (void *)on_out, UC_X86_INS_OUT);
-    hook(it, UC_HOOK_INSN, (void *)on_system_call, UC_X86_INS_SYSCALL);
-    hook(it, UC_HOOK_INSN, (void *)on_system_call, UC_X86_INS_SYSENTER);
-    hook(it, of_each_instruction ? UC_HOOK_CODE : UC_HOOK_BLOCK, (void *)on_step, 0);
+/* The frame gets what the tenant has, as if its jump to the gate had been int 0x80. */
+static void leave_gate(void) {
+    const struct words *words = &gate_state.words;
+    const uint32_t values[] = {words->eax,     words->ecx,     words->edx, words->ebx,
+                               gate_state.esp, gate_state.ebp, words->esi, gate_state.eip};
+    for (int i = 0; i < 8; i++) {
+        general[names[i]] = values[i];
+    }
+    general[REG_RIP] = gate_state.eip;
+    general[REG_EFL] = FIXED_FLAGS;
+    general[REG_CSGSFS] = CODE_32 | (greg_t)DATA_32 << 48;
 }
 
-/* ---- Into user mode */
+/* Returns the tenant's FS. */
+static uint16_t on_own_stop(ucontext_t *frame, uint16_t fs) {
+    if (stop == STOP_BEGIN) {
+        fs = set_registers(begin);
+        sigemptyset(&frame->uc_sigmask);
+    } else {
+        fs = gate_fs;
+        leave_gate();
+        if (stop == STOP_CALL) {
+            on_call();
+        }
+    }
+    stop = STOP_NONE;
+    return fs;
+}
 
-enum { CODE = 0x100, STACK = 0x800 };
-static const uint32_t ENTRY = 0xfffff000u;
-
-/* Segments of 4 GiB, a few instructions of ring 0 that end in an IRET to ring 3, and their stack. */
-static uint8_t entry[PAGE_BYTES] __attribute__((aligned(PAGE_BYTES))) = {
-    [8] = 0xff, 0xff, 0, 0, 0, 0x9b, 0xcf, 0, 0xff, 0xff, 0, 0, 0, 0x93, 0xcf, 0, /* ring 0: code, data */
-    0xff, 0xff, 0, 0, 0, 0xfb, 0xcf, 0, 0xff, 0xff, 0, 0, 0, 0xf3, 0xcf, 0,       /* ring 3: code, data */
-    [CODE] = 0xb8, 0x04, 0x06, 0, 0,                /* mov eax, TSD | OSFXSR | OSXMMEXCPT: no clock for tenants */
-    0x0f, 0x22, 0xe0,                               /* mov cr4, eax */
-    0xb8, 0x23, 0, 0, 0,                            /* mov eax, 0x23 */
-    0x8e, 0xd8, 0x8e, 0xc0, 0x8e, 0xe0, 0x8e, 0xe8, /* mov ds, es, fs, gs */
-    0xcf,                                           /* iret */
-    [STACK] = 0, 0xf0, 0xff, 0xff, 0x1b, 0, 0, 0, 2, 2, 0, 0, 0, 0, 0, 0, 0x23, 0, 0, 0, /* EIP, CS, EFLAGS, ESP, SS */
-};
-
-/* The page is there only until ring 3 is entered. As the table of segments then has a limit of 0, only the null segment
- * can be loaded later. */
-static void enter_user_mode(struct processor *it) {
-    uc_x86_mmr table = {.base = ENTRY, .limit = 5 * 8 - 1}, none = {0};
-    uint16_t data = 0x10, code = 0x08, is = 0;
-    const uint32_t stack = ENTRY + STACK;
-    need_uc(uc_mem_map_ptr(it->uc, ENTRY, PAGE_BYTES, UC_PROT_ALL, entry), "the entry's page");
-    set(it, UC_X86_REG_GDTR, &table);
-    set(it, UC_X86_REG_SS, &data);
-    set(it, UC_X86_REG_CS, &code);
-    set(it, UC_X86_REG_ESP, &stack);
-    need_uc(uc_emu_start(it->uc, ENTRY + CODE, ENTRY, 0, 0), "the entry into user mode");
-    need_uc(uc_ctl_remove_cache(it->uc, ENTRY, (uint64_t)ENTRY + PAGE_BYTES), "the entry's code");
-    need_uc(uc_mem_unmap(it->uc, ENTRY, PAGE_BYTES), "the entry's page is taken out");
-    need_uc(uc_ctl_exits_enable(it->uc), "no address ends a run");
-    set(it, UC_X86_REG_GDTR, &none);
-    set(it, UC_X86_REG_IDTR, &none);
-    get(it, UC_X86_REG_CS, &is);
-    need((is & 3) == 3, "the engine is in user mode");
+/* On a stack of its own, while all signals are blocked. Its return continues the tenant, or begins it. */
+static void on_signal(int signal, siginfo_t *why, void *frame) {
+    ucontext_t *all = frame;
+    uint16_t fs;
+    if (signal == SIGPROF && is_behind_gate(all->uc_mcontext.gregs)) {
+        is_late = true;
+        return;
+    }
+    __asm__ volatile("mov %%fs, %0" : "=r"(fs));
+    take_own_state();
+    general = all->uc_mcontext.gregs;
+    extended = (uint8_t *)all->uc_mcontext.fpregs;
+    if (stop) {
+        fs = on_own_stop(all, fs);
+    } else {
+        on_stop(signal, why);
+    }
+    while (serve_is_over() || is_late) {
+        is_late = false;
+        serve_over();
+    }
+    __asm__ volatile("mov %0, %%fs" : : "r"(fs)); /* with its base, 0 */
 }
 
 /* ---- A run */
 
-void processor_open(struct processor *it, bool counts_instructions) {
-    need_uc(uc_open(UC_ARCH_X86, UC_MODE_32, &it->uc), "an emulator opens");
-    running = it;
-    enter_user_mode(it);
-    window_open(it);
-    add_hooks(it, counts_instructions);
+void processor_open(void) {
+    const unsigned long sets_base = 2;
+    need(getauxval(AT_HWCAP2) & sets_base, "the host lets programs set FS's base");
+    need(prctl(PR_SET_TSC, PR_TSC_SIGSEGV) == 0, "no clock for tenants");
+    clear(LOWEST, END - LOWEST, MAP_FIXED_NOREPLACE);
+    __asm__ volatile("rdfsbase %0" : "=r"(own_base));
+    gate_open(own_base);
 }
 
-const char *processor_run(struct processor *it) {
-    uc_err error;
-    it->is_stopping = false;
-    do {
-        window_settle(it);
-        error = uc_emu_start(it->uc, processor_eip(it), 0, 0, 0);
-    } while (error == UC_ERR_OK && !it->is_stopping && it->stale_count);
-    if (error == UC_ERR_OK && !it->is_stopping) {
-        return "the emulator stopped";
+void processor_prepare(void) {
+    static const int signals[] = {SIGSEGV, SIGBUS, SIGILL, SIGFPE, SIGTRAP, SIGSYS, SIGPROF};
+    const stack_t alternate = {.ss_sp = stack, .ss_size = sizeof stack};
+    struct sigaction action = {.sa_sigaction = on_signal, .sa_flags = SA_SIGINFO | SA_ONSTACK};
+    sigset_t ticks;
+    need(sigfillset(&action.sa_mask) == 0 && sigaltstack(&alternate, NULL) == 0, "a stack for signals");
+    for (size_t i = 0; i < sizeof signals / sizeof *signals; i++) {
+        need(sigaction(signals[i], &action, NULL) == 0, "a handler");
     }
-    return error == UC_ERR_OK ? NULL : uc_strerror(error);
+    sigemptyset(&ticks);
+    sigaddset(&ticks, SIGPROF); /* none before the tenant runs */
+    need(sigprocmask(SIG_BLOCK, &ticks, NULL) == 0, "a signal waits");
+}
+
+/* A signal of its own is the first. */
+void processor_run(struct registers *from) {
+    begin = from;
+    stop = STOP_BEGIN;
+    __builtin_trap();
+}
+
+void processor_stop(bool calls) {
+    stop = calls ? STOP_CALL : STOP_GATE;
+    __builtin_trap();
+}
+
+bool processor_is_late(void) {
+    return is_late;
 }

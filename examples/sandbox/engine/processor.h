@@ -1,30 +1,27 @@
-/* A tenant's processor: an emulator in user mode, by Unicorn's public functions alone. It has the pages of window.h, each at
- * its virtual address, and no other memory. */
+/* A tenant's processor: the host's own, in compatibility mode. A tenant's page is at its own address of this process, whose
+ * code, stack and other memory are above 4 GiB: 32-bit code can't name them. It is entered by the return from a signal, and
+ * left by signals. */
 #pragma once
 
 #include <stdbool.h>
-#include <stddef.h>
 #include <stdint.h>
-#include <unicorn/unicorn.h>
 
 #include "../channel.h"
 
-struct processor {
-    uc_engine *uc;
-    uint32_t stale[MOST_PAGES], stale_count; /* pages that were taken out: what was translated of them has to go */
-    bool is_stopping;                        /* its turn is over */
-};
+/* Once, in the fork server: with no page, and before the process is confined. */
+void processor_open(void);
+/* In an engine, before the process is confined: signals are the processor's from now on. */
+void processor_prepare(void);
+/* Runs the tenant from these registers. */
+void processor_run(struct registers *from) __attribute__((noreturn));
+/* The tenant is behind the gate: it is stopped as by a signal after its jump there, or after the call. */
+void processor_stop(bool calls) __attribute__((noreturn));
+/* Its turn is over since it is there. */
+bool processor_is_late(void);
+/* As they are, while it waits for the kernel. */
+void processor_registers(struct registers *to);
 
-/* In user mode, with no page. */
-void processor_open(struct processor *it, bool counts_instructions);
-/* Runs from the registers as they are until its turn is over. Returns the emulator's error, or NULL. */
-const char *processor_run(struct processor *it);
-
-void processor_registers(const struct processor *it, struct registers *to);
-void processor_set_registers(struct processor *it, struct registers *from);
-struct words processor_words(const struct processor *it);
-void processor_set_words(struct processor *it, struct words words);
-uint32_t processor_eip(const struct processor *it);
-
-/* What has to hold of the emulator. Otherwise the process ends. */
-void need_uc(uc_err error, const char *what);
+/* The page is that file's, in place of what was there. */
+void processor_show(uint32_t page, int file, bool write);
+/* Takes a page out. */
+void processor_hide(uint32_t page);

@@ -24,10 +24,10 @@ enum { WRITE = 1, MAY = 2, ACCESSED = 4, DIRTY = 8 }; /* in `bools`, of an Info 
 
 static inline struct answer ask(uint32_t call, uint32_t flag, uint32_t first, uint32_t second, uint32_t third) {
     struct answer it;
-    __asm__ volatile("int $0x80"
+    __asm__ volatile("movl $1f, %%edi; ljmp $0x33, %10; 1:"
                      : "=a"(it.kind), "=b"(it.bools), "=c"(it.first), "=d"(it.second), "=S"(it.third)
-                     : "a"(call), "b"(flag), "c"(first), "d"(second), "S"(third)
-                     : "memory");
+                     : "a"(call), "b"(flag), "c"(first), "d"(second), "S"(third), "i"(GATE)
+                     : "memory", "edi", "cc");
     return it;
 }
 

@@ -20,19 +20,6 @@ static bool is_what_a_walk_reads(uint32_t pid, const struct given *given) {
            walk.frame == given->frame && tower_next_page(&kernel.core, pid, given->page, &at, &found) && (!given->write || found.dirty);
 }
 
-/* The rule of kernel.c: a page that may be written is alone with its frame. */
-static bool is_alone(const struct given *given) {
-    for (uint32_t pid = 0; pid < TOWER_PROCESSES; pid++) {
-        for (uint32_t i = 0; i < kernel.engines[pid].given_count; i++) {
-            const struct given *other = &kernel.engines[pid].given[i];
-            if (other != given && other->is_in && other->frame == given->frame) {
-                return false;
-            }
-        }
-    }
-    return true;
-}
-
 static bool is_to_be_told(const struct engine *it, uint32_t page) {
     bool is_found = it->next.has_page && it->next.page == page;
     for (uint32_t i = 0; !is_found && i < it->next.out_count; i++) {
@@ -106,7 +93,7 @@ static bool are_all_given(const struct engine *it) {
     while (maps && fgets(line, sizeof line, maps)) {
         struct mapping of = mapping_of(line);
         if (strstr(of.name, "/memfd:frame")) {
-            uint32_t page = (uint32_t)((of.from - WINDOW) / PAGE_BYTES);
+            uint32_t page = (uint32_t)(of.from / PAGE_BYTES);
             are_all = are_all && of.to - of.from == PAGE_BYTES &&
                       (is_to_be_told(it, page) || is_given(it, page, of.inode, of.may_write));
         }
@@ -124,7 +111,6 @@ static struct tower_reply check(struct tower_reply reply) {
         for (uint32_t i = 0; i < it->given_count; i++) {
             const struct given *given = &it->given[i];
             need(!given->is_in || is_what_a_walk_reads(pid, given), "an engine has what the walks read");
-            need(!given->is_in || !given->write || is_alone(given), "a page that may be written is alone");
         }
         need(!engine_is_open(it) || it->is_waited_for || are_all_given(it), "a process of the host has what its engine was given");
     }

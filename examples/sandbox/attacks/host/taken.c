@@ -9,8 +9,8 @@
 #include <unistd.h>
 
 #include "../../channel.h"
+#include "../../engine/processor.h"
 #include "../../engine/serve.h"
-#include "../../engine/window.h"
 
 enum act {
     NOTHING,
@@ -27,7 +27,7 @@ enum act {
     KEEP,    /* keeps each page that it gets, and reads them then */
     WRITE,   /* likewise, if it may write there, and writes */
     FLIP,    /* takes the channel back without an order */
-    COUNT,   /* says that it executed no instruction, or all that there are */
+    FORCE,   /* maps each page that it may not write, for writing, and says one more than how many it got */
     SHUT,    /* closes all descriptors */
     SCRIBBLE /* writes random bytes over all of the channel */
 };
@@ -36,7 +36,7 @@ enum { STATE_BEGIN }; /* otherwise one more than the report's kind */
 static uint32_t act, state, number, seed = 1;
 static struct channel *channel;
 static volatile uint32_t *kept[256];
-static uint32_t kept_count;
+static uint32_t kept_count, forced;
 
 static uint8_t any(void) {
     seed = seed * 1664525 + 1013904223;
@@ -73,10 +73,10 @@ void __real_channel_pass(struct channel *it, uint32_t to);
 void __wrap_channel_pass(struct channel *it, uint32_t to);
 bool __real_channel_await(struct channel *it, uint32_t holder, uint32_t *looks, const struct timespec *most);
 bool __wrap_channel_await(struct channel *it, uint32_t holder, uint32_t *looks, const struct timespec *most);
-void __real_window_show(uint32_t page, int file, bool write);
-void __wrap_window_show(uint32_t page, int file, bool write);
-void __real_processor_set_registers(struct processor *it, struct registers *from);
-void __wrap_processor_set_registers(struct processor *it, struct registers *from);
+void __real_processor_show(uint32_t page, int file, bool write);
+void __wrap_processor_show(uint32_t page, int file, bool write);
+void __real_processor_run(struct registers *from) __attribute__((noreturn));
+void __wrap_processor_run(struct registers *from) __attribute__((noreturn));
 
 static void report_for_ever(struct channel *it) {
     uint32_t looks = 0;
@@ -129,6 +129,9 @@ static void attack(struct channel *it) {
         seed = use_kept();
         act = NOTHING;
         serve_end("it used what it kept", seed);
+    case FORCE:
+        act = NOTHING;
+        serve_end("it tried, and got", forced + 1);
     case SHUT:
         for (int i = 0; i < 16; i++) {
             syscall(SYS_close, i);
@@ -146,8 +149,6 @@ void __wrap_channel_pass(struct channel *it, uint32_t to) {
     bool is_time = act != NOTHING && state == it->report.kind + 1;
     if (is_time && act == SLEEPY) {
         sleep_for(number);
-    } else if (is_time && act == COUNT) {
-        it->report.executed = number ? UINT64_MAX : 0;
     } else if (is_time) {
         attack(it);
         act = act == SCRIBBLE ? act : NOTHING;
@@ -155,28 +156,31 @@ void __wrap_channel_pass(struct channel *it, uint32_t to) {
     __real_channel_pass(it, to);
 }
 
-void __wrap_window_show(uint32_t page, int file, bool write) {
+void __wrap_processor_show(uint32_t page, int file, bool write) {
     if ((act == KEEP || (act == WRITE && write)) && kept_count < 256) {
         int rights = act == WRITE ? PROT_READ | PROT_WRITE : PROT_READ;
         void *at = mmap(NULL, PAGE_BYTES, rights, MAP_SHARED, file, 0);
         kept[kept_count] = at;
         kept_count += at != MAP_FAILED;
     }
-    __real_window_show(page, file, write);
+    for (int rights = PROT_WRITE; act == FORCE && page == TOWER_FIRST_PAGE && rights <= (PROT_READ | PROT_WRITE); rights++) {
+        forced += mmap(NULL, PAGE_BYTES, rights, MAP_SHARED, file, 0) != MAP_FAILED;
+    }
+    __real_processor_show(page, file, write);
 }
 
-void __wrap_processor_set_registers(struct processor *it, struct registers *from) {
+void __wrap_processor_run(struct registers *from) {
     uint32_t argument = from->general[EBX];
     if (argument >> 24 == 0xab) {
         act = argument & 0xff;
         state = argument >> 8 & 0xf;
         number = argument >> 12 & 0xfff;
     }
-    __real_processor_set_registers(it, from);
     if (act != NOTHING && state == STATE_BEGIN) {
         attack(channel);
         __real_channel_pass(channel, HELD_BY_KERNEL);
     }
+    __real_processor_run(from);
 }
 
 bool __wrap_channel_await(struct channel *it, uint32_t holder, uint32_t *looks, const struct timespec *most) {
