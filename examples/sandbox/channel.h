@@ -14,9 +14,16 @@ enum { PAGE_BYTES = 4096 };
 enum { SOCKET = 3 }; /* the descriptor of the engine's end */
 /* All that a tenant can change of a processor. */
 enum { MOST_EXTENDED = 4096 };
+/* Of a program that makes Linux's calls: where its heap begins and ends, where the next mapping is, and its thread's base of
+ * GS; all 0 for any other. */
+struct linux_state {
+    uint32_t heap, heap_end, maps, thread;
+};
+enum { LINUX_SELECTOR = 0x323 }; /* of GS: no segment has it, so loading it is an exception */
 struct registers {
     uint32_t general[8]; /* EAX, ECX, EDX, EBX, ESP, EBP, ESI, EDI */
     uint32_t eip, eflags;
+    struct linux_state of_linux;
     uint16_t segments[4];    /* DS, ES, FS, GS: 0 if the tenant loaded the null segment */
     uint32_t extended_bytes; /* those of the x87, SSE and AVX, as XSAVE writes them; none: as a program begins */
     uint8_t extended[MOST_EXTENDED];

@@ -10,6 +10,7 @@
 
 #include "../need.h"
 #include "gate.h"
+#include "linux.h"
 #include "serve.h"
 
 enum { CODE_32 = 0x23, DATA_32 = 0x2b }; /* Linux's selectors of segments of 4 GiB in user mode */
@@ -87,6 +88,7 @@ void processor_registers(struct registers *to) {
     }
     to->eip = (uint32_t)general[REG_RIP];
     to->eflags = (uint32_t)general[REG_EFL];
+    to->of_linux = linux_state;
     get_segments(to->segments);
     to->extended_bytes = extended_bytes();
     copy_extended(to->extended, extended, to->extended_bytes);
@@ -105,6 +107,10 @@ static uint16_t set_registers(const struct registers *from) {
         segments[i] = from->segments[i] ? DATA_32 : 0;
     }
     __asm__ volatile("mov %0, %%ds; mov %1, %%es; mov %2, %%gs" : : "r"(segments[0]), "r"(segments[1]), "r"(segments[3]));
+    linux_state = from->of_linux;
+    if (linux_state.thread) {
+        __asm__ volatile("wrgsbase %0" : : "r"((uint64_t)linux_state.thread));
+    }
     if (from->extended_bytes) {
         if (from->extended_bytes != extended_bytes()) {
             serve_end("its registers are another processor's", 0);
@@ -122,7 +128,29 @@ static uint32_t eip(void) {
     return (uint32_t)general[REG_RIP];
 }
 
+static void on_linux_call(void) {
+    const uint32_t arguments[] = {(uint32_t)general[REG_RBX], (uint32_t)general[REG_RCX], (uint32_t)general[REG_RDX],
+                                  (uint32_t)general[REG_RSI], (uint32_t)general[REG_RDI]};
+    general[REG_RAX] = linux_call((uint32_t)general[REG_RAX], arguments);
+}
+
+/* MOV of a register to GS, with the selector that set_thread_area gave. */
+static bool loads_thread(void) {
+    const uint8_t *at = (const uint8_t *)(uintptr_t)eip();
+    uint32_t prefix = at[0] == 0x66;
+    if (!linux_state.thread || at[prefix] != 0x8e || (at[prefix + 1] & 0xf8) != 0xe8) {
+        return false;
+    }
+    __asm__ volatile("wrgsbase %0" : : "r"((uint64_t)linux_state.thread));
+    general[REG_RIP] += prefix + 2;
+    return true;
+}
+
 static void on_call(void) {
+    if (linux_state.heap) {
+        on_linux_call();
+        return;
+    }
     struct words words = {(uint32_t)general[REG_RAX], (uint32_t)general[REG_RBX], (uint32_t)general[REG_RCX],
                           (uint32_t)general[REG_RDX], (uint32_t)general[REG_RSI]};
     words = serve_call(words);
@@ -154,7 +182,7 @@ static void on_trap(uint64_t address) {
     } else if (number == TRAP_PROTECTION && error == ERROR_INT_80) { /* the host has no i386 table of calls */
         general[REG_RIP] += 2;
         on_call();
-    } else {
+    } else if (number != TRAP_PROTECTION || error != (LINUX_SELECTOR & ~3) || !loads_thread()) {
         on_exception((uint32_t)number);
     }
 }
