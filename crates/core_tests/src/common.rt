@@ -17,6 +17,11 @@ pub fn process(rt: &impl Abort, number: u8) -> Pid {
     Pid::new(number).expect(rt, "a number below 64")
 }
 
+/// So many zeros.
+pub fn zeros<R: AllocGlobal + Abort>(rt: &R, count: usize) -> Vec<u8> {
+    vec![in rt.alloc(); 0u8; count].ok().expect(rt, "memory")
+}
+
 /// A call of a process has this reply.
 pub fn check(rt: &impl Abort, core: &mut Core, number: u8, call: Call, reply: Reply) {
     let pid = process(rt, number);

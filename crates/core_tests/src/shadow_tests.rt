@@ -1,5 +1,5 @@
 //! A core and its shadow: events, faults, and what a processor finds through the shadow.
-use crate::common::{process, same};
+use crate::common::{process, same, zeros};
 use kernel_calls::{Call, Core, Event, Reply};
 use page_words::{Page, Pid, Size, Vaddr};
 use shadow_core::{Handled, ShadowedCore};
@@ -63,11 +63,6 @@ fn check_byte(
     expected: Result<u8, LongEnd>,
 ) {
     same(rt, &byte_at(shadowed, pid, address, access), &expected);
-}
-
-/// So many zeros.
-fn zeros<R: AllocGlobal + Abort>(rt: &R, count: usize) -> Vec<u8> {
-    vec![in rt.alloc(); 0u8; count].ok().expect(rt, "memory")
 }
 
 /// A core with these shadow tables' bytes, which are the least pool, and this half.
