@@ -10,6 +10,7 @@ import pathlib
 import re
 from typing import NamedTuple
 
+import sources
 from definitions import CRATES, Tree, crate_of, imports
 from sources import crates, functions_of
 
@@ -21,6 +22,12 @@ PROMISES = (
     ("run_script", "script_run/src/script.rt"),
     ("check", "image_check/src/verdicts.rt"),
     ("shootdowns_make_events", "shootdowns/src/laws.rt"),
+    ("authority_spreads_by_consent", "authority_laws/src/laws.rt"),
+    ("others_never_refuse", "authority_laws/src/laws.rt"),
+    ("restore_wide", "image_restore/src/wide.rt"),
+    ("stored_machines_resume", "image_restore/src/laws.rt"),
+    ("ShadowedCore::walks", "shadow_core/src/lib.rt"),
+    ("long_mode_makes_steps", "long_mode_machine/src/laws.rt"),
 )
 WORD = re.compile(r"[^\s(){}\[\],;.]+(?:\.[^\s(){}\[\],;.]+)*")
 TYPE = re.compile(r"^pub (?:struct|enum) (\w+)[^;{]*(?:\{.*?^\}|\{[^\n]*\}|;)", re.M | re.S)
@@ -56,8 +63,8 @@ def types():
 
 
 def type_named(crate, name):
-    """A type of a crate, or of the one crate that has it."""
-    others = [it for (_, named), it in types().items() if named == name]
+    """A type of a crate, or of the one crate below that has it."""
+    others = [types()[it, name] for it in sources.below(crate) if (it, name) in types()]
     return types().get((crate, name)) or (others[0] if len(others) == 1 else None)
 
 

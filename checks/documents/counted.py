@@ -57,7 +57,8 @@ def facts():
     processes, offers = of("page_sharing", "lib", "MOST_PROCESSES"), of("page_sharing", "lib", "MOST_PENDING")
     cpus = number("crates/locked_core/src/faults.rt", r"not 1 to (\d+) CPUs")
     believed = sum(
-        number("docs/BELIEVE.md", rf"\*\*`Core::{it}`\*\*: \d+ definitions(?: more)?, (\d+) lines") for it in ("run", "stands")
+        number("docs/BELIEVE.md", rf"\*\*`Core::{it}`\*\*: \d+ definitions(?: more)?, (\d+) lines")
+        for it in ("run", "stands")
     )
     programs = len(list((ROOT / "examples/hypervisor/programs").glob("*.c")))
     attacks = number("examples/sandbox/tenants/hostile.c", r"ATTACKS = (\d+)")
