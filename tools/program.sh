@@ -3,7 +3,7 @@
 # is made of besides its crate.
 made=$name others=
 case $name in
-tower_c | tower_images) made=lib$name.a ;;
+tower_c | tower_images | tower_threads) made=lib$name.a ;;
 tower_film)
     made=tower.html
     others="web/module web/page web/heap.c web/editor.* examples/*.script crates/map_jobs/src/film_page.rt"

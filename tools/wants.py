@@ -11,6 +11,7 @@ HINTS = {
     "tower": "the proved program ('./tower prove' makes it)",
     "libtower_c.a": "the proved archive ('make -C c' makes it)",
     "libtower_images.a": "the proved archive of images ('make -C c' makes it)",
+    "libtower_threads.a": "the proved archive for threads ('make -C c' makes it)",
     "memory_map": "the proved program ('./memory_map prove' makes it)",
     "tower.html": "the page of scripts ('web/build' makes it)",
     "chromium": "'chromium' on PATH",

@@ -1,5 +1,6 @@
 /* The functions that the libraries import: those for memory, which a kernel writes itself, and some of the C library's.
- * c/heap.c has the first over malloc, realloc and free. Only libtower_images.a imports rattle_realloc and memcpy. */
+ * c/heap.c has the first over malloc, realloc and free. libtower_c.a imports neither rattle_realloc nor
+ * memcpy. */
 #ifndef TOWER_HEAP_H
 #define TOWER_HEAP_H
 

@@ -1,9 +1,9 @@
-/* A core that threads share: it passes from one to the other, and no two have it at once. With libtower_threads.a.
+/* A core that threads share: it passes from one to the other, and only one has it at a time. With libtower_threads.a.
  *
  *  - tower_share takes the core out of a `struct tower` and gives each thread a `struct tower_cpu`.
  *  - A thread takes the core (tower_cpu_take) into a `struct tower` of its own, calls any functions of tower.h with that,
- *    and gives the core back (tower_cpu_give). While it has the core, each other take is TOWER_CPU_BUSY. So a thread that
- *    forgets to take has an empty handle, with which each call fails; it can't reach the core.
+ *    and gives the core back (tower_cpu_give). While it has the core, each other take is TOWER_CPU_BUSY. A thread that
+ *    forgets to take has an empty handle, with which each call fails: it can't reach the core.
  *  - What was given back is one history. The core that a CPU takes is the last one in it, whoever gave it.
  *  - A reader with a `struct tower_monitor` reads the report on a core that was given back and published. It takes
  *    nothing and waits for nothing, and what it reads never goes back.
@@ -12,7 +12,7 @@
  * take that finds no core says so. How long to wait then, and what to do meanwhile, is the caller's:
  * tower_cpu_take_spinning, below, just tries again.
  *
- * What the caller owes, beside what tower.h says:
+ * What the caller owes, in addition to what docs/C-LIBRARY.md says:
  *
  *  - The handles are in storage of the caller's own, filled with zeros at first. Write none of their fields, and make no
  *    copy.
@@ -70,7 +70,9 @@ enum tower_cpu_status {
 struct tower_row {
     bool live;
     uint8_t parent;
-    uint32_t quota, used, given;
+    uint32_t quota;
+    uint32_t used;
+    uint32_t given;
 };
 
 /* Shares the core of a handle among these CPUs and monitors, whose handles are empty. The handle has no core then. It
@@ -87,10 +89,10 @@ TOWER_NODISCARD uint32_t tower_cpu_take(struct tower_cpu *cpu, struct tower *tow
 TOWER_NODISCARD uint32_t tower_cpu_give(struct tower_cpu *cpu, struct tower *tower, bool publish);
 
 /* How often the core was given back, as far as this CPU knows: up to when it last took or gave it. */
-uint64_t tower_cpu_count(struct tower_cpu *cpu);
+uint64_t tower_cpu_count(const struct tower_cpu *cpu);
 
-/* Keeps the core that this CPU has taken: no CPU can take it any more. Then it can be stored (tower_images.h), shared
- * anew, or freed. */
+/* Keeps the core that this CPU has taken for good: no CPU can take it afterwards. Then it can be stored
+ * (tower_images.h), shared anew, or freed. */
 TOWER_NODISCARD uint32_t tower_cpu_close(struct tower_cpu *cpu);
 
 /* Frees a CPU; one that has the core closes first. The last handle frees what all share, with the core if it was given

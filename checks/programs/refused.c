@@ -9,6 +9,7 @@
 #define HEAP_OF_LIBRARY
 #include "heap.h"
 #include "tower_images.h"
+#include "tower_threads.h"
 
 enum { FRAMES = 32, LENGTH = TOWER_IMAGE_LENGTH(FRAMES), NONE = -1 };
 /* The bytes of an image that are changed (docs/IMAGES.md): of its version, of process 0, of the page of its offer, and
@@ -78,6 +79,23 @@ static uint32_t restore_whole(void) {
     return tower_restore_whole(given, given_length, &tower, &verdict);
 }
 
+/* Shares the core, and then takes it back and frees all that was shared. */
+static uint32_t share(void) {
+    struct tower_cpu cpus[8] = {{0}};
+    struct tower_monitor monitors[8] = {{0}};
+    uint32_t status = tower_share(&tower, cpus, 8, monitors, 8);
+    if (status == TOWER_SHARED) {
+        need(tower_cpu_take(&cpus[7], &tower) == TOWER_CPU_DONE, "tower_cpu_take", "the core");
+        need(tower_cpu_close(&cpus[7]) == TOWER_CPU_DONE, "tower_cpu_close", "the core stays");
+    }
+    for (int at = 0; at < 8; at++) {
+        need(cpus[at].live == (status == TOWER_SHARED), "tower_share", "all handles or none");
+        tower_cpu_free(&cpus[at]);
+        tower_monitor_free(&monitors[at]);
+    }
+    return status;
+}
+
 /* A function, what it returns where there is no memory, whether it makes a core, what it is given, and what it returns
  * with memory. */
 static const struct trial {
@@ -93,6 +111,7 @@ static const struct trial {
     {"tower_image", write_image, TOWER_IMAGE_NO_MEMORY, false, false, SOUND, TOWER_IMAGE_WRITTEN},
     {"tower_store_front", store_front, TOWER_STORE_NO_MEMORY, false, false, SOUND, TOWER_STORED},
     {"tower_check", check, TOWER_CHECK_NO_MEMORY, false, false, SOUND, TOWER_SOUND},
+    {"tower_share", share, TOWER_SHARE_NO_MEMORY, false, false, SOUND, TOWER_SHARED},
     {"tower_check_bytes", check_bytes, TOWER_CHECK_NO_MEMORY, false, false, SOUND, TOWER_SOUND},
     {"tower_check_bytes, cut", check_bytes, TOWER_CHECK_NO_MEMORY, false, false, CUT, TOWER_NOT_IMAGE},
     {"tower_check_bytes, process", check_bytes, TOWER_CHECK_NO_MEMORY, false, false, PROCESS, TOWER_PROCESS_FAILS},

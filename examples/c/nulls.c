@@ -5,6 +5,7 @@
 
 #include "expect.h"
 #include "tower_images.h"
+#include "tower_threads.h"
 
 enum { FRAMES = 16 };
 
@@ -72,6 +73,26 @@ WRAP(uint32_t, tower_restore_whole,
      (const uint8_t *bytes, size_t count, struct tower *tower, struct tower_verdict *verdict),
      (bytes, count, tower, verdict), note(bytes))
 
+WRAP(uint32_t, tower_share,
+     (struct tower *tower, struct tower_cpu *cpus, size_t cpu_count, struct tower_monitor *monitors, size_t count),
+     (tower, cpus, cpu_count, monitors, count), (note(cpus), note(monitors)))
+WRAP(uint32_t, tower_monitor_read,
+     (struct tower_monitor *monitor, uint64_t *gives, struct tower_row *rows, size_t count),
+     (monitor, gives, rows, count), note(rows))
+
+/* A core that is shared with no CPU, or with no monitor; and a report of which no row is read. */
+static void shares(struct tower *tower) {
+    struct tower_cpu cpu = TOWER_NONE;
+    struct tower_monitor monitor = TOWER_NONE;
+    uint64_t gives = 99;
+    EXPECT(tower_share(tower, NULL, 0, NULL, 0) == TOWER_SHARE_BAD_COUNT && tower->live);
+    EXPECT(tower_share(tower, &cpu, 1, &monitor, 1) == TOWER_SHARED && !tower->live);
+    EXPECT(tower_monitor_read(&monitor, &gives, NULL, 0) == TOWER_CPU_DONE && gives == 0);
+    EXPECT(tower_cpu_take(&cpu, tower) == TOWER_CPU_DONE && tower_cpu_close(&cpu) == TOWER_CPU_DONE);
+    tower_cpu_free(&cpu);
+    tower_monitor_free(&monitor);
+}
+
 int main(void) {
     static struct tower tower, other;
     struct tower_reply reply = {0}, stop = {.kind = 99};
@@ -97,7 +118,8 @@ int main(void) {
     EXPECT(tower_check_whole(NULL, 0, &verdict) == TOWER_NOT_IMAGE && verdict.clause == TOWER_FAULT_NOT_IMAGE);
     EXPECT(tower_restore_whole(NULL, 0, &other, &verdict) == TOWER_NOT_IMAGE && !other.live);
     EXPECT(tower_run(&tower, &quota, 1, &reply, 1) && reply.kind == TOWER_USAGE && reply.second == 1);
-    EXPECT(calls == 19 && nulls == 0);
+    shares(&tower);
+    EXPECT(calls == 22 && nulls == 0);
     tower_free(&tower);
     puts("nulls: NULL with a count of 0 reaches no function of the archives");
     return 0;

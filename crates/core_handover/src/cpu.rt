@@ -75,7 +75,7 @@ impl Cpu {
         self.front.count()
     }
 
-    /// Takes the core out, if no other CPU has it. It never waits.
+    /// Takes the core out, if no other CPU has it. It never waits, and a refusal changes nothing.
     pub fn take(&mut self) -> Result<Box<Core>, Refusal>
         ensures core { IfOk result (λ core. core.value ≡ last_core self.new.log) }
         ensures has { OnOk result ((self.old.has ≡ false) × (self.new ≡ seat self.old.book self.new.log true)) }
@@ -163,7 +163,7 @@ impl Cpu {
         }
     }
 
-    /// Keeps the core that it has taken, so that no CPU can take it any more.
+    /// Keeps the core that it has taken for good: no CPU can take it afterwards.
     pub fn close(&mut self) -> Result<(), Refusal>
         ensures closed { OnOk result ((self.old.has ≡ true) × (self.new ≡ seat self.old.book self.old.log false)) }
         ensures refused { OnErr result (self.new ≡ self.old) }

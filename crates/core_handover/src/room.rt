@@ -16,7 +16,7 @@ use std::sync::atomic::Ordering::SeqCst;
 /// How often a monitor looks for a page. It looks again only if others came between.
 const LOOKS: u32 = 64;
 
-/// What is passed on beside the core: the word that counts what is added to the history, and a page that no monitor
+/// What is passed on with the core: the word that counts what is added to the history, and a page that no monitor
 /// reads.
 #[derive(Drop)]
 pub(crate) struct Rest {
@@ -133,7 +133,7 @@ impl Room {
         Ok(())
     }
 
-    /// Lets no CPU take the core any more, which is out.
+    /// Lets no CPU take the core from now on, which is out.
     pub fn close(&self) -> bool {
         let (found, claim) = self.lock.turn(FREE, TAKEN);
         if found != FREE {

@@ -10,7 +10,7 @@ use atomic_table::{Seat, Table};
 use std::alloc::{AllocError, Global};
 use std::marker::Model;
 
-/// The word: the value is there, a thread has it, no thread can take it any more, none was given yet.
+/// The word's values: the value is there, a thread has it, it is closed, none was given yet.
 const HERE: u64 = 0;
 
 const OUT: u64 = 1;
@@ -24,7 +24,7 @@ const FRESH: u64 = 3;
 pub enum Absent {
     /// A thread has it, or none was given yet.
     Out,
-    /// No thread can take it any more.
+    /// A thread closed the lock: no thread can take the value.
     Closed,
 }
 
@@ -114,7 +114,7 @@ impl<T: Drop> SeatLock<T> {
         top.store::<Give>(&mut by.seat, 0, HERE);
     }
 
-    /// Lets no thread take a value any more. Whoever closes has it.
+    /// Closes the lock: no thread can take a value from now on. The thread that closes has it.
     pub fn close(&self, by: &mut Place<T>)
         requires table { by.old.table ≡ self.now.table.shared.table_id }
         requires has { by.old.has ≡ true }

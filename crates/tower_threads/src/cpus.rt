@@ -23,9 +23,9 @@ fn status_from(refusal: Refusal) -> u32
     }
 }
 
-/// Takes the core into a handle that has none: 0; or 1 where another CPU has it, 2 where a CPU keeps it, 3 where the
-/// history has more than this CPU could know, 4 where this CPU has taken it or the handle has a core, and 5 where there
-/// is no CPU in the handle. All but 0 leave both handles as they were. It never waits.
+/// Takes the core into a handle that has none. The status is 0, or 1 if another CPU has the core, and 2 if a CPU keeps
+/// it. It is 3 if the history has more than this CPU could know. It is 4 if this CPU has taken the core already or the
+/// handle has a core, and 5 if the handle of a CPU has none. All but 0 leave both handles as they were. It never waits.
 #[unsafe(no_mangle)]
 pub extern "C" fn tower_cpu_take(alloc: Global, handle: &mut TowerCpu, tower: &mut Tower) -> u32
     requires { IsTowerCpu handle.old × IsTower tower.old }
@@ -64,9 +64,9 @@ fn take_into(cpu: &mut Cpu, tower: &mut Tower) -> u32
     }
 }
 
-/// Gives the core back that the handle has: 0; or 3 or 5 as `tower_cpu_take`, and 4 where this CPU has not taken it or
-/// the handle has no core. All but 0 leave the core in the handle. If it is to be published, monitors read the report on
-/// it from then on. It never waits.
+/// Gives the core back that the handle has. The status is 0, or 3 or 5 as that of `tower_cpu_take`. It is 4 if this CPU
+/// has not taken the core or the handle has none. All but 0 leave the core in the handle. If it is to be published,
+/// monitors read the report on it from then on. It never waits.
 #[unsafe(no_mangle)]
 pub extern "C" fn tower_cpu_give(
     alloc: Global,
@@ -112,7 +112,7 @@ fn give_from(alloc: Global, cpu: &mut Cpu, tower: &mut Tower, publish: bool) -> 
     }
 }
 
-/// How often the core was given back in the history that the CPU knows; 0 if there is no CPU in the handle.
+/// Returns how often the core was given back in the history that the CPU knows; 0 if there is no CPU in the handle.
 #[unsafe(no_mangle)]
 pub extern "C" fn tower_cpu_count(alloc: Global, handle: &mut TowerCpu) -> u64
     requires { IsTowerCpu handle.old }
@@ -128,8 +128,8 @@ pub extern "C" fn tower_cpu_count(alloc: Global, handle: &mut TowerCpu) -> u64
     count
 }
 
-/// Lets no CPU take the core any more, which this CPU has taken: 0; or 3, 4 or 5 as `tower_cpu_give`. The core stays
-/// where it is.
+/// Keeps the core that this CPU has taken for good: no CPU can take it afterwards. The status is 0, or 3, 4 or 5 as that
+/// of `tower_cpu_give`. The core stays where it is.
 #[unsafe(no_mangle)]
 pub extern "C" fn tower_cpu_close(alloc: Global, handle: &mut TowerCpu) -> u32
     requires { IsTowerCpu handle.old }
@@ -149,7 +149,7 @@ pub extern "C" fn tower_cpu_close(alloc: Global, handle: &mut TowerCpu) -> u32
     status
 }
 
-/// Frees a CPU. If it has taken the core, no CPU can take it any more. The last handle frees what all share, with the
+/// Frees a CPU. If it has taken the core, no CPU can take it afterwards. The last handle frees what all share, with the
 /// core if that was given back.
 #[unsafe(no_mangle)]
 pub extern "C" fn tower_cpu_free(alloc: Global, handle: &mut TowerCpu)

@@ -1,4 +1,4 @@
-//! A core that threads of C share: it passes from one to the other, and no two have it at once.
+//! A core that threads of C share: it passes from one to the other, and only one has it at a time.
 //!
 //! C holds a `TowerCpu` for each thread and a `TowerMonitor` for each reader, all zeros at first, and gives each to one
 //! thread at a time. A thread takes the core into a `Tower` (`tower_cpu_take`), calls any function of `tower_c` with

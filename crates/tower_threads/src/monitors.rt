@@ -49,7 +49,7 @@ fn row_from(row: Option<Row>) -> TowerRow
     }
 }
 
-/// Writes the rows of the processes from 0 on, as many as there is room for, up to 64.
+/// Writes the rows of the processes from 0 on, as many as the slice has, up to 64.
 fn tell_rows(report: &Report, rows: &mut [TowerRow])
     ensures { AreRows report.now 64 rows.old rows.new }
 {
@@ -59,10 +59,10 @@ fn tell_rows(report: &Report, rows: &mut [TowerRow])
     }
 }
 
-/// Reads the newest report: 0; or 1 where others came between at each of many looks, so that the report is the one
-/// before, and 5 where there is no monitor in the handle. `count` becomes how often the core was given back before it,
-/// and each row that there is room for, up to 64, what it says of the process of that number. What a monitor reads never
-/// goes back. It needs no core, and never waits.
+/// Reads the newest report. The status is 0, or 1 if others came between at each of many lookups: the report is then the
+/// one before. It is 5 if there is no monitor in the handle. `count` becomes how often the core was given back before the
+/// report. Each row of the slice, up to 64, becomes what it says of the process of that number. What a monitor reads
+/// never goes back. It needs no core, and never waits.
 #[unsafe(no_mangle)]
 pub extern "C" fn tower_monitor_read(
     alloc: Global,

@@ -19,10 +19,10 @@ fn are_free(cpus: &[TowerCpu], monitors: &[TowerMonitor]) -> bool {
     cpus.iter().all(|cpu| !cpu.live) && monitors.iter().all(|monitor| !monitor.live)
 }
 
-/// Shares the core of a handle among as many CPUs and monitors as there are handles for them: 0; or 1 where these are
-/// not 1 to 8 CPUs, or more than 8 monitors, 2 where there is no memory, 4 where one of these handles is in use, or the
-/// first has no core. All but 0 leave the core in its handle. If it is 0, that has none, and the report on the core is
-/// published.
+/// Shares the core of a handle among as many CPUs and monitors as there are handles for them. The status is 0, or 1 if
+/// these are not 1 to 8 CPUs, or more than 8 monitors. It is 2 if there is no memory, and 4 if one of these handles is in
+/// use or the first has no core. All but 0 leave the core in its handle. After 0 that has none, and the report on the
+/// core is published.
 #[unsafe(no_mangle)]
 pub extern "C" fn tower_share(
     alloc: Global,
