@@ -12,6 +12,8 @@ mod frame_tests;
 #[cfg(test)]
 mod guest_tests;
 #[cfg(test)]
+mod handover_tests;
+#[cfg(test)]
 mod kernel_tests;
 #[cfg(test)]
 mod lazy_tests;
@@ -27,6 +29,8 @@ mod process_tests;
 mod report_tests;
 #[cfg(test)]
 mod script_tests;
+#[cfg(test)]
+mod seat_tests;
 #[cfg(test)]
 mod shadow_tests;
 #[cfg(test)]

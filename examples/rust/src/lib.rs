@@ -3,9 +3,10 @@
 //! [`Core`] has all calls and queries of the library that `crates/tower_c` builds. What they do is proved up
 //! to that library's exports (docs/C-LIBRARY.md). This crate turns types into the library's numbers and back. It is not
 //! proved; `cargo test` tests it. The feature `images` adds the images of `crates/tower_images`, their check and
-//! `Core::restore`, `streams` adds `Core::save` and `Core::resume`, and `blocks` cores over blocks of the caller's. The
-//! crate's `unsafe` blocks are those of `src/acts.rs`, `src/core.rs`, `src/memory.rs`, `src/images.rs`, `src/streams.rs`,
-//! `src/blocks.rs`, `src/heap.rs` and `src/supply.rs`.
+//! `Core::restore`, `streams` adds `Core::save` and `Core::resume`, `blocks` cores over blocks of the caller's, and
+//! `threads` adds `Core::share`, for threads that take the core and give it back. The crate's `unsafe` blocks are those of
+//! `src/acts.rs`, `src/core.rs`, `src/memory.rs`, `src/images.rs`, `src/streams.rs`, `src/blocks.rs`, `src/heap.rs`,
+//! `src/shared.rs` and `src/supply.rs`.
 //!
 //! # Calls
 //!

@@ -102,6 +102,22 @@ impl Report {
 impl<'block> Core<'block> {
     /// Shares the core among CPUs and monitors, whose numbers the types of the arrays say. The report on it is published.
     ///
+    /// ```
+    /// use tower::{Absent, Core, Pid, Size, Vaddr};
+    ///
+    /// let shared = Core::boot(16)?.share().map_err(|(_, fault)| fault);
+    /// let ([mut one, mut other], [mut monitor]) = shared?;
+    /// let mut core = one.take()?;
+    /// assert_eq!(other.try_take().err(), Some(Absent::Busy));
+    /// core.store(Pid::ROOT, Vaddr(0x4000_0000), Size::Four, 7)?.ignore();
+    /// core.publish(); // (which gives the core back, as a drop does)
+    /// assert_eq!(monitor.read().container(Pid::ROOT).unwrap().used, 3);
+    /// let mut core = other.take()?.keep();
+    /// assert_eq!(core.load(Pid::ROOT, Vaddr(0x4000_0000), Size::Four)?, 7);
+    /// assert_eq!(one.take().err(), Some(Absent::Kept));
+    /// # Ok::<(), Box<dyn std::error::Error>>(())
+    /// ```
+    ///
     /// # Errors
     ///
     /// The core, with `BadCount` if these are not 1 to 8 CPUs or more than 8 monitors, and otherwise `NoMemory`.
@@ -228,13 +244,14 @@ impl<'block> Taken<'_, 'block> {
         self.publish = true;
     }
 
-    /// Keeps the core for good: no CPU can take it any more.
+    /// Keeps the core for good: no CPU can take it afterwards.
     #[must_use]
     pub fn keep(self) -> Core<'block> {
         let mut this = ManuallyDrop::new(self);
         // SAFETY: as for `try_take`. The core is moved out once, and this is not dropped.
         unsafe {
-            let _closed = raw::tower_cpu_close(this.cpu.handle.get_mut());
+            let status = raw::tower_cpu_close(this.cpu.handle.get_mut());
+            debug_assert_eq!(status, 0, "a core that was taken can be kept");
             ManuallyDrop::take(&mut this.core)
         }
     }

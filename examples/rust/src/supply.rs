@@ -43,7 +43,8 @@ fn from_heap(size: usize) -> Option<NonNull<u8>> {
     Some(block)
 }
 
-/// Returns a larger block with the first bytes of the old one, and frees the old one. `libtower_images.a` imports it.
+/// Returns a larger block with the first bytes of the old one, and frees the old one. The archives of images
+/// and for threads import it.
 #[cfg(any(feature = "images", feature = "threads"))]
 #[unsafe(no_mangle)]
 unsafe extern "C" fn rattle_realloc(
