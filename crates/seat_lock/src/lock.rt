@@ -28,11 +28,21 @@ pub enum Absent {
     Closed,
 }
 
-/// A value that threads pass on.
+/// A value that threads pass on. Contracts see which lock it is.
 #[derive(Drop)]
 pub struct SeatLock<T: Drop> {
     table: Table<Option<T>, Doing<T>, (), Law<T>, Global>,
-    ghost sized: { (table.shared.table_id.words ≡ 1) × (table.shared.table_id.slots ≡ 1) },
+}
+
+impl<T: Drop> Model for SeatLock<T> {
+    ghost use Rattle.std.specs.Prelude.{◌≡◌};
+    ghost use Rattle.atomic_table.specs.Seated.{TableId};
+
+    ghost Value = { TableId };
+
+    ghost view = { λ l. l.table.shared.table_id };
+
+    ghost invariant = { λ l. (l.table.shared.table_id.words ≡ 1) × (l.table.shared.table_id.slots ≡ 1) };
 }
 
 /// What one thread knows of a lock's history, and whether it has the value. It has no bytes.
@@ -55,7 +65,7 @@ impl<T: Drop> Model for Place<T> {
 impl<T: Drop> SeatLock<T> {
     /// A lock without a value, and a first place.
     pub fn new(alloc: Global) -> Result<(SeatLock<T>, Place<T>), AllocError>
-        ensures { IfOk result (λ l. l.1 ≡ place l.0.table.shared.table_id false []) }
+        ensures { IfOk result (λ l. l.1 ≡ place l.0 false []) }
     {
         let (table, seat) = Table::vacant(alloc, &[FRESH], 1, &())?;
         Ok((SeatLock { table }, Place { seat }))
@@ -63,7 +73,7 @@ impl<T: Drop> SeatLock<T> {
 
     /// The place of one thread more, which knows as much of the history.
     pub fn another(&self, of: &mut Place<T>) -> Place<T>
-        requires { of.old.table ≡ self.now.table.shared.table_id }
+        requires { of.old.table ≡ self.now }
         ensures same { of.new ≡ of.old }
         ensures another { result ≡ place of.old.table false of.old.log }
     {
@@ -74,7 +84,7 @@ impl<T: Drop> SeatLock<T> {
 
     /// Takes nothing from a lock to which nothing was given yet, so that a first value can be given.
     pub fn begin(&self, by: &mut Place<T>) -> bool
-        requires table { by.old.table ≡ self.now.table.shared.table_id }
+        requires table { by.old.table ≡ self.now }
         requires idle { by.old.has ≡ false }
         ensures begun { result ≡ true → by.new ≡ place by.old.table true [] }
         ensures refused { result ≡ false → by.new ≡ by.old }
@@ -85,7 +95,7 @@ impl<T: Drop> SeatLock<T> {
 
     /// Takes the value, if it is there. The thread then knows all of the history, of which the value is the last.
     pub fn take(&self, by: &mut Place<T>) -> Result<T, Absent>
-        requires table { by.old.table ≡ self.now.table.shared.table_id }
+        requires table { by.old.table ≡ self.now }
         requires idle { by.old.has ≡ false }
         ensures has { OnOk result (by.new ≡ place by.old.table true by.new.log) }
         ensures begins { OnOk result (Begins by.new.log by.old.log) }
@@ -105,7 +115,7 @@ impl<T: Drop> SeatLock<T> {
 
     /// Gives a value, which is the last of the history then. It always succeeds.
     pub fn give(&self, by: &mut Place<T>, value: T)
-        requires table { by.old.table ≡ self.now.table.shared.table_id }
+        requires table { by.old.table ≡ self.now }
         requires has { by.old.has ≡ true }
         ensures { by.new ≡ place by.old.table false (by.old.log ++ value ∷ []) }
     {
@@ -116,7 +126,7 @@ impl<T: Drop> SeatLock<T> {
 
     /// Closes the lock: no thread can take a value from now on. The thread that closes has it.
     pub fn close(&self, by: &mut Place<T>)
-        requires table { by.old.table ≡ self.now.table.shared.table_id }
+        requires table { by.old.table ≡ self.now }
         requires has { by.old.has ≡ true }
         ensures { by.new ≡ by.old }
     {

@@ -10,9 +10,9 @@ store-requires g c =
     let was : c.by.inside.seat.me.1 ≡ (0, None) ∷ [] = c.by.invariant ∙ ap slots_of has in
     let changed = c.exchange-none.ensures in
     let holds : c.exchange-none.new.seat.me.1 ≡ (0, Some c.args.value) ∷ [] = ap (λ m. m.1) changed.3 ∙ ap (λ l. (0, Some c.args.value) ∷ rest l) was in (
-      changed.0 ∙ (ap (λ p. p.table) c.by.view_is ∙ c.requires.table),
-      (let words = c.args.self.now.sized.0 in omega arith),
-      rw c.args.self.now.sized.1 (gives_allowed c.exchange-none.new.seat.id c.exchange-none.new.seat.me (ap (λ m. m.0.has) changed.3 ∙ has) c.args.value holds),
+      changed.0 ∙ (ap (λ p. p.table) c.by.view_is ∙ c.requires.table ∙ sym c.self.view_is),
+      (let words = c.self.invariant.0 in omega arith),
+      rw c.self.invariant.1 (gives_allowed c.exchange-none.new.seat.id c.exchange-none.new.seat.me (ap (λ m. m.0.has) changed.3 ∙ has) c.args.value holds),
     )
 
 -- nothing is out with the place
