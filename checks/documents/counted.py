@@ -56,10 +56,8 @@ def facts():
     script, image = of("script_run", "session", "SCRIPT_BYTES"), of("command_answers", "files", "FILE_BYTES")
     processes, offers = of("page_sharing", "lib", "MOST_PROCESSES"), of("page_sharing", "lib", "MOST_PENDING")
     cpus = number("crates/locked_core/src/faults.rt", r"not 1 to (\d+) CPUs")
-    believed = sum(
-        number("docs/BELIEVE.md", rf"\*\*`Core::{it}`\*\*: \d+ definitions(?: more)?, (\d+) lines")
-        for it in ("run", "stands")
-    )
+    counts = r"\d+ definitions(?: more)?, (\d+) lines"
+    believed = sum(number("docs/BELIEVE.md", rf"\*\*`Core::{it}`\*\*: {counts}") for it in ("run", "stands"))
     programs = len(list((ROOT / "examples/hypervisor/programs").glob("*.c")))
     attacks = number("examples/sandbox/tenants/hostile.c", r"ATTACKS = (\d+)")
     ends = number("examples/sandbox/expected", r"all tried, (\d+) instructions")
