@@ -69,13 +69,14 @@ static void on_child(int number) {
     (void)number;
 }
 
-/* It gets no environment, and no descriptor that it keeps but its socket. */
+/* It gets no environment, and no descriptor that it keeps but its socket. If it can't begin, it has said why. */
 void engines_begin(void) {
     static char program[4096];
     char *words[] = {program, NULL}, *none[] = {NULL};
     struct sigaction action = {.sa_handler = on_child};
     posix_spawn_file_actions_t actions;
     int pair[2];
+    char ready;
     ssize_t length = readlink("/proc/self/exe", program, sizeof program - sizeof ".engine");
     need(length > 0 && socketpair(AF_UNIX, SOCK_SEQPACKET | SOCK_CLOEXEC, 0, pair) == 0, "a program, and a socket");
     need(sigaction(SIGCHLD, &action, NULL) == 0, "a handler of children");
@@ -88,6 +89,9 @@ void engines_begin(void) {
     posix_spawn_file_actions_destroy(&actions);
     close(pair[1]);
     server_socket = pair[0];
+    while ((length = recv(server_socket, &ready, 1, 0)) < 0 && errno == EINTR) {
+    }
+    need(length == 1, "the host can run engines");
 }
 
 void engines_end(void) {
@@ -111,11 +115,13 @@ static pid_t request_process(const int *pair, int channel) {
 
 bool engine_open(struct engine *it, const struct registers *registers, uint64_t nanoseconds) {
     struct rlimit most = {nanoseconds / 1000000000 + 2, nanoseconds / 1000000000 + 3};
-    int file = memfd_create("channel", MFD_CLOEXEC), pair[2], few = 0; /* bytes of files that it hasn't taken: the host's least */
+    int file = memfd_create("channel", MFD_CLOEXEC), pair[2];
+    int few = 0; /* bytes of files that it hasn't taken: the host's least */
     need(file >= 0 && ftruncate(file, sizeof(struct channel)) == 0, "there is memory for a channel");
     need(socketpair(AF_UNIX, SOCK_SEQPACKET | SOCK_CLOEXEC, 0, pair) == 0, "there is a socket");
     need(setsockopt(pair[0], SOL_SOCKET, SO_SNDBUF, &few, sizeof few) == 0, "it is small");
-    *it = (struct engine){.owed = it->owed, .start = *registers, .next.kind = ORDER_BEGIN, .is_at_rest = true, .socket = pair[0]};
+    *it = (struct engine){.owed = it->owed, .start = *registers, .is_at_rest = true, .socket = pair[0]};
+    it->next.kind = ORDER_BEGIN;
     it->channel = mmap(NULL, sizeof *it->channel, PROT_READ | PROT_WRITE, MAP_SHARED, file, 0);
     need(it->channel != MAP_FAILED, "a channel is mapped");
     it->process = request_process(pair, file);
@@ -221,7 +227,8 @@ const char *engine_run(struct engine *it, uint64_t until, struct report *report)
     }
     it->is_waited_for = it->is_at_rest = false;
     const char *why = await_report(it, until, report);
-    if (!why && !it->is_waited_for && (report->kind >= REPORTS || (report->kind == REPORT_ACCESS && report->access >= ACCESSES))) {
+    bool is_wrong = report->kind >= REPORTS || (report->kind == REPORT_ACCESS && report->access >= ACCESSES);
+    if (!why && !it->is_waited_for && is_wrong) {
         engine_close(it);
         why = "the engine's report makes no sense";
     }

@@ -53,7 +53,8 @@ static void leave_queue(uint32_t pid) {
 
 void tenant_enter(uint32_t pid, const char *name, const struct registers *registers) {
     int parent = kernel_parent(pid);
-    tenants[pid] = (struct tenant){.runs = true, .start = *registers, .family = parent > 0 ? tenants[parent].family : (uint8_t)pid};
+    uint8_t family = parent > 0 ? tenants[parent].family : (uint8_t)pid;
+    tenants[pid] = (struct tenant){.runs = true, .start = *registers, .family = family};
     snprintf(tenants[pid].name, MOST_NAME, "%s", name);
     enter_queue(pid);
 }
@@ -135,7 +136,8 @@ static const char *on_access(uint32_t pid, const struct report *report) {
     if (reply.kind == TOWER_FAULT) {
         snprintf(why, sizeof why, "%s at %08x: fault %u", names[report->access], reply.first, reply.second);
     } else {
-        snprintf(why, sizeof why, "%s at %08x: refused, %s", names[report->access], report->address, tower_cause_name(reply.first));
+        const char *cause = tower_cause_name(reply.first);
+        snprintf(why, sizeof why, "%s at %08x: refused, %s", names[report->access], report->address, cause);
     }
     return why;
 }
@@ -144,7 +146,8 @@ static void on_call(uint32_t pid, const struct words *in) {
     struct engine *it = &kernel.engines[pid];
     const struct tower_event event = {0, (uint8_t)pid, tower_byte(in->eax), tower_byte(in->ebx), in->ecx, in->edx, in->esi};
     struct tower_reply reply = tenant_call(pid, &event);
-    uint32_t bools = (uint32_t)reply.write | (uint32_t)reply.may << 1 | (uint32_t)reply.accessed << 2 | (uint32_t)reply.dirty << 3;
+    uint32_t rights = (uint32_t)reply.write | (uint32_t)reply.may << 1;
+    uint32_t bools = rights | (uint32_t)reply.accessed << 2 | (uint32_t)reply.dirty << 3;
     calls++;
     it->next.kind = ORDER_ANSWER;
     it->next.words = (struct words){reply.kind, bools, reply.first, reply.second, reply.third};

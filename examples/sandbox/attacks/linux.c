@@ -8,12 +8,26 @@ __asm__(".globl _start\n"
         "    call begin\n");
 void begin(const uint32_t *stack) __attribute__((noreturn));
 
-enum { EXIT = 1, WRITE = 4, GETPID = 20, BRK = 45, IOCTL = 54, MUNMAP = 91, MPROTECT = 125, MMAP2 = 192, SET_THREAD_AREA = 243 };
-enum { PAGE_SIZE_KEY = 6, EBADF = 9, ENOTTY = 25, ENOSYS = 38, READ = 1, READ_WRITE = 3 };
+enum {
+    EXIT = 1,
+    WRITE = 4,
+    GETPID = 20,
+    BRK = 45,
+    IOCTL = 54,
+    MUNMAP = 91,
+    MPROTECT = 125,
+    MMAP2 = 192,
+    SET_THREAD_AREA = 243,
+};
+enum { PAGE_SIZE_KEY = 6, EBADF = 9, ENOMEM = 12, ENOTTY = 25, ENOSYS = 38 };
+enum { READ = 1, READ_WRITE = 3, ANYWHERE = 0x22, FIXED = 0x32 };
 
 static uint32_t call(uint32_t number, uint32_t first, uint32_t second, uint32_t third, uint32_t fourth, uint32_t fifth) {
     uint32_t result;
-    __asm__ volatile("int $0x80" : "=a"(result) : "a"(number), "b"(first), "c"(second), "d"(third), "S"(fourth), "D"(fifth) : "memory");
+    __asm__ volatile("int $0x80"
+                     : "=a"(result)
+                     : "a"(number), "b"(first), "c"(second), "d"(third), "S"(fourth), "D"(fifth)
+                     : "memory");
     return result;
 }
 
@@ -41,7 +55,7 @@ static uint32_t known(const uint32_t *pairs, uint32_t key) {
 }
 
 static uint32_t map(uint32_t bytes) {
-    return call(MMAP2, 0, bytes, READ_WRITE, 0x22, UINT32_MAX);
+    return call(MMAP2, 0, bytes, READ_WRITE, ANYWHERE, UINT32_MAX);
 }
 
 static uint32_t thread_word(void) {
@@ -59,11 +73,16 @@ void begin(const uint32_t *stack) {
     must(known(stack + 5, PAGE_SIZE_KEY) == 4096, "the size of a page");
     must(call(BRK, heap + 8192, 0, 0, 0, 0) == heap + 8192, "the heap grows");
     *(volatile uint32_t *)(heap + 8188) = 1;
+    call(BRK, heap + 1, 0, 0, 0, 0);
+    call(BRK, heap + 8192, 0, 0, 0, 0);
+    must(*(volatile uint32_t *)(heap + 8188) == 0, "what the heap gets again is zeros");
+    *(volatile uint32_t *)(heap + 8188) = 1;
     volatile uint32_t *mapped = (volatile uint32_t *)map(3 * 4096), *next = (volatile uint32_t *)map(1);
     must(next == mapped + 3 * 1024 && mapped[2048] == 0, "mappings are zeros, one after the other");
     mapped[2048] = 5;
     call(MUNMAP, (uint32_t)(uintptr_t)mapped, 3 * 4096, 0, 0, 0);
     must(mapped[2048] == 0, "what comes again is zeros");
+    must(call(MMAP2, heap, 4096, READ_WRITE, FIXED, UINT32_MAX) == (uint32_t)-ENOMEM, "no mapping at an address");
     must(call(SET_THREAD_AREA, (uint32_t)(uintptr_t)area, 0, 0, 0, 0) == 0, "a thread has an area");
     __asm__ volatile("movw %w0, %%gs" : : "r"(area[0] << 3 | 3));
     must(thread_word() == thread[1], "GS leads there");

@@ -19,20 +19,21 @@ static void put(uint32_t bytes, uint32_t count) {
 
 /* An operand in memory, mostly in the data: by ESI or EDI with a displacement; otherwise any. */
 static void put_operand(void) {
-    uint32_t reg = any() % 8 << 3, kind = any() % 8;
+    uint32_t operand = any() % 8 << 3, kind = any() % 8;
     if (kind < 3) {
-        put(0x80 | reg | (6 + any() % 2), 1);
+        put(0x80 | operand | (6 + any() % 2), 1);
         put(any() % 0x2000, 4);
     } else if (kind < 6) {
-        put(0xc0 | reg | any() % 8, 1);
+        put(0xc0 | operand | any() % 8, 1);
     } else {
         put(any(), 1 + any() % 6);
     }
 }
 
 static void put_instruction(void) {
-    static const uint8_t prefixes[] = {0x66, 0xf2, 0xf3, 0xf0, 0x64, 0x67}, singles[] = {0xa4, 0xa5, 0xaa, 0xab, 0xa6, 0xae, 0x60, 0x61,
-        0x9c, 0x9d, 0xc8, 0xc9, 0x90, 0x99, 0xf8, 0xfc, 0xfd, 0xd7, 0x27, 0x2f, 0x37, 0x3f, 0x50, 0x58, 0x5c, 0xcf, 0xc3, 0xce};
+    static const uint8_t prefixes[] = {0x66, 0xf2, 0xf3, 0xf0, 0x64, 0x67};
+    static const uint8_t singles[] = {0xa4, 0xa5, 0xaa, 0xab, 0xa6, 0xae, 0x60, 0x61, 0x9c, 0x9d, 0xc8, 0xc9, 0x90, 0x99,
+                                      0xf8, 0xfc, 0xfd, 0xd7, 0x27, 0x2f, 0x37, 0x3f, 0x50, 0x58, 0x5c, 0xcf, 0xc3, 0xce};
     if (any() % 3 == 0) {
         put(prefixes[any() % sizeof prefixes], 1);
     }
@@ -51,7 +52,10 @@ static void put_instruction(void) {
 }
 
 static void run_code(uint32_t from) {
-    __asm__ volatile("movl %%ecx, %%ebx; call *%0" : : "a"(code + from), "S"(data), "D"(data), "c"(any() % 100) : "memory", "edx", "ebx");
+    __asm__ volatile("movl %%ecx, %%ebx; call *%0"
+                     :
+                     : "a"(code + from), "S"(data), "D"(data), "c"(any() % 100)
+                     : "memory", "edx", "ebx");
 }
 
 static void calls(void) {

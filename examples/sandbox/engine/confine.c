@@ -41,9 +41,11 @@ static void limit(int which, uint64_t most) {
 /* An engine needs no more memory than at its start. Also root's processes have no rights then. */
 void confine_all(void) {
     enum { MORE = 1 << 20, FILES = 16 };
+    const uint32_t trap = SECCOMP_RET_TRAP;
     struct __user_cap_header_struct header = {_LINUX_CAPABILITY_VERSION_3, 0};
     const struct __user_cap_data_struct none[2] = {{0, 0, 0}, {0, 0, 0}};
     unsigned long pages = 0;
+    need(syscall(SYS_seccomp, SECCOMP_GET_ACTION_AVAIL, 0, &trap) == 0, "the host makes signals of system calls");
     leave_terminal();
     FILE *file = fopen("/proc/self/statm", "re");
     need(file && fscanf(file, "%lu", &pages) == 1, "the size of this process is known");

@@ -24,6 +24,7 @@ enum {
 /* Where memory comes from: pages of zeros come with the first access. */
 static const uint32_t MAPS_END = 0xe0000000u, HEAP_END = 0x80000000u;
 enum { MOST_PIECE = 4096, MAY_WRITE = 2, SELF = 1 };
+enum { AT_ADDRESS = 0x10 | 0x100000 }; /* MAP_FIXED, MAP_FIXED_NOREPLACE */
 
 static uint32_t failed(int error) {
     return (uint32_t)-error;
@@ -41,33 +42,37 @@ static uint32_t write_text(uint32_t file, uint32_t from, uint32_t count) {
     return ask(CALL_WRITE, 0, from, piece) == TOWER_DONE ? piece : failed(EFAULT);
 }
 
+static uint32_t pages_of(uint32_t bytes) {
+    return bytes / PAGE_BYTES + (bytes % PAGE_BYTES != 0);
+}
+
+/* Pages that aren't there yet are none of the core's: it refuses them. */
+static uint32_t for_pages(uint32_t call, uint32_t flag, uint32_t first, uint32_t count) {
+    for (uint32_t i = 0; i < count; i++) {
+        ask(call, flag, first + i, 0);
+    }
+    return 0;
+}
+
+/* Pages that leave the heap come again as zeros. */
 static uint32_t set_break(uint32_t to) {
+    uint32_t first = pages_of(to), end = pages_of(linux_state.heap_end);
     if (to >= linux_state.heap && to <= HEAP_END) {
+        for_pages(TOWER_UNMAP, 0, first, first < end ? end - first : 0);
         linux_state.heap_end = to;
     }
     return linux_state.heap_end;
 }
 
-static uint32_t pages_of(uint32_t bytes) {
-    return bytes / PAGE_BYTES + (bytes % PAGE_BYTES != 0);
-}
-
-/* Memory of no file only. */
+/* Memory of no file only, and at no address that the program chooses. */
 static uint32_t map(const uint32_t *arguments) {
     uint32_t from = linux_state.maps, pages = pages_of(arguments[1]);
-    if (arguments[4] != UINT32_MAX || pages == 0 || pages > (MAPS_END - from) / PAGE_BYTES) {
+    bool is_free = arguments[4] == UINT32_MAX && (arguments[3] & AT_ADDRESS) == 0;
+    if (!is_free || pages == 0 || from > MAPS_END || pages > (MAPS_END - from) / PAGE_BYTES) {
         return failed(ENOMEM);
     }
     linux_state.maps += pages * PAGE_BYTES;
     return from;
-}
-
-/* Pages that aren't there yet are none of the core's: it refuses them. */
-static uint32_t for_pages(uint32_t call, uint32_t flag, uint32_t from, uint32_t bytes) {
-    for (uint32_t i = 0; i < pages_of(bytes); i++) {
-        ask(call, flag, from / PAGE_BYTES + i, 0);
-    }
-    return 0;
 }
 
 /* The engine itself reads and writes there: both pages have to be in. */
@@ -86,13 +91,14 @@ static uint32_t leave(void) {
 }
 
 uint32_t linux_call(uint32_t call, const uint32_t *arguments) {
+    uint32_t page = arguments[0] / PAGE_BYTES, pages = pages_of(arguments[1]);
     switch (call) {
     case EXIT: case EXIT_GROUP: return leave();
     case WRITE: return write_text(arguments[0], arguments[1], arguments[2]);
     case BRK: return set_break(arguments[0]);
     case IOCTL: return failed(ENOTTY);
-    case MUNMAP: return for_pages(TOWER_UNMAP, 0, arguments[0], arguments[1]);
-    case MPROTECT: return for_pages(TOWER_PROTECT, (arguments[2] & MAY_WRITE) != 0, arguments[0], arguments[1]);
+    case MUNMAP: return for_pages(TOWER_UNMAP, 0, page, pages);
+    case MPROTECT: return for_pages(TOWER_PROTECT, (arguments[2] & MAY_WRITE) != 0, page, pages);
     case MMAP2: return map(arguments);
     case SET_THREAD_AREA: return set_thread_area(arguments[0]);
     case SET_TID_ADDRESS: return SELF;

@@ -18,6 +18,7 @@ int main(void) {
     signal(SIGPROF, SIG_IGN); /* until an engine counts its ticks */
     processor_open();
     confine_all();
+    need(send(SOCKET, "", 1, MSG_NOSIGNAL) == 1, "the kernel is there"); /* and knows that the host can run engines */
     for (int socket; (socket = file_take(SOCKET)) >= 0; close(socket)) {
         /* a child of the kernel's process, and not of this one */
         engine = (pid_t)syscall(SYS_clone, CLONE_PARENT | SIGCHLD, 0, 0, 0, 0);

@@ -17,7 +17,8 @@ static bool is_what_a_walk_reads(uint32_t pid, const struct given *given) {
     struct tower_page found;
     uint32_t at = 0;
     return tower_walk(&kernel.core, pid, given->page << 12, given->write, &walk) && walk.kind == TOWER_WALK_FRAME &&
-           walk.frame == given->frame && tower_next_page(&kernel.core, pid, given->page, &at, &found) && (!given->write || found.dirty);
+           walk.frame == given->frame && tower_next_page(&kernel.core, pid, given->page, &at, &found) &&
+           (!given->write || found.dirty);
 }
 
 static bool is_to_be_told(const struct engine *it, uint32_t page) {
@@ -112,7 +113,8 @@ static struct tower_reply check(struct tower_reply reply) {
             const struct given *given = &it->given[i];
             need(!given->is_in || is_what_a_walk_reads(pid, given), "an engine has what the walks read");
         }
-        need(!engine_is_open(it) || it->is_waited_for || are_all_given(it), "a process of the host has what its engine was given");
+        bool is_read = engine_is_open(it) && !it->is_waited_for;
+        need(!is_read || are_all_given(it), "a process of the host has what its engine was given");
     }
     checks++;
     return reply;

@@ -95,7 +95,25 @@ static void report_for_ever(struct channel *it) {
     }
 }
 
+/* Those whose tenant's line says what came of them. */
+static void attack_and_end(void) {
+    uint32_t tried = act;
+    if (tried == CALL) {
+        syscall((long)number, 0, 0, 0, 0, 0, 0);
+    } else if (tried != FORCE) {
+        seed = use_kept();
+    }
+    act = NOTHING;
+    if (tried == CALL) {
+        serve_end("the host carried it out", 0);
+    } else if (tried == FORCE) {
+        serve_end("it tried, and got", forced + 1);
+    }
+    serve_end("it used what it kept", seed);
+}
+
 static void attack(struct channel *it) {
+    uint32_t wrong = number == 0xfff ? UINT32_MAX : number;
     switch (act) {
     case SILENT:
         for (;;) {
@@ -115,23 +133,17 @@ static void attack(struct channel *it) {
         report_for_ever(it);
         break;
     case KIND:
-        it->report.kind = number == 0xfff ? UINT32_MAX : number;
+        it->report.kind = wrong;
         break;
     case ACCESS:
-        it->report = (struct report){.kind = REPORT_ACCESS, .access = number == 0xfff ? UINT32_MAX : number, .address = 0x50000000};
+        it->report = (struct report){.kind = REPORT_ACCESS, .access = wrong, .address = 0x50000000};
         break;
     case CALL:
-        syscall((long)number, 0, 0, 0, 0, 0, 0);
-        act = NOTHING;
-        serve_end("the host carried it out", 0);
     case KEEP:
     case WRITE:
-        seed = use_kept();
-        act = NOTHING;
-        serve_end("it used what it kept", seed);
     case FORCE:
-        act = NOTHING;
-        serve_end("it tried, and got", forced + 1);
+        attack_and_end();
+        break;
     case SHUT:
         for (int i = 0; i < 16; i++) {
             syscall(SYS_close, i);
