@@ -10,7 +10,7 @@ static uint32_t frames_of(size_t length) {
     return is_image ? (uint32_t)frames : 0;
 }
 
-/* The number of frames that an image of version 3 says it has; 0 if no image says so. */
+/* The number of frames that a snapshot says it has; 0 if no snapshot says so. */
 static uint32_t whole_frames_of(const uint8_t *bytes, size_t length) {
     if (length < 12) {
         return 0;

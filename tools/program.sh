@@ -273,12 +273,12 @@ look_at_input() {
     }
 }
 
-# What the program may read of the file of that word: all of an image of version 3, of any other file one byte more than
-# the largest image has.
+# What the program may read of the file of that word: all of a snapshot, of any other file one byte more than the largest
+# image has.
 read_of() {
     word=$1
-    case $(head -c 8 "$word" | od -An -tx1 | tr -d ' \n') in
-    6d43324903000000) cat <"$word" ;;
+    case $(head -c 4 "$word" | od -An -tx1 | tr -d ' \n') in
+    6d433257) cat <"$word" ;;
     *) head -c 16844301 <"$word" ;;
     esac
 }

@@ -163,9 +163,9 @@ static inline const char *tower_restore_status_name(uint32_t status) {
 TOWER_NODISCARD uint32_t tower_restore(const uint8_t *bytes, size_t byte_count, struct tower *tower,
                                        struct tower_verdict *verdict);
 
-/* ---- Images of version 3: a core of any size, with its pending offers. Free frames are not stored. */
+/* ---- Snapshots: a core of any size, with its pending offers. Free frames are not stored. */
 
-/* How many bytes an image with that many offers begins with, up to the records of frames; and how many a record has. */
+/* How many bytes a snapshot with that many offers begins with, up to the records of frames; and how many a record has. */
 #define TOWER_FRONT_LENGTH(offers) ((size_t)1556 + (size_t)16 * (offers))
 #define TOWER_RECORD_BYTES 4116
 
@@ -199,22 +199,22 @@ static inline const char *tower_whole_status_name(uint32_t status) {
     }
 }
 
-/* Writes what the image begins with, up to the records of frames, at the start of `bytes`. `size` becomes the number of
+/* Writes what the snapshot begins with, up to the records of frames, at the start of `bytes`. `size` becomes the number of
  * bytes that this has, unless the status is TOWER_STORE_NO_CORE or TOWER_STORE_NO_MEMORY; call it with a count of 0 to get
  * only the size. If the status is not TOWER_STORED, no byte is written. It changes nothing of the core. */
 TOWER_NODISCARD uint32_t tower_store_front(const struct tower *tower, uint8_t *bytes, size_t byte_count, size_t *size);
 
 /* Writes the record of a frame at the start of `bytes`, TOWER_RECORD_BYTES of them. If the status is not TOWER_STORED, no
- * byte is written. The image of the core is what tower_store_front writes, and then the records of frames 0, 1, 2 and so on
- * to the last. It changes nothing of the core. */
+ * byte is written. The snapshot of the core is what tower_store_front writes, and then the records of frames 0, 1, 2 and so
+ * on to the last. It changes nothing of the core. */
 TOWER_NODISCARD uint32_t tower_store_frame(const struct tower *tower, uint32_t frame, uint8_t *bytes,
                                            size_t byte_count);
 
-/* Checks the image of version 3 that bytes encode, and its offers, by a core that is made of it and freed. The verdict is
+/* Checks the snapshot that bytes encode, and its offers, by a core that is made of it and freed. The verdict is
  * written as tower_check_bytes writes it; the place of a field past byte 4,294,967,295 is that number. */
 TOWER_NODISCARD uint32_t tower_check_whole(const uint8_t *bytes, size_t byte_count, struct tower_verdict *verdict);
 
-/* Restores a core from the image of version 3 that bytes encode, if the handle has no core: the machine that was stored,
+/* Restores a core from the snapshot that bytes encode, if the handle has no core: the machine that was stored,
  * with its offers. With any status but TOWER_RESTORED the handle is unchanged. The verdict is written as
  * tower_check_whole writes it. The bytes may be a file that is mapped: they are read once, from the front on. */
 TOWER_NODISCARD uint32_t tower_restore_whole(const uint8_t *bytes, size_t byte_count, struct tower *tower,

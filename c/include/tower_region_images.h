@@ -15,7 +15,7 @@ extern "C" {
  * which the core does not use afterwards. It evaluates its argument twice. */
 #define TOWER_RESTORE_BLOCK_BYTES(frames) (TOWER_BLOCK_BYTES(frames) + ((size_t)(frames) * 16 + 4095) / 4096 * 4096)
 
-/* As TOWER_RESTORE_BLOCK_BYTES, for an image of version 3: in addition its offers. */
+/* As TOWER_RESTORE_BLOCK_BYTES, for a snapshot: in addition its offers. */
 #define TOWER_RESTORE_WHOLE_BLOCK_BYTES(frames) (TOWER_RESTORE_BLOCK_BYTES(frames) + 32768)
 
 /* A status in addition to those of tower_restore. The block is as TOWER_BAD_BLOCK says, or has too few bytes for an
@@ -28,7 +28,7 @@ extern "C" {
 TOWER_NODISCARD uint32_t tower_restore_over(const uint8_t *bytes, size_t byte_count, struct tower *tower,
                                             struct tower_verdict *verdict, void *block, size_t size);
 
-/* As tower_restore_over, from an image of version 3: the machine that was stored, with its offers. The block's fresh bytes
+/* As tower_restore_over, from a snapshot: the machine that was stored, with its offers. The block's fresh bytes
  * are written once, in ascending order. */
 TOWER_NODISCARD uint32_t tower_restore_whole_over(const uint8_t *bytes, size_t byte_count, struct tower *tower,
                                                   struct tower_verdict *verdict, void *block, size_t size);

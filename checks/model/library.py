@@ -36,7 +36,7 @@ KINDS = ["done", "value", "child", "info", "quota", "fault", "refused", "no even
 # How many numbers a reply of each kind has.
 TELLS = [0, 1, 1, 1, 3, 2, 1, 0]
 NO_DIRECTORY = 0xFFFFFFFF
-# How many bytes the record of a frame has, in an image of version 3.
+# How many bytes the record of a frame has, in a snapshot.
 RECORD = 4116
 
 
@@ -196,14 +196,14 @@ def restored(library, image):
 
 
 def checked_whole(library, image):
-    """As `checked`, of an image of version 3."""
+    """As `checked`, of a snapshot."""
     verdict = Verdict(77, 78)
     status = library.tower_check_whole(image, ctypes.c_size_t(len(image)), ctypes.byref(verdict))
     return status, verdict.number, verdict.clause
 
 
 def restored_whole(library, image):
-    """As `restored`, of an image of version 3."""
+    """As `restored`, of a snapshot."""
     handle, verdict = Tower(False, None), Verdict(77, 78)
     told = ctypes.byref(handle), ctypes.byref(verdict)
     status = library.tower_restore_whole(image, ctypes.c_size_t(len(image)), *told)
@@ -245,7 +245,7 @@ class Core:
         return bytes(held) if (status, length.value) == (0, count) else status
 
     def whole_image(self):
-        """The bytes of its image of version 3: what it begins with, and then the record of each frame."""
+        """The bytes of its snapshot: what it begins with, and then the record of each frame."""
         handle, size, none = ctypes.byref(self.handle), ctypes.c_size_t(0), (ctypes.c_uint8 * 1)()
         status = self.library.tower_store_front(handle, none, ctypes.c_size_t(0), ctypes.byref(size))
         front, record = (ctypes.c_uint8 * size.value)(), (ctypes.c_uint8 * RECORD)()

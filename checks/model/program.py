@@ -56,12 +56,12 @@ class Image:
 
 
 class WholeImage:
-    """The content of an image of version 3 (docs/IMAGES.md), in the same form. A frame that isn't stored is free."""
+    """The content of a snapshot (docs/IMAGES.md), in the same form. A frame that isn't stored is free."""
 
     def __init__(self, image):
         refused = stored.refusal(image)
         if refused:
-            raise ValueError(f"no image of version 3: {refused}")
+            raise ValueError(f"no snapshot: {refused}")
         self.frames, self.offers = stored.word_at(image, 8), stored.offers(image)
         records = [struct.unpack_from("<6I", image, RECORDS + 24 * number) for number in range(machine.PROCESSES)]
         self.containers = [memory.Container(*record[1:5]) if record[0] else None for record in records]
@@ -84,14 +84,14 @@ class WholeImage:
 
 
 def whole_differs(state, image):
-    """How an image of version 3 differs from a state, offers included, or None."""
+    """How a snapshot differs from a state, offers included, or None."""
     try:
         seen = WholeImage(image)
     except (ValueError, struct.error) as fault:
         return str(fault)
     offers = [stored.Offer(*key, int(right)) for key, right in sorted(state.offers.items())]
     if seen.offers != offers:
-        return f"the image has the offers {seen.offers}, not {offers}"
+        return f"the snapshot has the offers {seen.offers}, not {offers}"
     return memory.difference(state, seen)
 
 

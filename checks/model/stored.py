@@ -1,8 +1,10 @@
-"""Images of version 3 by docs/IMAGES.md alone: the first reason against bytes, and what they have."""
+"""Snapshots by docs/IMAGES.md alone: the first reason against bytes, and what they have."""
 import struct
 from typing import NamedTuple
 
-MAGIC, RECORDS, FRONT, OFFER, RECORD, FRAME = b"mC2I", 12, 1556, 16, 4116, 4096
+# What an image begins with, and a snapshot.
+IMAGE, MAGIC = b"mC2I", b"mC2W"
+RECORDS, FRONT, OFFER, RECORD, FRAME = 12, 1556, 16, 4116, 4096
 # The reasons against bytes, by their numbers in the library.
 NOT_IMAGE, BAD_LENGTH, BAD_VERSION, BAD_FIELD = 1, 2, 3, 4
 
@@ -82,12 +84,12 @@ def bad_field(image):
 
 
 def refusal(image):
-    """The first reason against bytes, and the place of the field; None if they encode an image."""
+    """The first reason against bytes, and the place of the field; None if they encode a snapshot."""
     if image[:4] != MAGIC:
         return NOT_IMAGE, 0
     if len(image) < 12:
         return BAD_LENGTH, 0
-    if word_at(image, 4) != 3:
+    if word_at(image, 4) != 1:
         return BAD_VERSION, 0
     if not 16 <= word_at(image, 8) <= 1048576:
         return BAD_FIELD, 8
@@ -110,4 +112,4 @@ def of_version_2(image):
         frame = word_at(image, place)
         roles[frame] = image[place + 4 : place + 20]
         contents[frame] = image[place + 20 : place + RECORD]
-    return b"".join([MAGIC, struct.pack("<I", 2), image[8:1548], *roles, *contents])
+    return b"".join([IMAGE, struct.pack("<I", 2), image[8:1548], *roles, *contents])

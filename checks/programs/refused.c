@@ -13,7 +13,7 @@
 
 enum { FRAMES = 32, LENGTH = TOWER_IMAGE_LENGTH(FRAMES), NONE = -1 };
 /* The bytes of an image that are changed (docs/IMAGES.md): of its version, of process 0, of the page of its offer, and
- * the first of frame 0 in each version. */
+ * the first of frame 0 in an image and in a snapshot. */
 enum { VERSION = 4, ACCOUNT = 12 + 8, OFFERED = 1556 + 4, ZERO = 1548 + 16 * FRAMES, WHOLE_ZERO = 1556 + 16 + 20 };
 
 /* What is changed of an image: its last byte is missing, the charge of process 0 or a byte of frame 0 is another, it is
@@ -21,7 +21,7 @@ enum { VERSION = 4, ACCOUNT = 12 + 8, OFFERED = 1556 + 4, ZERO = 1548 + 16 * FRA
 enum damage { SOUND, CUT, PROCESS, FRAME, OLD, OFFER };
 
 static uint8_t image[LENGTH], bytes[LENGTH], front[LENGTH];
-/* of version 3, with an offer */
+/* a snapshot, with an offer */
 static uint8_t whole[LENGTH];
 static size_t whole_length;
 /* what is checked and restored: one of these two, damaged or not */
@@ -155,9 +155,9 @@ static void open_core(void) {
     need(is_done(tower_spawn(0, 3)) && is_done(tower_offer(0, 0x40000, 1, TOWER_READ_ONLY)), "tower_boot", "an offer");
 }
 
-/* Writes the core's image of version 3. */
+/* Writes the core's snapshot. */
 static void write_whole(void) {
-    need(tower_store_front(&tower, whole, LENGTH, &whole_length) == TOWER_STORED, "tower_store_front", "an image");
+    need(tower_store_front(&tower, whole, LENGTH, &whole_length) == TOWER_STORED, "tower_store_front", "a snapshot");
     for (uint32_t frame = 0; frame < FRAMES; frame++) {
         uint32_t status = tower_store_frame(&tower, frame, whole + whole_length, LENGTH - whole_length);
         whole_length += status == TOWER_STORED ? TOWER_RECORD_BYTES : 0;

@@ -1,6 +1,6 @@
-/* changed [COUNT]: the image of version 3 of a small core, changed at random in so many ways, 20,000 by default. Each is
- * given to tower_check_whole and tower_restore_whole where a page without access follows it. Both say the same. No core
- * comes of an image that isn't sound, and no block is left of it; a core that comes of one is stored as the same bytes.
+/* changed [COUNT]: the snapshot of a small core, changed at random in so many ways, 20,000 by default. Each is given to
+ * tower_check_whole and tower_restore_whole where a page without access follows it. Both say the same. No core comes of a
+ * snapshot that isn't sound, and no block is left of it; a core that comes of one is stored as the same bytes.
  * It ends with status 0 if all goes as expected (expect.h). */
 #define _DEFAULT_SOURCE
 #define HEAP_OF_LIBRARY
@@ -28,7 +28,7 @@ static uint32_t below(uint32_t end) {
     return (uint32_t)((state >> 11) % end);
 }
 
-/* Writes the image of a core, and returns its length. */
+/* Writes the snapshot of a core, and returns its length. */
 static size_t store(const struct tower *tower, uint8_t *bytes) {
     size_t size = 0;
     EXPECT(tower_store_front(tower, bytes, MOST, &size) == TOWER_STORED);
@@ -59,7 +59,7 @@ static void make_image(void) {
 }
 
 /* Where a change is made: mostly a field of a process, an offer, a count or a frame's record; otherwise any word. The number
- * of frames stays, so that no image asks for more memory than this. */
+ * of frames stays, so that no snapshot asks for more memory than this. */
 static size_t place(void) {
     size_t record = FRONT + TOWER_RECORD_BYTES * (size_t)below((uint32_t)((length - FRONT) / TOWER_RECORD_BYTES));
     size_t at = 0;
@@ -83,7 +83,7 @@ static void change(uint8_t *bytes) {
     memcpy(at, &new, sizeof new);
 }
 
-/* A changed image that ends where the guard begins: the check, and the restore. Returns its status. */
+/* A changed snapshot that ends where the guard begins: the check, and the restore. Returns its status. */
 static uint32_t try_one(uint8_t *guard) {
     size_t size = below(50) ? length : below((uint32_t)length);
     uint8_t *bytes = guard - size;

@@ -44,7 +44,7 @@ void write_image(struct tower *tower) {
     static uint8_t front[MOST_FRONT], record[TOWER_RECORD_BYTES];
     size_t size = 0;
     tower_set_other_heap(&ours);
-    need(tower_store_front(tower, front, sizeof front, &size) == TOWER_STORED && blocks == 0, "the core has an image");
+    need(tower_store_front(tower, front, sizeof front, &size) == TOWER_STORED && blocks == 0, "the core has a snapshot");
     put(front, size);
     for (uint32_t frame = 0; frame < tower_frames(tower); frame++) {
         uint32_t status = tower_store_frame(tower, frame, record, sizeof record);

@@ -15,7 +15,7 @@ extern struct kernel kernel;
 
 /* Boots a core over a block of its own. */
 void kernel_boot(uint32_t frames);
-/* Makes a core of an image of version 3 instead, with its offers. Returns a status of tower_restore_whole_over. */
+/* Makes a core of a snapshot instead, with its offers. Returns a status of tower_restore_whole_over. */
 uint32_t kernel_restore(const uint8_t *image, size_t count, struct tower_verdict *verdict);
 void kernel_close(void);
 

@@ -17,7 +17,7 @@
 enum { VERSION = 4, MOST_FRONT = TOWER_FRONT_LENGTH(TOWER_PROCESSES * TOWER_OFFERS) };
 enum { MOST_IMAGE = MOST_FRONT + TOWER_RECORD_BYTES * TOWER_MAX_FRAMES };
 
-/* The file: this, the records in the order of the queue, and the core's image of version 3, which has the offers. */
+/* The file: this, the records in the order of the queue, and the core's snapshot, which has the offers. */
 struct head {
     char magic[8];
     uint32_t version, record_bytes, tenants;
@@ -120,15 +120,15 @@ static void restore_core(FILE *file) {
     char why[32];
     struct tower_verdict verdict;
     uint8_t *image = malloc(MOST_IMAGE + 1);
-    need(image != NULL, "there is memory for an image");
+    need(image != NULL, "there is memory for a snapshot");
     uint32_t status = kernel_restore(image, fread(image, 1, MOST_IMAGE + 1, file), &verdict);
     free(image);
     need(status != TOWER_RESTORE_NO_MEMORY, "there is memory for a core");
     if (status == TOWER_RESTORE_BAD_BLOCK) {
-        fail("no core can be made of its image", "more than 4096 frames");
+        fail("no core can be made of its snapshot", "more than 4096 frames");
     } else if (status != TOWER_RESTORED) {
         tower_verdict_text(status, &verdict, why, sizeof why);
-        fail("no core can be made of its image", why);
+        fail("no core can be made of its snapshot", why);
     }
 }
 

@@ -3,7 +3,7 @@ import struct
 
 
 def parts_of(data):
-    """The head's numbers, the records and the image."""
+    """The head's numbers, the records and the snapshot."""
     magic, version, size, tenants = struct.unpack_from("<8sIII", data)
     records = [data[20 + i * size : 20 + (i + 1) * size] for i in range(tenants)]
     return (magic, version, size), records, data[20 + tenants * size :]
@@ -14,13 +14,13 @@ def whole_of(head, records, image):
 
 
 def offers_of(image):
-    """The pending offers of an image of version 3: offerer, page, target and right."""
+    """The pending offers of a snapshot: offerer, page, target and right."""
     count = struct.unpack_from("<I", image, 1548)[0]
     return [struct.unpack_from("<4I", image, 1556 + 16 * i) for i in range(count)]
 
 
 def with_offers(image, offers):
-    """The same image with other offers."""
+    """The same snapshot with other offers."""
     packed = b"".join(struct.pack("<4I", *offer) for offer in offers)
     rest = image[1556 + 16 * len(offers_of(image)) :]
     return image[:1548] + struct.pack("<I", len(offers)) + image[1552:1556] + packed + rest
@@ -39,7 +39,7 @@ def wrong_files(good):
     roles = [struct.unpack_from("<5I", image, frames + 4116 * i) for i in range(stored)]
     mapped = next(i for i in range(stored) if roles[i][1] == 4)
     free = next((i for i in range(stored) if roles[i][0] != i), stored)
-    none, made = "no file of --save: ", "no core can be made of its image: "
+    none, made = "no file of --save: ", "no core can be made of its snapshot: "
     for length in (0, 7, 19, 20, at - 1):
         yield good[:length], none + "it is too short"
     for length in (at, at + 3):
@@ -55,7 +55,7 @@ def wrong_files(good):
     yield with_word(good, 12, head[2] + 8), none + "it is of another version"
     yield with_word(good, 16, 65), none + "it has too many tenants"
     yield with_word(good, 16, len(records) - 1), made + "not an image"
-    for version in (1, 2, 4):
+    for version in (0, 2, 3, 4):
         yield with_word(good, at + 4, version), made + "unknown image version"
     for count in (0, 15, 1048577):
         yield with_word(good, at + 8, count), made + "bad field at byte 8"

@@ -1,4 +1,4 @@
--- Why a file gives no image of version 3, as a fault of a command.
+-- Why a file gives no snapshot, as a fault of a command.
 use Rattle.std.proofs.Common.{◌≡◌, ℕ, List, [], Option, inl, inr}
 use Rattle.std.specs.Prelude.{◌⊎◌, IfSome}
 use Rattle.wide_image.specs.Streams.{IsRefusedBehind, NamesBehind, NamesReason, NoneEncode}

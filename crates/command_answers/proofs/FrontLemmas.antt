@@ -10,18 +10,14 @@ content_again None rest front read = tt
 content_again (Some bytes) None front read = absurd read
 content_again (Some bytes) (Some left) front read = ap Some (sym read)
 
--- eight bytes say what more bytes do
-eight : (front left : List ℕ) → (length front < 8 → left ≡ []) → says_whole (front ++ left) ≡ says_whole front
-eight [] left end = rw (end (omega arith)) refl
-eight (a ∷ []) left end = rw (end (omega arith)) refl
-eight (a ∷ b ∷ []) left end = rw (end (omega arith)) refl
-eight (a ∷ b ∷ c ∷ []) left end = rw (end (omega arith)) refl
-eight (a ∷ b ∷ c ∷ d ∷ []) left end = rw (end (omega arith)) refl
-eight (a ∷ b ∷ c ∷ d ∷ e ∷ []) left end = rw (end (omega arith)) refl
-eight (a ∷ b ∷ c ∷ d ∷ e ∷ f ∷ []) left end = rw (end (omega arith)) refl
-eight (a ∷ b ∷ c ∷ d ∷ e ∷ f ∷ g ∷ []) left end = rw (end (omega arith)) refl
-eight (a ∷ b ∷ c ∷ d ∷ e ∷ f ∷ g ∷ h ∷ more) left end = refl
+-- four bytes say what more bytes do
+four : (front left : List ℕ) → (length front < 4 → left ≡ []) → says_whole (front ++ left) ≡ says_whole front
+four [] left end = rw (end (omega arith)) refl
+four (a ∷ []) left end = rw (end (omega arith)) refl
+four (a ∷ b ∷ []) left end = rw (end (omega arith)) refl
+four (a ∷ b ∷ c ∷ []) left end = rw (end (omega arith)) refl
+four (a ∷ b ∷ c ∷ d ∷ more) left end = refl
 
-pub says_again : (rest : Option (List ℕ)) (front : List ℕ) → (length front < 8 → IsAtEnd rest) → SaysWhole (says_whole front) (option_append (Some front) rest)
+pub says_again : (rest : Option (List ℕ)) (front : List ℕ) → (length front < 4 → IsAtEnd rest) → SaysWhole (says_whole front) (option_append (Some front) rest)
 says_again None front end = tt
-says_again (Some left) front end = eight front left end
+says_again (Some left) front end = four front left end

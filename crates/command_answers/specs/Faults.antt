@@ -42,7 +42,7 @@ tool_of_image image.BadVersion = tool.BadVersion
 tool_of_image (image.BadField offset) = tool.BadField offset
 tool_of_image image.NoMemory = tool.NoMemory
 
--- why a file gives no image of version 3
+-- why a file gives no snapshot
 abbrev pub tool_of_whole : WideReadFault → ToolFault
 tool_of_whole ReadFailed = tool.ReadFailed
 tool_of_whole (NotRead wide.NotImage) = tool.NotImage
@@ -51,12 +51,12 @@ tool_of_whole (NotRead wide.BadVersion) = tool.BadVersion
 tool_of_whole (NotRead (wide.BadField offset)) = tool.BadField offset
 tool_of_whole (NotRead wide.NoMemory) = tool.NoMemory
 
--- a file's bytes encode no image of version 3, and the fault names the first reason against them, in the order in which
--- they are read
+-- a file's bytes encode no snapshot, and the fault names the first reason against them, in the order in which they are
+-- read
 abbrev pub IsReason : Option (List ℕ) → WideImageFault → Type 0
 IsReason file fault = NoneEncode [] file × IfSome file (λ bytes. NamesReason bytes fault)
 
--- why a file gives no image of version 3: a read failed, memory ran out, or that is the first reason against its bytes
+-- why a file gives no snapshot: a read failed, memory ran out, or that is the first reason against its bytes
 abbrev pub IsFileFault : Option (List ℕ) → ToolFault → Type 0
 IsFileFault file tool.NotImage = IsReason file wide.NotImage
 IsFileFault file tool.BadVersion = IsReason file wide.BadVersion

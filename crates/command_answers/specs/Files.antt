@@ -1,7 +1,7 @@
 -- The word of a command line that names a file, and what is read of that file.
-use Rattle.std.specs.Prelude.{◌≡◌, ℕ, Bool, true, false, ◌&&◌, ◌==◌, List, [], ◌∷◌, take, Option, Some, IfSome, unwrap_or, slice_get, codes, option_map, option_and_then}
+use Rattle.std.specs.Prelude.{◌≡◌, ℕ, Bool, true, List, [], take, Option, Some, IfSome, unwrap_or, slice_get, codes, option_map, option_and_then}
 use Rattle.clap.specs.Words.{Row, Rule, Text, new_rule, all_of}
-use Rattle.memory_image.specs.Refusals.{begins}
+use Rattle.wide_image.specs.FirstBytes.{begins_snapshot}
 
 -- FILE, which must be there
 abbrev pub file_argument : Rule
@@ -25,19 +25,14 @@ IsRead remained bytes = IfSome (option_map (take 16844301) remained) (λ input. 
 
 -- ---- Its first bytes
 
--- four bytes are the number 3
-abbrev pub are_three : ℕ → ℕ → ℕ → ℕ → Bool
-are_three a b c d = a == 3 && b == 0 && c == 0 && d == 0
-
--- the first eight bytes are those of an image of version 3
+-- the first four bytes are those of a snapshot, of any version
 abbrev pub says_whole : List ℕ → Bool
-says_whole (p ∷ q ∷ r ∷ s ∷ a ∷ b ∷ c ∷ d ∷ rest) = begins (p ∷ q ∷ r ∷ s ∷ []) && are_three a b c d
-says_whole _ = false
+says_whole bytes = begins_snapshot bytes
 
 -- this content is the file's, where that is known
 abbrev pub IsContent : Option (List ℕ) → Option (List ℕ) → Type 0
 IsContent file content = IfSome file (λ bytes. content ≡ Some bytes)
 
--- known content begins as an image of version 3 does, or does not
+-- known content begins as a snapshot does, or does not
 abbrev pub SaysWhole : Bool → Option (List ℕ) → Type 0
 SaysWhole whole content = IfSome content (λ bytes. says_whole bytes ≡ whole)

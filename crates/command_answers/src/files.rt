@@ -2,15 +2,14 @@
 
 ghost use Rattle.std.specs.Prelude.{◌≡◌, ◌≤◌, ◌⊎◌, Some, IfOk, IfErr, length};
 ghost use Rattle.std.specs.Fmt.{option_append};
-ghost use Rattle.command_answers.specs.Files.{IsContent, IsRead, SaysWhole, are_three, says_whole};
+ghost use Rattle.command_answers.specs.Files.{IsContent, IsRead, SaysWhole, says_whole};
 
 use crate::faults::ToolFault;
 use arrayvec::ArrayVec;
-use memory_image::begins;
 use std::alloc::Global;
 use std::io;
 use std::io::Read;
-use wide_image::fill;
+use wide_image::{begins_snapshot, fill};
 
 /// One byte more than an image of version 1 or 2 of 4,096 frames has.
 const FILE_BYTES: u64 = 16_844_301;
@@ -30,26 +29,16 @@ pub fn bytes_of<F: Read + Drop>(alloc: Global, file: F) -> Result<Vec<u8>, ToolF
     }
 }
 
-/// Whether four bytes are the number 3.
-fn are_three(a: u8, b: u8, c: u8, d: u8) -> bool
-    ensures { result ≡ are_three a b c d }
-{
-    a == 3 && b == 0 && c == 0 && d == 0
-}
-
-/// Returns whether bytes begin as an image of version 3 does, by the first eight.
+/// Returns whether bytes begin as a snapshot does, of any version: by the first four.
 pub fn says_whole(bytes: &[u8]) -> bool
     ensures { result ≡ says_whole bytes.now }
 {
-    match bytes {
-        [_, _, _, _, a, b, c, d, ..] => begins(bytes) && are_three(*a, *b, *c, *d),
-        _ => false,
-    }
+    begins_snapshot(bytes)
 }
 
-/// These bytes, at most eight.
-fn kept(bytes: &[u8]) -> ArrayVec<u8, 8>
-    requires { length bytes.now ≤ 8 }
+/// These bytes, at most four.
+fn kept(bytes: &[u8]) -> ArrayVec<u8, 4>
+    requires { length bytes.now ≤ 4 }
     ensures { result.items ≡ bytes.now }
 {
     let mut front = ArrayVec::new();
@@ -57,18 +46,18 @@ fn kept(bytes: &[u8]) -> ArrayVec<u8, 8>
     front
 }
 
-/// Reads the first bytes of a file: eight, or all if there are fewer. They and what the file has left are its content,
-/// and whether that begins as an image of version 3 does is for them to say.
+/// Reads the first bytes of a file: four, or all if there are fewer. They and what the file has left are its content,
+/// and whether that begins as a snapshot does is for them to say.
 ///
 /// ReadFailed if a read answers an error.
-pub fn front_of<F: Read>(file: &mut F) -> Result<ArrayVec<u8, 8>, ToolFault>
+pub fn front_of<F: Read>(file: &mut F) -> Result<ArrayVec<u8, 4>, ToolFault>
     ensures content { IfOk result (λ front. IsContent (F.remaining file.old)
         (option_append (Some front.items) (F.remaining file.new))) }
     ensures says { IfOk result (λ front. SaysWhole (says_whole front.items)
         (option_append (Some front.items) (F.remaining file.new))) }
     ensures fault { IfErr result (λ fault. fault ≡ ToolFault.ReadFailed) }
 {
-    let mut bytes = [0; 8];
+    let mut bytes = [0; 4];
     let read = fill(file, &mut bytes)?;
     Ok(kept(&bytes[..read]))
 }

@@ -11,6 +11,8 @@ use Rattle.memory_image.specs.Image.{Image, frames, process_at, role_at}
 use Rattle.address_space.specs.ImageWords.{is_lazy_word, lets_write}
 use Rattle.image_check.specs.Told.{fails_nothing, verdict_on}
 use Rattle.image_check.specs.Text.{verdict_text}
+use Rattle.image_map.specs.declared.formats.Format.{Format}
+use Rattle.image_map.specs.declared.formats.Format.TheVariants as format
 use Rattle.image_map.specs.declared.runs.Run.{Run}
 use Rattle.image_map.specs.Runs.{runs_at}
 
@@ -197,16 +199,21 @@ process_text image most p (Some r) = process_line p r ++ (bar_line r ++ pages_te
 
 -- ---- The whole
 
--- the first line of a map, of a file of this version
-unfoldable pub image_line : ℕ → Image → List ℕ
-image_line version image =
-    codes "image version " ++ decimal version ++ codes " frames " ++ decimal (frames image) ++ codes " reserved " ++ decimal (frames_with image 35) ++ codes " free " ++ decimal (frames_with image 46)
+-- what a file of this format has
+abbrev pub format_words : Format → List ℕ
+format_words (format.Image version) = codes "image version " ++ decimal version
+format_words format.Snapshot = codes "snapshot"
+
+-- the first line of a map, of a file of this format
+unfoldable pub image_line : Format → Image → List ℕ
+image_line kind image =
+    format_words kind ++ codes " frames " ++ decimal (frames image) ++ codes " reserved " ++ decimal (frames_with image 35) ++ codes " free " ++ decimal (frames_with image 46)
     ++ codes " directory " ++ decimal (frames_with image 68) ++ codes " table " ++ decimal (frames_with image 84) ++ codes " page " ++ decimal (frames_with image 80) ++ codes " shared " ++ decimal (frames_with image 83) ++ 10 ∷ []
 
 -- the part about processes
 unfoldable pub processes_text : Image → ℕ → List ℕ
 processes_text image most = flat_map (λ p. process_text image most p (process_at image p)) (range_with_len 0 64)
 
--- the text of an image's map, of a file of this version
-unfoldable pub map_text : ℕ → Image → List ℕ
-map_text version image = image_line version image ++ (processes_text image (limit image) ++ (frames_text image ++ verdict_text (verdict_on image)))
+-- the text of an image's map, of a file of this format
+unfoldable pub map_text : Format → Image → List ℕ
+map_text kind image = image_line kind image ++ (processes_text image (limit image) ++ (frames_text image ++ verdict_text (verdict_on image)))

@@ -2,6 +2,7 @@
 //! function of the image (specs/Text.antt); as a picture it is SVG.
 #![tactic(auto)]
 
+mod formats;
 mod frames;
 mod laws;
 mod layout;
@@ -14,6 +15,7 @@ mod runs;
 mod squares;
 mod text;
 
+pub use formats::Format;
 pub use image_check::{Image, ImageRef, Verdict, WriteFailed, check, read_image};
 pub use laws::maps_list_each_slot;
 pub use picture::{PictureFault, write_picture};

@@ -4,8 +4,9 @@ ghost use Rattle.std.specs.Prelude.{◌≡◌, ◌+◌, ◌*◌, ◌-◌, ◌≤
 ghost use Rattle.std.specs.Char.{digit_char};
 ghost use Rattle.arrayvec.specs.ArrayVec.{array_vec_len};
 ghost use Rattle.memory_image.specs.Image.{role_at};
-ghost use Rattle.image_map.specs.Text.{letter_if, flags, five_digits, holders, holders_text, place, run_line, more_line, marks, used_marks, given_marks, bar, bar_line, process_line, image_line};
+ghost use Rattle.image_map.specs.Text.{letter_if, flags, five_digits, holders, holders_text, place, run_line, more_line, marks, used_marks, given_marks, bar, bar_line, process_line, format_words, image_line};
 
+use crate::formats::Format;
 use crate::frames::frames_with;
 use crate::page_flags::{is_lazy_word, lets_write};
 use crate::runs::Run;
@@ -229,13 +230,25 @@ pub(crate) fn process_line(number: u32, process: &Process) -> Line
 
 // ---- The image
 
-/// The line of the image: the version of its file, and how many frames have each letter.
+/// Puts what a file of this format has behind a line.
+fn push_format(line: &mut Line, format: Format)
+    requires { array_vec_len line.old + 24 ≤ 256 }
+    ensures items { line.new.items ≡ line.old.items ++ format_words format }
+    ensures len { array_vec_len line.new ≤ array_vec_len line.old + 24 }
+{
+    match format {
+        Format::Image(version) => push_number(line, "image version ", version),
+        Format::Snapshot => push_word(line, "snapshot"),
+    }
+}
+
+/// The line of the image: the format of its file, and how many frames have each letter.
 #[tactic(auto, unfolding(crate::specs::Text::image_line))]
-pub(crate) fn image_line(version: u32, image: &ImageRef<'_>) -> Line
-    ensures { result.items ≡ image_line version image.now }
+pub(crate) fn image_line(format: Format, image: &ImageRef<'_>) -> Line
+    ensures { result.items ≡ image_line format image.now }
 {
     let mut line = ArrayVec::new();
-    push_number(&mut line, "image version ", version);
+    push_format(&mut line, format);
     push_number(&mut line, " frames ", image.frames());
     push_number(&mut line, " reserved ", frames_with(image, b'#'));
     push_number(&mut line, " free ", frames_with(image, b'.'));

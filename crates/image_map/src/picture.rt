@@ -4,6 +4,7 @@ ghost use Rattle.std.specs.Prelude.{◌≡◌, ◌≤◌, IfErr};
 ghost use Rattle.std.specs.Io.KnownBytes.{Keeps};
 ghost use Rattle.image_check.specs.Told.{verdict_on};
 
+use crate::formats::Format;
 use crate::frames::{begins_stretch, free_rows, is_free_row, is_wide, stretch_length};
 use crate::layout::{BAR, LEGEND, Look, MOST_ROWS, PANEL, Scale, TOP};
 use crate::owners::Mapped;
@@ -56,7 +57,7 @@ fn height_of(image: &ImageRef<'_>, scale: Scale) -> u32 {
 /// Begins a picture: its size, its ground and its title.
 fn draw_front<W: Write>(
     writer: &mut W,
-    version: u32,
+    format: Format,
     image: &ImageRef<'_>,
     verdict: &Verdict,
     scale: Scale,
@@ -81,10 +82,16 @@ fn draw_front<W: Write>(
         writer,
         "<rect width=\"100%\" height=\"100%\" rx=\"8\" fill=\"#fcfcfa\" stroke=\"#b8b8b2\"/>\n"
     )?;
-    write!(
-        writer,
-        "<text x=\"20\" y=\"32\" font-size=\"17\">image of {frames} frames, version {version}: {judged}</text>\n"
-    )
+    match format {
+        Format::Image(version) => write!(
+            writer,
+            "<text x=\"20\" y=\"32\" font-size=\"17\">image of {frames} frames, version {version}: {judged}</text>\n"
+        ),
+        Format::Snapshot => write!(
+            writer,
+            "<text x=\"20\" y=\"32\" font-size=\"17\">snapshot of {frames} frames: {judged}</text>\n"
+        ),
+    }
 }
 
 /// Draws a red edge, and after it the letter and the number of a clause.
@@ -289,8 +296,8 @@ fn draw_squares<W: Write>(writer: &mut W, scene: &Scene<'_>) -> io::Result<()> {
 }
 
 /// Draws all of a picture.
-fn draw<W: Write>(writer: &mut W, version: u32, scene: &Scene<'_>) -> io::Result<()> {
-    draw_front(writer, version, scene.image, scene.verdict, scene.scale)?;
+fn draw<W: Write>(writer: &mut W, format: Format, scene: &Scene<'_>) -> io::Result<()> {
+    draw_front(writer, format, scene.image, scene.verdict, scene.scale)?;
     draw_squares(writer, scene)?;
     draw_legend(writer, scene.scale)?;
     draw_bars(
@@ -312,17 +319,17 @@ pub enum PictureFault {
     WriteFailed,
 }
 
-/// Writes the picture of an image, of a file of this version, as SVG. Each frame is a square, in the hue of its process,
-/// with ticks that distinguish it from others of that hue. The square's title says what the frame is and which processes
-/// hold it. Of more than 4,096 frames, rows in sequence that are all free have one line, with the number of their
-/// frames. A legend follows. Each live process has its record, a bar of used, given and room, and its lazy pages as
-/// dashed squares with their number. A frame that fails a clause has a red edge, a process a red mark, each with the
+/// Writes the picture of an image, of a file of this format, as SVG. Each frame is a square, in the hue of its process,
+/// with ticks that distinguish it from others of that hue. The square's title says what the frame is and which
+/// processes hold it. Of more than 4,096 frames, rows in sequence that are all free have one line, with the number of
+/// their frames. A legend follows. Each live process has its record, a bar of used, given and room, and its lazy pages
+/// as dashed squares with their number. A frame that fails a clause has a red edge, a process a red mark, each with the
 /// clause.
 ///
 /// NoMemory if there is none for which processes map each frame. WriteFailed where a write fails.
 pub fn write_picture<W: Write>(
     alloc: Global,
-    version: u32,
+    format: Format,
     image: &ImageRef<'_>,
     verdict: &Verdict,
     writer: &mut W,
@@ -340,7 +347,7 @@ pub fn write_picture<W: Write>(
         mapped: &mapped,
         scale: Scale::of(image.frames()),
     };
-    match draw(writer, version, &scene) {
+    match draw(writer, format, &scene) {
         Ok(()) => Ok(()),
         Err(_) => Err(PictureFault::WriteFailed),
     }

@@ -9,6 +9,7 @@ ghost use Rattle.text_output.specs.Output.{AppendsFront};
 ghost use Rattle.image_check.specs.Told.{verdict_on};
 ghost use Rattle.image_map.specs.Text.{run_line, more_line, runs_text, slot_text, process_line, bar_line, rows, row_text, frames_heading, image_line, pages_text, process_text, processes_text, rows_text, frames_text, limit, map_text};
 
+use crate::formats::Format;
 use crate::frames::{row_count, row_text};
 use crate::lines::{bar_line, image_line, more_line, process_line, run_line};
 use crate::runs::{Run, runs_at};
@@ -250,18 +251,18 @@ fn limit(image: &ImageRef<'_>, verdict: &Verdict) -> u32
 
 /// Writes the line of the image.
 fn write_image_line<W: Write>(
-    version: u32,
+    format: Format,
     image: &ImageRef<'_>,
     writer: &mut W,
 ) -> Result<(), WriteFailed>
-    ensures ok { OnOk result (Appends (W.contents writer.old) (W.contents writer.new) (image_line version image.now)) }
+    ensures ok { OnOk result (Appends (W.contents writer.old) (W.contents writer.new) (image_line format image.now)) }
     ensures err { OnErr result (AppendsFront (W.contents writer.old) (W.contents writer.new)
-        (image_line version image.now)) }
+        (image_line format image.now)) }
 {
-    write_whole(writer, &image_line(version, image))
+    write_whole(writer, &image_line(format, image))
 }
 
-/// Writes the text of an image, of a file of this version, with the verdict on it. It has a line for the image, and for
+/// Writes the text of an image, of a file of this format, with the verdict on it. It has a line for the image, and for
 /// each live process, in ascending order, its record, a bar and the runs of its pages. Then come the frames, 64 in a
 /// row, and the lines of the verdict. Of more than 4,096 frames, rows in sequence that are all free have one line, with
 /// the number of their frames.
@@ -272,17 +273,17 @@ fn write_image_line<W: Write>(
 ///
 /// WriteFailed where a write fails; what was written is then a front of the text.
 pub fn write_map<W: Write>(
-    version: u32,
+    format: Format,
     image: &ImageRef<'_>,
     verdict: &Verdict,
     writer: &mut W,
 ) -> Result<(), WriteFailed>
     requires { verdict.now ≡ verdict_on image.now }
-    ensures ok { OnOk result (Appends (W.contents writer.old) (W.contents writer.new) (map_text version image.now)) }
+    ensures ok { OnOk result (Appends (W.contents writer.old) (W.contents writer.new) (map_text format image.now)) }
     ensures err { OnErr result (AppendsFront (W.contents writer.old) (W.contents writer.new)
-        (map_text version image.now)) }
+        (map_text format image.now)) }
 {
-    write_image_line(version, image, writer)?;
+    write_image_line(format, image, writer)?;
     write_processes(image, limit(image, verdict), writer)?;
     write_frames(image, writer)?;
     verdict.write_text(writer)

@@ -1,4 +1,4 @@
--- A machine with its offers, made of an image of version 3.
+-- A machine with its offers, made of a snapshot.
 use Rattle.std.specs.Prelude.{◌≡◌, ◌≢◌, ℕ, Bool, true, false, List, length, map, take, Some, slice_get}
 use Rattle.address_space.specs.Stays.{FramesStay, none_goes}
 use Rattle.kernel_calls.specs.Machine.{answer, end_of}
@@ -51,7 +51,8 @@ pub record ShowsPlaces (core : View) (image : Image) : Type 0 where
   -- from that directory, each page has the table and the frame that it has in the image
   pub pages : FramesStay none_goes (memory_of image) (machine.memory_of core)
 
--- the image represents the core's state, whose offers are the image's, and the core shows all where the image has it
+-- the snapshot represents the core's state, whose offers are the snapshot's, and the core shows all where the snapshot
+-- has it
 pub record IsResumed (core : View) (w : WideImage) : Type 0 where
   pub stands : StandsFor w.image core.state
   pub offers : AreListed core.state.offers w.offers
@@ -67,24 +68,24 @@ pub record IsRefused (s : State) (offers : List PendingOffer) (number : ℕ) (r 
   pub answered : answer (after_offers s (take number offers)) (offer_event offer) ≡ r
   pub refused : r ≢ reply.Done
 
--- of a sound image, the first offer that the machine refuses, which has none at first
+-- of a sound snapshot, the first offer that the machine refuses, which has none at first
 abbrev pub RefusesOffer : WideImage → ℕ → Reply → Type 0
 RefusesOffer w number r = (s : State) × StandsFor w.image s × (s.offers ≡ finite_map.empty) × IsRefused s w.offers number r
 
--- what a fault says of an image
+-- what a fault says of a snapshot
 abbrev pub NamesFault : WideImage → WideRestoreFault → Type 0
 NamesFault w (fault.NotSound named) = FailsFirst w.image named
 NamesFault w (fault.BadOffer number r) = RefusesOffer w number r
 NamesFault w fault.NoMemory = Unit {0}
 
--- the image is sound, and its offers are those of a well-formed state that it represents
+-- the snapshot is sound, and its offers are those of a well-formed state that it represents
 pub record IsSoundWide (w : WideImage) : Type 0 where
   pub state : State
   pub stands : StandsFor w.image state
   pub well_formed : IsWellFormed state
   pub offers : AreListed state.offers w.offers
 
--- the image that is read of a machine's text is sound, and a core of it is in the machine's state, with its offers
+-- the snapshot that is read of a machine's text is sound, and a core of it is in the machine's state, with its offers
 abbrev pub StoredMachinesResume : Type 0
 StoredMachinesResume = (v : View) (w read : WideImage) → IsWholeMachine v w → IsWellFormed v.state → Encodes (text w) read
     → IsSoundWide read × ((core : View) → StandsFor read.image core.state → AreListed core.state.offers read.offers → core.state ≡ v.state)

@@ -1,5 +1,5 @@
 //! Cores made of images. If the check finds an image sound, the core is the one of the state that the image represents,
-//! without any offer. Of an image of version 3 it has the image's offers.
+//! without any offer. A core of a snapshot has the snapshot's offers.
 #![tactic(auto)]
 
 mod faults;

@@ -1,4 +1,4 @@
-//! A core with its offers, made of an image of version 3.
+//! A core with its offers, made of a snapshot.
 
 ghost use Rattle.std.specs.Prelude.{◌≡◌, ◌<◌, ◌^◌, length, IfOk, IfErr, OnOk, IfSome, IfNone};
 ghost use Rattle.address_space.specs.Stays.{FramesStay, none_goes};
@@ -61,7 +61,7 @@ fn make_offers(core: &mut Core, offers: &[PendingOffer]) -> Option<(u32, Reply)>
     None
 }
 
-/// The first clause that fails of an image of version 3, apart from its offers, if one does.
+/// The first clause that fails of a snapshot, apart from its offers, if one does.
 fn check_wide(alloc: Global, image: &WideImage) -> Result<(), WideRestoreFault>
     ensures sound { OnOk result (IsSound image.now.image) }
     ensures fault { IfErr result (NamesFault image.now) }
@@ -78,7 +78,7 @@ fn check_wide(alloc: Global, image: &WideImage) -> Result<(), WideRestoreFault>
     }
 }
 
-/// An image's offers are in order, and how many they are is a number of 32 bits. It computes nothing.
+/// A snapshot's offers are in order, and how many they are is a number of 32 bits. It computes nothing.
 fn has_offers(image: &WideImage)
     ensures few { length image.now.offers < 2 ^ 32 }
     ensures rise { Rise 0 image.now.offers }
@@ -86,13 +86,13 @@ fn has_offers(image: &WideImage)
     image.within();
 }
 
-/// Makes the core of an image of version 3, with its offers: the machine that was stored. The core's state is the one
-/// that the image represents, and its pending offers are the image's. The core has as many frames. Each process has the
-/// account and the directory that the image says, and each page the table and the frame.
+/// Makes the core of a snapshot, with its offers: the machine that was stored. The core's state is the one that the
+/// snapshot represents, and its pending offers are the snapshot's. The core has as many frames. Each process has the
+/// account and the directory that the snapshot says, and each page the table and the frame.
 ///
-/// NoMemory if there is no memory for the check. Otherwise NotSound with the first clause that fails. Otherwise NoMemory
-/// if there is none for what a core keeps in addition to the image's bytes and roles. Otherwise BadOffer with the first
-/// offer that the machine refuses, and its reply.
+/// NoMemory if there is no memory for the check. Otherwise NotSound with the first clause that fails. Otherwise
+/// NoMemory if there is none for what a core keeps in addition to the snapshot's bytes and roles. Otherwise BadOffer
+/// with the first offer that the machine refuses, and its reply.
 pub fn restore_wide(alloc: Global, image: WideImage) -> Result<Core, WideRestoreFault>
     ensures resumed { IfOk result (λ core. IsResumed core image) }
     ensures fault { IfErr result (NamesFault image) }

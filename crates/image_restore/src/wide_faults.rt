@@ -1,9 +1,9 @@
-//! Why no core came of an image of version 3.
+//! Why no core came of a snapshot.
 
 use crate::faults::Failed;
 use kernel_calls::Reply;
 
-/// Why no core came of an image of version 3.
+/// Why no core came of a snapshot.
 #[derive(Clone, Copy, Debug, PartialEq, Eq)]
 pub enum WideRestoreFault {
     /// Its memory and its accounts aren't sound.

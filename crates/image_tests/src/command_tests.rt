@@ -92,7 +92,7 @@ fn check_image<R: AllocGlobal + Abort>(rt: &R, words: &[&str], frames: u32) {
     check_asked(rt, words, Ok(Job::Image { frames }));
 }
 
-/// Checks that these arguments request an image of version 3 of so many frames.
+/// Checks that these arguments request a snapshot of so many frames.
 fn check_whole<R: AllocGlobal + Abort>(rt: &R, words: &[&str], frames: u32) {
     check_asked(rt, words, Ok(Job::Whole { frames }));
 }

@@ -1,13 +1,17 @@
-//! Images of version 3: a machine of any size is stored and resumed, with its offers.
+//! Snapshots: a machine of any size is stored and resumed, with its offers.
 
-use crate::common::process;
+use crate::common::{booted, check_fault, image_of, process, spelled};
 use crate::comparing::{same, same_bytes};
+use crate::images::put;
 use crate::restore_tests::reply;
 use image_restore::{WideRestoreFault, restore_wide};
 use kernel_calls::{Call, Cause, Core, Reply};
+use memory_image::ImageFault;
 use page_words::{Page, Size, Vaddr};
 use std::process::Abort;
-use wide_image::{WideImageFault, read_wide_image, write_core};
+use wide_image::{
+    WideImageFault, WideReadFault, read_wide_image, read_wide_image_from, write_core,
+};
 
 /// How many frames the core has.
 const FRAMES: u32 = 5000;
@@ -57,18 +61,18 @@ fn prepared<R: AllocGlobal + Abort>(rt: &R) -> Core {
     core
 }
 
-/// The image of a core.
+/// The snapshot of a core.
 fn stored<R: AllocGlobal + Abort>(rt: &R, core: &Core) -> Vec<u8> {
     let mut bytes = Vec::new(rt.alloc());
     let written = write_core(rt.alloc(), core, &mut bytes);
-    written.ok().expect(rt, "an image of a core");
+    written.ok().expect(rt, "a snapshot of a core");
     bytes
 }
 
-/// The core of an image.
+/// The core of a snapshot.
 fn resumed<R: AllocGlobal + Abort>(rt: &R, bytes: &[u8]) -> Core {
     let image = read_wide_image(rt.alloc(), bytes);
-    let core = restore_wide(rt.alloc(), image.ok().expect(rt, "an image"));
+    let core = restore_wide(rt.alloc(), image.ok().expect(rt, "a snapshot"));
     core.ok().expect(rt, "a core")
 }
 
@@ -158,7 +162,45 @@ fn other_bytes_are_refused_by_the_first_reason(rt: HostRuntime) {
     same(&rt, &fault, &Some(WideImageFault::BadLength));
 }
 
-/// With that byte at a place, no core comes of the image, for this reason.
+/// The bytes are refused so as a snapshot, in one piece and piece by piece.
+fn check_no_snapshot<R: AllocGlobal + Abort>(rt: &R, bytes: &[u8], expected: WideImageFault) {
+    let fault = read_wide_image(rt.alloc(), bytes).err();
+    same(rt, &fault, &Some(expected));
+    let mut reader = bytes;
+    let fault = read_wide_image_from(rt.alloc(), &mut reader).err();
+    same(rt, &fault, &Some(WideReadFault::NotRead(expected)));
+}
+
+/// With this version, an image is of an unknown one. It is no snapshot in any.
+fn check_unknown_image<R: AllocGlobal + Abort>(rt: &R, bytes: &mut [u8], version: u32) {
+    put(bytes, 4, version);
+    check_fault(rt, bytes, Some(ImageFault::BadVersion));
+    check_no_snapshot(rt, bytes, WideImageFault::NotImage);
+}
+
+/// With this version, a snapshot is of an unknown one. It is no image in any.
+fn check_unknown_snapshot<R: AllocGlobal + Abort>(rt: &R, bytes: &mut [u8], version: u32) {
+    put(bytes, 4, version);
+    check_no_snapshot(rt, bytes, WideImageFault::BadVersion);
+    check_fault(rt, bytes, Some(ImageFault::NotImage));
+}
+
+#[test]
+fn images_and_snapshots_have_versions_of_their_own(rt: HostRuntime) {
+    let mut image = spelled(&rt, &image_of(&rt, &booted(&rt, 16)));
+    check_fault(&rt, &image, None);
+    check_no_snapshot(&rt, &image, WideImageFault::NotImage);
+    for version in [0, 3, 4, 99, u32::MAX] {
+        check_unknown_image(&rt, &mut image, version);
+    }
+    let mut snapshot = stored(&rt, &prepared(&rt));
+    check_fault(&rt, &snapshot, Some(ImageFault::NotImage));
+    for version in [0, 2, 3, 99, u32::MAX] {
+        check_unknown_snapshot(&rt, &mut snapshot, version);
+    }
+}
+
+/// With that byte at a place, no core comes of the snapshot, for this reason.
 fn check_unsound<R: AllocGlobal + Abort>(
     rt: &R,
     bytes: &[u8],
@@ -169,7 +211,7 @@ fn check_unsound<R: AllocGlobal + Abort>(
 ) {
     let changed = with_byte(rt, bytes, place, byte);
     let image = read_wide_image(rt.alloc(), changed.as_slice());
-    let fault = restore_wide(rt.alloc(), image.ok().expect(rt, "an image")).err();
+    let fault = restore_wide(rt.alloc(), image.ok().expect(rt, "a snapshot")).err();
     same(
         rt,
         &fault,

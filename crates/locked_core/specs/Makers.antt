@@ -66,7 +66,8 @@ abbrev pub Makes : ℕ → Maker → ℕ → Call → Maker → Reply → Type 0
 Makes frames before pid call after reply = (between : List LogEntry) × (e : LogEntry) × IsMade frames before pid call reply after between e
 
 -- Why a CPU is refused on the log that was found. Of Unread nothing is said. NoMemory comes only if the log is legal,
--- begins with what was seen and has as many of this CPU's entries. TooManyFrames is of a snapshot. Nothing else refuses it.
+-- begins with what was seen and has as many of this CPU's entries. TooManyFrames is of `Kernel::snapshot`. Nothing else
+-- refuses it.
 abbrev pub IsRefused : ℕ → List LogEntry → Maker → Fault → Type 0
 IsRefused frames log cpu Unread = Unit {0}
 IsRefused frames log cpu NoMemory = Legal frames log × StartsWith log cpu.seen × (calls_of cpu.number log ≡ calls_of cpu.number cpu.seen)

@@ -32,12 +32,12 @@ pub enum Fault {
     /// Not every CPU was handed back once, or what they say is not what the log says.
     #[error("the CPUs do not agree with the log")]
     Disagree,
-    /// The kernel has more than 4,096 frames, which are the most of a snapshot. `Kernel::store` writes its image.
+    /// The kernel has more than 4,096 frames, which are the most of an image. `Kernel::store` writes a snapshot of it.
     #[error("more than 4096 frames")]
     TooManyFrames,
 }
 
-/// Why a kernel's image was not written whole.
+/// Why a kernel's snapshot was not written whole.
 #[derive(Clone, Copy, Debug, PartialEq, Eq, Error)]
 pub enum StoreFault {
     /// There was no memory for the list of offers. Nothing was written.

@@ -157,8 +157,8 @@ impl<N: Name, G: Gate + Drop> Kernel<N, G> {
         Kernel::<N, G>::boot_wide_keeping(rt, alloc, frames, cpus, monitors, gate, keeps)
     }
 
-    /// Boots a kernel as `boot` does, of 16 to 1,048,576 frames: up to all 4 GiB that a page word can name. Its snapshot
-    /// is refused if it has more than 4,096 frames; `store` writes its image.
+    /// Boots a kernel as `boot` does, of 16 to 1,048,576 frames: up to all 4 GiB that a page word can name. If it has
+    /// more than 4,096 frames, `snapshot`, which takes an image, refuses it; `store` writes a snapshot of any size.
     ///
     /// BadSize where the frames are not 16 to 1,048,576, else BadCount where the CPUs are not 1 to 8 or the
     /// monitors more than 8, else NoMemory where there is none for them.
@@ -271,8 +271,8 @@ impl<N: Name, G: Gate + Drop> Kernel<N, G> {
         image
     }
 
-    /// Writes the image of the kernel's whole machine with its pending offers, of version 3, of one moment between calls:
-    /// waits for the lock, and has it until all is written. The CPU has the calls and has seen what it had.
+    /// Writes the snapshot of the kernel's whole machine, with its pending offers, of one moment between calls: waits
+    /// for the lock, and has it until all is written. The CPU has the calls and has seen what it had.
     ///
     /// Unread as for a call, NoMemory if there is no memory for the list of offers; nothing was written then. WriteFailed
     /// if a write fails; nothing was written then, or a prefix.

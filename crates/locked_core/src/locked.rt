@@ -178,7 +178,7 @@ impl<N: Name> Locked<N> {
         }
     }
 
-    /// Writes the image of the core with its offers, of version 3, for this CPU.
+    /// Writes the snapshot of the core, with its offers, for this CPU.
     ///
     /// Unread as for a call, NoMemory where there is none for the offers; nothing is written then. WriteFailed where a write
     /// fails.

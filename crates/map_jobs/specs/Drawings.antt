@@ -23,44 +23,46 @@ use Rattle.map_jobs.specs.declared.drawing.Form.{Form}
 use Rattle.map_jobs.specs.declared.drawing.Form.TheVariants as form
 use Rattle.map_jobs.specs.declared.jobs.Request.{Request}
 use Rattle.image_map.specs.Text.{map_text}
+use Rattle.image_map.specs.declared.formats.Format.{Format}
+use Rattle.image_map.specs.declared.formats.Format.TheVariants as format
 use Rattle.wide_image.specs.Streams.{EncodesAll}
 use Rattle.wide_image.specs.Wide.{WideImage}
 
 -- ---- Drawings
 
--- the text of a file of this version was written; of a picture nothing is said
-abbrev pub Shows : Form → ℕ → Image → Option (List ℕ) → Option (List ℕ) → Type 0
-Shows form.Text version image held holds = Appends held holds (map_text version image)
-Shows form.Picture version image held holds = Unit {0}
+-- the text of a file of this format was written; of a picture nothing is said
+abbrev pub Shows : Form → Format → Image → Option (List ℕ) → Option (List ℕ) → Type 0
+Shows form.Text kind image held holds = Appends held holds (map_text kind image)
+Shows form.Picture kind image held holds = Unit {0}
 
 -- a front of the text was written, and at least one byte of it was not
-abbrev pub ShowsFront : Form → ℕ → Image → Option (List ℕ) → Option (List ℕ) → Type 0
-ShowsFront form.Text version image held holds = AppendsFront held holds (map_text version image)
-ShowsFront form.Picture version image held holds = Unit {0}
+abbrev pub ShowsFront : Form → Format → Image → Option (List ℕ) → Option (List ℕ) → Type 0
+ShowsFront form.Text kind image held holds = AppendsFront held holds (map_text kind image)
+ShowsFront form.Picture kind image held holds = Unit {0}
 
 -- there is no memory for a picture, and nothing was written; or a write failed
-abbrev pub EndsForm : Form → ℕ → Image → ToolFault → Option (List ℕ) → Option (List ℕ) → Type 0
-EndsForm form version image fault held holds = ((fault ≡ tool.NoMemory) × Keeps held holds) ⊎ ((fault ≡ tool.WriteFailed) × ShowsFront form version image held holds)
+abbrev pub EndsForm : Form → Format → Image → ToolFault → Option (List ℕ) → Option (List ℕ) → Type 0
+EndsForm form kind image fault held holds = ((fault ≡ tool.NoMemory) × Keeps held holds) ⊎ ((fault ≡ tool.WriteFailed) × ShowsFront form kind image held holds)
 
 -- the bytes encode an image, which was drawn; the result is whether the image is sound
 abbrev pub Draws : Form → List ℕ → Bool → Option (List ℕ) → Option (List ℕ) → Type 0
-Draws form bytes sound held holds = (image : Image) × Spells bytes image × (sound ≡ fails_nothing (verdict_on image)) × Shows form image.version image held holds
+Draws form bytes sound held holds = (image : Image) × Spells bytes image × (sound ≡ fails_nothing (verdict_on image)) × Shows form (format.Image image.version) image held holds
 
 -- the bytes are refused, or there is no memory, and nothing was written; or a write failed
 abbrev pub EndsDrawing : Form → List ℕ → ToolFault → Option (List ℕ) → Option (List ℕ) → Type 0
 EndsDrawing form bytes fault held holds =
     ((refusal : ImageFault) × (fault ≡ tool_of_image refusal) × IsRefusal bytes refusal × Keeps held holds)
-    ⊎ ((image : Image) × (fault ≡ tool.WriteFailed) × Spells bytes image × ShowsFront form image.version image held holds)
+    ⊎ ((image : Image) × (fault ≡ tool.WriteFailed) × Spells bytes image × ShowsFront form (format.Image image.version) image held holds)
 
--- the file's bytes encode an image of version 3, which was drawn; the result is whether it is sound apart from its offers
+-- the file's bytes encode a snapshot, which was drawn; the result is whether it is sound apart from its offers
 abbrev pub DrawsWhole : Form → Option (List ℕ) → Bool → Option (List ℕ) → Option (List ℕ) → Type 0
-DrawsWhole form file sound held holds = (image : WideImage) × EncodesAll file image × (sound ≡ fails_nothing (verdict_on image.image)) × Shows form 3 image.image held holds
+DrawsWhole form file sound held holds = (image : WideImage) × EncodesAll file image × (sound ≡ fails_nothing (verdict_on image.image)) × Shows form format.Snapshot image.image held holds
 
 -- the file gives no image, or there is no memory, and nothing was written; or a write failed
 abbrev pub EndsWhole : Form → Option (List ℕ) → ToolFault → Option (List ℕ) → Option (List ℕ) → Type 0
 EndsWhole form file fault held holds =
     (IsFileFault file fault × Keeps held holds)
-    ⊎ ((image : WideImage) × (fault ≡ tool.WriteFailed) × EncodesAll file image × ShowsFront form 3 image.image held holds)
+    ⊎ ((image : WideImage) × (fault ≡ tool.WriteFailed) × EncodesAll file image × ShowsFront form format.Snapshot image.image held holds)
 
 -- ---- Command lines
 
@@ -112,7 +114,7 @@ DrawsPlain form (Failed fault) file held holds = (((fault ≡ tool.NoMemory) ⊎
 DrawsPlain form NotText file held holds = ⊥
 DrawsPlain form (Refused error) file held holds = ⊥
 
--- the file's bytes encode an image of version 3, which was drawn, and it is sound or not; or they are no such image
+-- the file's bytes encode a snapshot, which was drawn, and it is sound or not; or they encode none
 abbrev pub DrawsStored : Form → Answer → Option (List ℕ) → Option (List ℕ) → Option (List ℕ) → Type 0
 DrawsStored form Done file held holds = DrawsWhole form file true held holds
 DrawsStored form NotSound file held holds = DrawsWhole form file false held holds
@@ -120,7 +122,7 @@ DrawsStored form (Failed fault) file held holds = EndsWhole form file fault held
 DrawsStored form NotText file held holds = ⊥
 DrawsStored form (Refused error) file held holds = ⊥
 
--- a file that begins as one of version 3 does, or another
+-- a file that begins as a snapshot does, or another
 abbrev pub DrawsAs : Bool → Form → Answer → Option (List ℕ) → Option (List ℕ) → Option (List ℕ) → Type 0
 DrawsAs true form answer file held holds = DrawsStored form answer file held holds
 DrawsAs false form answer file held holds = DrawsPlain form answer file held holds

@@ -33,7 +33,7 @@ fn draw_plain<F: Read + Drop, O: Write>(
     }
 }
 
-/// Draws the image of version 3 that a file has, piece by piece.
+/// Draws the snapshot that a file has, piece by piece.
 fn draw_stored<F: Read, O: Write>(alloc: Global, form: Form, file: &mut F, output: &mut O) -> Answer
     ensures { DrawsStored form result (F.remaining file.old) (O.contents output.old) (O.contents output.new) }
 {
@@ -44,7 +44,7 @@ fn draw_stored<F: Read, O: Write>(alloc: Global, form: Form, file: &mut F, outpu
     }
 }
 
-/// Draws the image that a file has, of the version that its first bytes say.
+/// Draws the image or the snapshot that a file has, as its first bytes say.
 fn draw_file<F: Read + Drop, O: Write>(alloc: Global, form: Form, file: F, output: &mut O) -> Answer
     ensures { DrawsFile form result (F.remaining file) (O.contents output.old) (O.contents output.new) }
 {
@@ -80,8 +80,8 @@ fn draw_named<R: AllocGlobal + Opens, O: Write>(
 /// Draws the image in the file that the words name, of which the first is the program's name, as text or
 /// with `--svg` as a picture.
 ///
-/// Done where the image is sound, NotSound where it isn't; ReadFailed where the file can't be opened or
-/// read; the other faults are those of `draw_bytes`, or for an image of version 3 of `draw_whole`.
+/// Done where the image is sound, NotSound where it isn't; ReadFailed where the file can't be opened or read; the other
+/// faults are those of `draw_bytes`, or for a snapshot of `draw_whole`.
 pub fn draw<R: AllocGlobal + Opens, S: AsStr, O: Write>(
     rt: &R,
     words: &[S],

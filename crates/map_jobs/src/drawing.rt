@@ -6,7 +6,7 @@ ghost use Rattle.map_jobs.specs.Drawings.{Draws, DrawsWhole, EndsDrawing, EndsFo
 
 use command_answers::ToolFault;
 use image_check::{ImageRef, Verdict, check, check_by_ref, read_image};
-use image_map::{PictureFault, write_map, write_picture};
+use image_map::{Format, PictureFault, write_map, write_picture};
 use std::alloc::Global;
 use std::io::{Read, Write};
 use wide_image::read_wide_image_from;
@@ -20,26 +20,26 @@ pub enum Form {
     Picture,
 }
 
-/// Writes an image, of a file of this version, in a form.
+/// Writes an image, of a file of this format, in a form.
 fn write_form<W: Write>(
     alloc: Global,
     form: Form,
-    version: u32,
+    format: Format,
     image: &ImageRef<'_>,
     verdict: &Verdict,
     writer: &mut W,
 ) -> Result<(), ToolFault>
     requires { verdict.now ≡ verdict_on image.now }
-    ensures ok { OnOk result (Shows form version image.now (W.contents writer.old) (W.contents writer.new)) }
-    ensures fault { IfErr result (λ fault. EndsForm form version image.now fault (W.contents writer.old)
+    ensures ok { OnOk result (Shows form format image.now (W.contents writer.old) (W.contents writer.new)) }
+    ensures fault { IfErr result (λ fault. EndsForm form format image.now fault (W.contents writer.old)
         (W.contents writer.new)) }
 {
     match form {
-        Form::Text => match write_map(version, image, verdict, writer) {
+        Form::Text => match write_map(format, image, verdict, writer) {
             Ok(()) => Ok(()),
             Err(_) => Err(ToolFault::WriteFailed),
         },
-        Form::Picture => match write_picture(alloc, version, image, verdict, writer) {
+        Form::Picture => match write_picture(alloc, format, image, verdict, writer) {
             Ok(()) => Ok(()),
             Err(PictureFault::NoMemory) => Err(ToolFault::NoMemory),
             Err(PictureFault::WriteFailed) => Err(ToolFault::WriteFailed),
@@ -70,18 +70,19 @@ pub fn draw_bytes<W: Write>(
         return Err(ToolFault::NoMemory);
     };
     let version = image.version();
-    match write_form(alloc, form, version, &image.by_ref(), &verdict, writer) {
+    let format = Format::Image(version);
+    match write_form(alloc, form, format, &image.by_ref(), &verdict, writer) {
         Ok(()) => Ok(verdict.sound()),
         Err(fault) => Err(fault),
     }
 }
 
-/// Reads the image of version 3 that a file has, piece by piece, and draws it with the verdict of the check. It returns
-/// whether the image is sound apart from its offers, which are neither drawn nor tested.
+/// Reads the snapshot that a file has, piece by piece, and draws it with the verdict of the check. It returns whether
+/// it is sound apart from its offers, which are neither drawn nor tested.
 ///
-/// ReadFailed if a read fails. NotImage, BadVersion, BadLength and BadField where the bytes are no such image, by the
-/// first reason in the order in which they are read. NoMemory where there is none for the image, its check or its picture.
-/// Nothing is written with any of them. WriteFailed comes last, as for `draw_bytes`.
+/// ReadFailed if a read fails. NotImage, BadVersion, BadLength and BadField where the bytes are no snapshot, by the
+/// first reason in the order in which they are read. NoMemory where there is none for the snapshot, its check or its
+/// picture. Nothing is written with any of them. WriteFailed comes last, as for `draw_bytes`.
 #[tactic(auto, using(command_answers::proofs::FileFaults::file_fault))]
 pub fn draw_whole<F: Read, W: Write>(
     alloc: Global,
@@ -102,7 +103,7 @@ pub fn draw_whole<F: Read, W: Write>(
     let Ok(verdict) = check_by_ref(alloc, &shown) else {
         return Err(ToolFault::NoMemory);
     };
-    match write_form(alloc, form, 3, &shown, &verdict, writer) {
+    match write_form(alloc, form, Format::Snapshot, &shown, &verdict, writer) {
         Ok(()) => Ok(verdict.sound()),
         Err(fault) => Err(fault),
     }

@@ -212,7 +212,7 @@ fn audit_beside<N: Name + Send + Sync, R: AllocGlobal + Threads + Wait + Abort +
     cpu
 }
 
-/// A store, a snapshot, and a second store that is held while the snapshot is audited.
+/// A store, an image, and a second store that is held while the image is audited.
 fn held<N: Name + Send + Sync, R: AllocGlobal + Threads + Wait + Abort + Sync>(
     rt: &R,
     blank: Blank<HeldGate>,

@@ -253,7 +253,7 @@ fn is_taken<N: Name, R: Wait + Abort>(
     }
 }
 
-/// Takes a snapshot, with memory for it, after a refusal: the CPU still has as many calls.
+/// Takes an image, with memory for it, after a refusal: the CPU still has as many calls.
 fn check_taken<N: Name, R: Wait + Abort>(
     rt: &R,
     kernel: &Kernel<N, OpenGate>,
@@ -277,7 +277,7 @@ fn snapped<N: Name, R: Wait + Abort + Print>(
     }
 }
 
-/// A port's call and a snapshot.
+/// A port's call and an image.
 fn port_and_take<N: Name, R: Wait + Abort + Print>(rt: &R, boot: Boot<N, OpenGate>) {
     let Boot {
         kernel,
@@ -290,7 +290,7 @@ fn port_and_take<N: Name, R: Wait + Abort + Print>(rt: &R, boot: Boot<N, OpenGat
     check_length(rt, &closed(rt, kernel, put(rt, cpus, cpu)), 1);
 }
 
-/// Opens the kernel, and makes a port's call and a snapshot. Returns whether the kernel was opened.
+/// Opens the kernel, makes a port's call and takes an image. Returns whether the kernel was opened.
 fn ported_and_taken<N: Name, R: Wait + Abort + Print>(rt: &R, blank: Blank<OpenGate>) -> bool
     requires { (blank.frames ≡ N.frames) × (blank.book ≡ N.book) }
 {
@@ -303,12 +303,12 @@ fn ported_and_taken<N: Name, R: Wait + Abort + Print>(rt: &R, blank: Blank<OpenG
     }
 }
 
-/// Boots a kernel, and makes a port's call and a snapshot. Returns whether the kernel was opened.
+/// Boots a kernel, makes a port's call and takes an image. Returns whether the kernel was opened.
 fn is_ported_and_taken<R: AllocGlobal + Wait + Abort + Print>(rt: &R) -> bool {
     ported_and_taken::<Brand, R>(rt, booted(rt))
 }
 
-/// Makes a port's call and a snapshot on a booted kernel, and once more if it was not opened.
+/// Makes a port's call and takes an image on a booted kernel, and once more if it was not opened.
 fn check_ported_and_taken<R: AllocGlobal + Wait + Abort + Print>(rt: &R) {
     if !is_ported_and_taken(rt) {
         assert!(rt; is_ported_and_taken(rt));

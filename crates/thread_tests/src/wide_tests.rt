@@ -1,4 +1,4 @@
-//! Kernels over wide cores: of more frames than a snapshot has, written and made a core of.
+//! Kernels over wide cores: of more frames than an image has, stored and made a core of.
 
 ghost use Rattle.std.specs.Prelude.{◌≡◌};
 
@@ -145,8 +145,8 @@ fn check_resumed<R: AllocGlobal + Abort>(rt: &R, bytes: &[u8]) {
     check_offer(rt, &mut core);
 }
 
-/// A kernel of more than 4,096 frames has no snapshot.
-fn check_no_snapshot<N: Name, R: Wait + Abort>(
+/// A kernel of more than 4,096 frames has no image of versions 1 and 2.
+fn check_no_image<N: Name, R: Wait + Abort>(
     rt: &R,
     kernel: &Kernel<N, OpenGate>,
     cpu: &mut Cpu<N>,
@@ -171,7 +171,7 @@ fn in_threads<N: Name + Send + Sync, R: Threads + Wait + Abort + AllocGlobal + S
     let mut one = taken(rt, &mut cpus);
     prepare(rt, &kernel, &mut one);
     let (mut one, two) = fill_both(rt, &kernel, one, two);
-    check_no_snapshot(rt, &kernel, &mut one);
+    check_no_image(rt, &kernel, &mut one);
     let bytes = stored(rt, &kernel, &mut one);
     check_resumed(rt, bytes.as_slice());
     let history = closed(rt, kernel, put(rt, put(rt, cpus, one), two));

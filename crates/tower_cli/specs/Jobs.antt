@@ -88,7 +88,7 @@ race_in rows = option_and_then (λ frames. option_map (λ rounds. a_race frames 
 abbrev pub asks : Text → List Row → Bool
 asks name rows = option_map_or (λ text. bytes_eq text (codes "true")) (option_and_then (λ (values : List Text). slice_get values 0) (all_of name rows)) false
 
--- the image of a run's last state on a machine of so many frames: of version 2, or with `--whole` of version 3
+-- the image of a run's last state on a machine of so many frames, of version 2, or with `--whole` its snapshot
 abbrev pub image_in : List Row → Option Asked
 image_in rows = option_map (λ frames. if asks (codes "whole") rows then a_whole frames else an_image frames) (frames_in rows)
 

@@ -1,4 +1,4 @@
--- What the commands on images of version 3 read and write.
+-- What the commands on snapshots read and write.
 use Rattle.std.specs.Prelude.{◌≡◌, ◌≢◌, ◌⊎◌, ℕ, Bool, true, false, List, ◌++◌, Option, Some, None, IfSome, codes, decimal}
 use Rattle.std.specs.Io.KnownBytes.{Appends, Keeps}
 use Rattle.image_check.specs.Text.{verdict_text}
@@ -21,28 +21,28 @@ use Rattle.command_answers.specs.declared.faults.ToolFault.{ToolFault}
 use Rattle.command_answers.specs.declared.faults.ToolFault.TheVariants as tool
 use Rattle.tower_cli.specs.Images.{EndsScript}
 
--- ---- A core of an image
+-- ---- A core of a snapshot
 
--- the file's bytes encode an image of which this core was made, with its offers; or they encode one that isn't sound
+-- the file's bytes encode a snapshot of which this core was made, with its offers; or they encode one that isn't sound
 abbrev pub RestoresWhole : Option (List ℕ) → Option View → Type 0
 RestoresWhole file (Some core) = (image : WideImage) × EncodesAll file image × IsResumed core image
 RestoresWhole file None = (image : WideImage) × EncodesAll file image × (IsSoundWide image → ⊥)
 
--- ---- The check of an image
+-- ---- The check of a snapshot
 
 -- the line of an offer that the machine refuses: its number, and the reply
 unfoldable pub offer_line : ℕ → Reply → List ℕ
 offer_line number reply = codes "offer " ++ (decimal number ++ (codes " " ++ reply_line reply))
 
--- What a check writes. Of an image that is sound, offers included, the text of its verdict. If clauses fail, the text of
--- that verdict; if none does and the machine refuses an offer, the line of the first such offer.
+-- What a check writes. Of a snapshot that is sound, offers included, the text of its verdict. If clauses fail, the text
+-- of that verdict; if none does and the machine refuses an offer, the line of the first such offer.
 abbrev pub IsTold : WideImage → Bool → List ℕ → Type 0
 IsTold image true text = IsSoundWide image × (text ≡ verdict_text (verdict_on image.image))
 IsTold image false text =
     ((fails_nothing (verdict_on image.image) ≡ false) × (text ≡ verdict_text (verdict_on image.image)))
     ⊎ ((number : ℕ) × (reply : Reply) × RefusesOffer image number reply × (text ≡ offer_line number reply))
 
--- the file's bytes encode an image, of which this was written
+-- the file's bytes encode a snapshot, of which this was written
 abbrev pub ChecksWhole : Option (List ℕ) → Bool → Option (List ℕ) → Option (List ℕ) → Type 0
 ChecksWhole file sound held holds = (image : WideImage) × EncodesAll file image × (text : List ℕ) × IsTold image sound text × Appends held holds text
 
@@ -50,22 +50,22 @@ ChecksWhole file sound held holds = (image : WideImage) × EncodesAll file image
 abbrev pub ChecksFront : Option (List ℕ) → Option (List ℕ) → Option (List ℕ) → Type 0
 ChecksFront file held holds = (image : WideImage) × EncodesAll file image × (sound : Bool) × (text : List ℕ) × IsTold image sound text × AppendsFront held holds text
 
--- why an image isn't checked: the file gives none, and nothing was written; or a write failed
+-- why a snapshot isn't checked: the file gives none, and nothing was written; or a write failed
 abbrev pub EndsCheckWhole : Option (List ℕ) → ToolFault → Option (List ℕ) → Option (List ℕ) → Type 0
 EndsCheckWhole file fault held holds = (IsFileFault file fault × Keeps held holds) ⊎ ((fault ≡ tool.WriteFailed) × ChecksFront file held holds)
 
--- ---- The image of a script
+-- ---- The snapshot of a script
 
 -- the script is whole, and this machine is in the state that it ends in
 abbrev pub EndsIn : State → Option (List ℕ) → View → Type 0
 EndsIn begun remained after = IfSome remained (λ input. (fault_of input ≡ None) × (after.state ≡ end_of begun (events_of input)))
 
--- the image of version 3 of such a machine was written
+-- the snapshot of such a machine was written
 abbrev pub WritesWhole : State → Option (List ℕ) → Option (List ℕ) → Option (List ℕ) → Type 0
 WritesWhole begun remained held holds = (after : View) × EndsIn begun remained after × StoresMachine after held holds
 
--- why none was: a fault of the script, or after it no memory, and nothing was written; or, after the script, a write failed,
--- and nothing or a front of the image was
+-- why none was: a fault of the script, or after it no memory, and nothing was written; or, after the script, a write
+-- failed, and nothing or a front of the snapshot was
 abbrev pub EndsWhole : State → ScriptFault → Option (List ℕ) → Option (List ℕ) → Option (List ℕ) → Option (List ℕ) → Type 0
 EndsWhole begun fault remained remains held holds =
     (EndsScript begun fault remained remains × Keeps held holds)

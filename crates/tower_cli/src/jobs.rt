@@ -22,13 +22,14 @@ pub enum Job<'a> {
     Run { frames: u32 },
     /// To write the image of version 2 of the state that a script ends in, on a machine of so many frames.
     Image { frames: u32 },
-    /// To write the image of version 3 of the machine that a script leaves, of so many frames.
+    /// To write the snapshot of the machine that a script leaves, of so many frames.
     Whole { frames: u32 },
-    /// To check the image in a file of that name.
+    /// To check the image or the snapshot in a file of that name.
     Check { file: &'a str },
-    /// To run a script on the machine of the image in a file of that name.
+    /// To run a script on the machine of the image or the snapshot in a file of that name.
     Resume { file: &'a str },
-    /// To run a script on such a machine, and write the image of the machine that it leaves, of the file's version.
+    /// To run a script on such a machine, and write the image of the machine that it leaves, or its snapshot if the
+    /// file has one.
     ResumeImage { file: &'a str },
     /// To play so many rounds of a race, 1 to 1000, each on a machine of so many frames.
     Race { frames: u32, rounds: u32 },
@@ -64,7 +65,7 @@ fn whole_flag<'a>(alloc: Global) -> Arg<'a>
     Arg::new(alloc, "whole")
         .long("whole")
         .action(ArgAction::SetTrue)
-        .help("Writes version 3, with pending offers; frames may be up to 1048576")
+        .help("Writes a snapshot, with pending offers; frames may be up to 1048576")
 }
 
 /// `image [--frames N] [--whole]`.
@@ -181,7 +182,7 @@ fn asks(matches: &ArgMatches<'_>, name: &str) -> bool
     }
 }
 
-/// A run for the image of its last state, of version 2, or with `--whole` of version 3.
+/// A run for the image of its last state, of version 2, or with `--whole` for its snapshot.
 fn image_in<'a>(matches: &ArgMatches<'a>) -> Option<Job<'a>>
     ensures job { option_map as_asked result ≡ image_in (rows_of (found_of matches.now)) }
     ensures rounds { IfSome result HasRounds }

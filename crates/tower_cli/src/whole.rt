@@ -1,4 +1,4 @@
-//! The commands on images of version 3, which have a machine of any size with its offers.
+//! The commands on snapshots, which have a machine of any size with its offers.
 
 ghost use Rattle.std.specs.Prelude.{◌≡◌, ◌≢◌, ◌≤◌, ◌↔◌, IfOk, IfErr, IfSome, IfNone, IsErrOf, OnOk, OnErr};
 ghost use Rattle.std.specs.Io.KnownBytes.{Appends};
@@ -24,10 +24,10 @@ use std::io::{Read, Write};
 use text_output::{WriteFailed, push_number, push_word, write_whole};
 use wide_image::{StoreFault, WideImage, read_wide_image_from, write_core};
 
-/// Makes the core of the image of version 3 that a file has, with its offers; None if it isn't sound.
+/// Makes the core of the snapshot that a file has, with its offers; None if it isn't sound.
 ///
-/// ReadFailed if a read fails. NotImage, BadVersion, BadLength and BadField if the bytes are no such image, by the first
-/// reason in the order in which they are read. NoMemory if there is none for the image, its check or the core.
+/// ReadFailed if a read fails. NotImage, BadVersion, BadLength and BadField if the bytes are no snapshot, by the first
+/// reason in the order in which they are read. NoMemory if there is none for the snapshot, its check or the core.
 #[tactic(auto, using(command_answers::proofs::FileFaults::file_fault))]
 pub fn restore_whole<F: Read>(alloc: Global, file: &mut F) -> Result<Option<Core>, ToolFault>
     ensures restored { IfOk result (RestoresWhole (F.remaining file.old)) }
@@ -45,7 +45,7 @@ pub fn restore_whole<F: Read>(alloc: Global, file: &mut F) -> Result<Option<Core
     }
 }
 
-/// The first offer that the machine refuses, by its number, and the reply, of an image that is sound apart from its
+/// The first offer that the machine refuses, by its number, and the reply, of a snapshot that is sound apart from its
 /// offers; None if it refuses none.
 fn refused_offer(alloc: Global, image: WideImage) -> Result<Option<(u32, Reply)>, NoMemory>
     requires { IsSound image.image }
@@ -100,8 +100,8 @@ fn tell_verdict<W: Write>(verdict: &Verdict, writer: &mut W) -> Result<bool, Too
     }
 }
 
-/// Reads the image of version 3 that a file has, writes the verdict on it, and returns whether it is sound, offers included.
-/// If only an offer is refused, it writes `offer`, the number of the first, and the reply.
+/// Reads the snapshot that a file has, writes the verdict on it, and returns whether it is sound, offers included. If
+/// only an offer is refused, it writes `offer`, the number of the first, and the reply.
 ///
 /// The faults of `restore_whole`, with which nothing is written. WriteFailed comes last, and what was written is then a
 /// front of that text, and not all of it.
@@ -153,11 +153,11 @@ fn after_script<R: Read>(alloc: Global, core: Core, reader: &mut R) -> Result<Co
     Ok(after)
 }
 
-/// Runs a script on a core, and writes the image of version 3 of the machine that it leaves, in place of replies: a machine
-/// of any size with its pending offers.
+/// Runs a script on a core, and writes the snapshot of the machine that it leaves, in place of replies: a machine of
+/// any size with its pending offers.
 ///
 /// The faults are those of `run_script`, except BadSize. NoMemory comes also after the script, if there is none for the
-/// list of offers. WriteFailed comes if the image can't be written: a prefix of it was written then.
+/// list of offers. WriteFailed comes if the snapshot can't be written: a prefix of it was written then.
 pub fn write_resumed_whole<R: Read, W: Write>(
     alloc: Global,
     core: Core,
@@ -193,8 +193,8 @@ fn booted(alloc: Global, frames: u32) -> Result<Core, ToolFault>
     }
 }
 
-/// Runs a script on a freshly booted machine of so many frames, 16 to 1,048,576. It writes the image of version 3 of the
-/// machine that the script leaves, with its pending offers, in place of replies.
+/// Runs a script on a freshly booted machine of so many frames, 16 to 1,048,576. It writes the snapshot of the machine
+/// that the script leaves, with its pending offers, in place of replies.
 ///
 /// BadWideSize for another number of frames. The other faults are those of `write_resumed_whole`; NoMemory comes also if
 /// there is none for the frames. Before the script ends, nothing is written.

@@ -1,4 +1,4 @@
--- Bytes of version 3 encode one machine: what a free frame holds is no part of it.
+-- The bytes of a snapshot encode one machine: what a free frame holds is no part of it.
 use Rattle.std.proofs.Common.{◌≡◌, ℕ, List, sym, subst, ◌∙◌}
 use Rattle.kernel_calls.specs.declared.calls.Reply.{Reply}
 use Rattle.image_restore.specs.Resumed.{IsSoundWide}

@@ -1,4 +1,4 @@
--- Images of version 3 in bytes, and the verdict of a check in numbers.
+-- Snapshots in bytes, and the verdict of a check in numbers.
 use Rattle.std.specs.Prelude.{◌≡◌, ◌≢◌, ◌≤◌, ℕ, min, List, length, Some}
 use Rattle.std.specs.Option.{option_map}
 use Rattle.kernel_calls.specs.declared.calls.Reply.{Reply}
@@ -12,19 +12,19 @@ use Rattle.wide_image.specs.declared.faults.WideImageFault.TheVariants as fault
 use Rattle.tower_images.specs.Audits.{FailsProcess, FailsFrame}
 use Rattle.tower_images.specs.declared.verdicts.TowerVerdict.{TowerVerdict}
 
--- bytes encode an image of version 3 for which this holds
+-- bytes encode a snapshot for which this holds
 abbrev pub EncodesOne : List ℕ → (WideImage → Type 0) → Type 0
 EncodesOne bytes Holds = (image : WideImage) × (Encodes bytes image × Holds image)
 
--- how many bytes the machine's image begins with, up to the frames' records
+-- how many bytes the machine's snapshot begins with, up to the frames' records
 abbrev pub IsHeadLength : View → ℕ → Type 0
 IsHeadLength core count = (head : List ℕ) × IsHeadOf core head × (count ≡ length head)
 
--- any image
+-- any snapshot
 abbrev pub IsAny : WideImage → Type 0
 IsAny image = Unit {0}
 
--- why bytes are no image of version 3, and the place of the field that breaks its rule, or the highest number of 32 bits
+-- why bytes are no snapshot, and the place of the field that breaks its rule, or the highest number of 32 bits
 abbrev pub whole_numbers : WideImageFault → TowerVerdict
 whole_numbers fault.NotImage = record { number = 0; clause = 1 }
 whole_numbers fault.BadLength = record { number = 0; clause = 2 }

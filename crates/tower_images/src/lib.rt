@@ -149,9 +149,10 @@ pub extern "C" fn tower_restore(
     }
 }
 
-/// Writes what the image of the core of version 3 begins with (docs/IMAGES.md) at the start of `bytes`, and its length to
-/// `size`: all before the records of frames, with the offers. Returns 0. Otherwise `bytes` is unchanged. 1: the handle has
-/// no core. 2: memory ran out. 3: `bytes` is too short for as many as `size` then says. At 1 and 2 `size` is unchanged too.
+/// Writes what the snapshot of the core begins with (docs/IMAGES.md) at the start of `bytes`, and its length to `size`:
+/// all before the records of frames, with the offers. Returns 0. Otherwise `bytes` is unchanged. 1: the handle has no
+/// core. 2: memory ran out. 3: `bytes` is too short for as many as `size` then says. At 1 and 2 `size` is unchanged
+/// too.
 #[unsafe(no_mangle)]
 pub extern "C" fn tower_store_front(
     alloc: Global,
@@ -182,7 +183,7 @@ pub extern "C" fn tower_store_front(
     }
 }
 
-/// Writes the record of a frame at the start of `bytes`, 4,116 of them, and returns 0. The image of version 3 is what
+/// Writes the record of a frame at the start of `bytes`, 4,116 of them, and returns 0. The snapshot is what
 /// `tower_store_front` writes, and then the records of all frames in order. Otherwise nothing is written. 1: the handle
 /// has no core. 3: `bytes` is too short. 4: the frame is free, or there is none of that number: it has no record.
 #[unsafe(no_mangle)]
@@ -213,10 +214,10 @@ pub extern "C" fn tower_store_frame(
     }
 }
 
-/// Checks the image of version 3 in bytes, and its offers. 0: it is sound, and a core comes of it. 2: there is no memory
-/// for the image, its check or the core. 3, 4 and 5: as for `tower_check_bytes`, with its verdict; a place past the highest
-/// number of 32 bits is that number. 8: the machine refuses an offer, and the verdict has the number of the first. At 0 and
-/// 2 nothing is written.
+/// Checks the snapshot in bytes, and its offers. 0: it is sound, and a core comes of it. 2: there is no memory for the
+/// snapshot, its check or the core. 3, 4 and 5: as for `tower_check_bytes`, with its verdict; a place past the highest
+/// number of 32 bits is that number. 8: the machine refuses an offer, and the verdict has the number of the first. At 0
+/// and 2 nothing is written.
 #[unsafe(no_mangle)]
 pub extern "C" fn tower_check_whole(alloc: Global, bytes: &[u8], verdict: &mut TowerVerdict) -> u32
     ensures statuses { result ≢ 0 → IsRefusal result }
@@ -231,9 +232,9 @@ pub extern "C" fn tower_check_whole(alloc: Global, bytes: &[u8], verdict: &mut T
     check_whole(alloc, bytes, verdict)
 }
 
-/// Restores a core from the image of version 3 in bytes, with its offers, and returns 0. Otherwise the handle stays as it
-/// was. 1: it has a core already. Any other status, with its verdict, is as for `tower_check_whole`. At 0, 1 and 2 no
-/// verdict is written.
+/// Restores a core from the snapshot in bytes, with its offers, and returns 0. Otherwise the handle stays as it was. 1:
+/// it has a core already. Any other status, with its verdict, is as for `tower_check_whole`. At 0, 1 and 2 no verdict
+/// is written.
 #[unsafe(no_mangle)]
 pub extern "C" fn tower_restore_whole(
     alloc: Global,

@@ -1,4 +1,4 @@
-//! A core of the image of version 3 in bytes, with its offers.
+//! A core of the snapshot in bytes, with its offers.
 
 ghost use Rattle.std.specs.Prelude.{◌≡◌, ◌≢◌, ◌⊎◌, min, IfOk, IfErr};
 ghost use Rattle.process_table.specs.Image.{StandsFor, image_of};
@@ -24,7 +24,7 @@ fn short_place(offset: u64) -> u32
     }
 }
 
-/// Why bytes are no image of version 3, in numbers.
+/// Why bytes are no snapshot, in numbers.
 fn whole_verdict_from(fault: WideImageFault) -> TowerVerdict
     ensures { result ≡ whole_numbers fault }
 {
@@ -38,7 +38,7 @@ fn whole_verdict_from(fault: WideImageFault) -> TowerVerdict
     TowerVerdict { number, clause }
 }
 
-/// Reads the image of version 3 in bytes.
+/// Reads the snapshot in bytes.
 fn read_whole(alloc: Global, bytes: &[u8], told: &mut TowerVerdict) -> Result<WideImage, u32>
     ensures encoded { IfOk result (λ image. Encodes bytes.now image) }
     ensures statuses { IfErr result (λ status. (status ≡ 2) ⊎ (status ≡ 5)) }
@@ -57,7 +57,7 @@ fn read_whole(alloc: Global, bytes: &[u8], told: &mut TowerVerdict) -> Result<Wi
     }
 }
 
-/// Makes a core of the image of version 3 in bytes, with its offers, or returns why there is none.
+/// Makes a core of the snapshot in bytes, with its offers, or returns why there is none.
 pub fn restore_whole(alloc: Global, bytes: &[u8], told: &mut TowerVerdict) -> Result<Box<Core>, u32>
     ensures resumed { IfOk result (λ core. EncodesOne bytes.now (IsResumed core.value)) }
     ensures stands { IfOk result (λ core. StandsFor (image_of core.value) core.value.state) }
@@ -92,7 +92,7 @@ pub fn restore_whole(alloc: Global, bytes: &[u8], told: &mut TowerVerdict) -> Re
     }
 }
 
-/// Checks the image of version 3 in bytes, by a core that is made of it and dropped.
+/// Checks the snapshot in bytes, by a core that is made of it and dropped.
 pub fn check_whole(alloc: Global, bytes: &[u8], told: &mut TowerVerdict) -> u32
     ensures statuses { result ≢ 0 → IsRefusal result }
     ensures sound { result ≡ 0 → EncodesOne bytes.now IsSoundWide }

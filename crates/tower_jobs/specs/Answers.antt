@@ -42,7 +42,7 @@ ImagesScript frames NotSound remained remains held holds = ⊥
 ImagesScript frames NotText remained remains held holds = ⊥
 ImagesScript frames (Refused error) remained remains held holds = ⊥
 
--- the image of version 3 of the machine that it leaves was written of a whole script, or the run ended by the fault
+-- the snapshot of the machine that it leaves was written of a whole script, or the run ended by the fault
 abbrev pub StoresScript : ℕ → Answer → Option (List ℕ) → Option (List ℕ) → Option (List ℕ) → Option (List ℕ) → Type 0
 StoresScript frames Done remained remains held holds = WritesWhole (open_with frames) remained held holds
 StoresScript frames (Failed fault) remained remains held holds = EndsScriptWhole (open_with frames) fault remained remains held holds
@@ -61,7 +61,7 @@ ChecksPlain (Failed fault) file held holds = (((fault ≡ tool.NoMemory) ⊎ (fa
 ChecksPlain NotText file held holds = ⊥
 ChecksPlain (Refused error) file held holds = ⊥
 
--- the file's bytes encode an image of version 3, and it is sound or not, offers included; or they are no such image
+-- the file's bytes encode a snapshot, and it is sound or not, offers included; or they encode none
 abbrev pub ChecksStored : Answer → Option (List ℕ) → Option (List ℕ) → Option (List ℕ) → Type 0
 ChecksStored Done file held holds = ChecksWhole file true held holds
 ChecksStored NotSound file held holds = ChecksWhole file false held holds
@@ -69,7 +69,7 @@ ChecksStored (Failed fault) file held holds = EndsCheckWhole file fault held hol
 ChecksStored NotText file held holds = ⊥
 ChecksStored (Refused error) file held holds = ⊥
 
--- a file that begins as one of version 3 does, or another
+-- a file that begins as a snapshot does, or another
 abbrev pub ChecksAs : Bool → Answer → Option (List ℕ) → Option (List ℕ) → Option (List ℕ) → Type 0
 ChecksAs true answer file held holds = ChecksStored answer file held holds
 ChecksAs false answer file held holds = ChecksPlain answer file held holds
@@ -86,13 +86,13 @@ ChecksNamed named answer held holds =
     ((answer ≡ Failed tool.ReadFailed) × Keeps held holds)
     ⊎ ((file : Option (List ℕ)) × named file × ChecksFile answer file held holds)
 
--- a file's bytes encode an image of version 3 of which this core was made, with its offers; or what was read of it
--- encodes one of version 2 of which it was made
+-- a file's bytes encode a snapshot of which this core was made, with its offers; or what was read of it encodes an
+-- image of version 2 of which it was made
 abbrev pub HasCoreAs : Bool → Option (List ℕ) → View → Type 0
 HasCoreAs true file core = RestoresWhole file (Some core)
 HasCoreAs false file core = (bytes : List ℕ) × IsRead file bytes × Restores bytes (Some core)
 
--- the core of a file's image, which is of version 3 or not, as the first bytes say
+-- the core of a file, which has a snapshot or not, as the first bytes say
 abbrev pub HasCore : Bool → Option (List ℕ) → View → Type 0
 HasCore whole file core = (content : Option (List ℕ)) × IsContent file content × SaysWhole whole content × HasCoreAs whole content core
 
@@ -141,8 +141,8 @@ ImagesResumed begun NotSound remained remains held holds = ⊥
 ImagesResumed begun NotText remained remains held holds = ⊥
 ImagesResumed begun (Refused error) remained remains held holds = ⊥
 
--- the image of version 3 of the machine that it leaves was written of a whole script, from a state on, or the run ended by
--- the fault
+-- the snapshot of the machine that it leaves was written of a whole script, from a state on, or the run ended by the
+-- fault
 abbrev pub ImagesWhole : State → Answer → Option (List ℕ) → Option (List ℕ) → Option (List ℕ) → Option (List ℕ) → Type 0
 ImagesWhole begun Done remained remains held holds = WritesWhole begun remained held holds
 ImagesWhole begun (Failed fault) remained remains held holds = (ended : ScriptFault) × (ended ≢ script.BadSize) × (fault ≡ tool_of_script ended) × EndsWhole begun ended remained remains held holds
@@ -150,7 +150,7 @@ ImagesWhole begun NotSound remained remains held holds = ⊥
 ImagesWhole begun NotText remained remains held holds = ⊥
 ImagesWhole begun (Refused error) remained remains held holds = ⊥
 
--- the image is of version 3, or of version 2
+-- a snapshot, or an image of version 2
 abbrev pub ImagesAs : Bool → State → Answer → Option (List ℕ) → Option (List ℕ) → Option (List ℕ) → Option (List ℕ) → Type 0
 ImagesAs true begun answer remained remains held holds = ImagesWhole begun answer remained remains held holds
 ImagesAs false begun answer remained remains held holds = ImagesResumed begun answer remained remains held holds
@@ -160,7 +160,8 @@ ImagesAs false begun answer remained remains held holds = ImagesResumed begun an
 abbrev pub ResumesFile : Content → Answer → Option (List ℕ) → Option (List ℕ) → Option (List ℕ) → Option (List ℕ) → Type 0
 ResumesFile named answer remained remains held holds = (LacksNamedCore named answer × Keeps remained remains × Keeps held holds) ⊎ ((core : View) × (whole : Bool) × HasNamedCore named whole core × ResumesScript core.state answer remained remains held holds)
 
--- No core came of the file, as above. Or a core came of it, and the script ran for an image of the file's version.
+-- No core came of the file, as above. Or a core came of it, and the script ran for a snapshot or an image, as the file
+-- has one.
 abbrev pub ImagesFile : Content → Answer → Option (List ℕ) → Option (List ℕ) → Option (List ℕ) → Option (List ℕ) → Type 0
 ImagesFile named answer remained remains held holds = (LacksNamedCore named answer × Keeps remained remains × Keeps held holds) ⊎ ((core : View) × (whole : Bool) × HasNamedCore named whole core × ImagesAs whole core.state answer remained remains held holds)
 

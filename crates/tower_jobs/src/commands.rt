@@ -56,7 +56,7 @@ fn write_image_of<I: Read, O: Write>(
     }
 }
 
-/// Runs a script on a machine of so many frames, and writes the image of version 3 of the machine that it leaves.
+/// Runs a script on a machine of so many frames, and writes the snapshot of the machine that it leaves.
 fn write_whole_of<I: Read, O: Write>(
     alloc: Global,
     input: &mut I,
@@ -89,7 +89,7 @@ fn check_plain<F: Read + Drop, O: Write>(alloc: Global, file: F, output: &mut O)
     }
 }
 
-/// Checks the image of version 3 that a file has, piece by piece, and writes the verdict on it.
+/// Checks the snapshot that a file has, piece by piece, and writes the verdict on it.
 fn check_stored<F: Read, O: Write>(alloc: Global, file: &mut F, output: &mut O) -> Answer
     ensures { ChecksStored result (F.remaining file.old) (O.contents output.old) (O.contents output.new) }
 {
@@ -100,7 +100,7 @@ fn check_stored<F: Read, O: Write>(alloc: Global, file: &mut F, output: &mut O) 
     }
 }
 
-/// Checks the image that a file has, of the version that its first bytes say, and writes the verdict on it.
+/// Checks the image or the snapshot that a file has, as its first bytes say, and writes the verdict on it.
 fn check_file<F: Read + Drop, O: Write>(alloc: Global, file: F, output: &mut O) -> Answer
     ensures { ChecksFile result (F.remaining file) (O.contents output.old) (O.contents output.new) }
 {
@@ -132,7 +132,7 @@ fn check_named<R: AllocGlobal + Opens, O: Write>(rt: &R, name: &str, output: &mu
 #[derive(Drop)]
 struct Resumed {
     core: Core,
-    /// Whether the image is of version 3.
+    /// Whether the file has a snapshot.
     whole: bool,
 }
 
@@ -154,7 +154,7 @@ fn plain_core<F: Read + Drop>(alloc: Global, file: F) -> Result<Resumed, Answer>
     }
 }
 
-/// The core of the image of version 3 that a file has, with its offers, or why there is none.
+/// The core of the snapshot that a file has, with its offers, or why there is none.
 fn stored_core<F: Read>(alloc: Global, file: &mut F) -> Result<Resumed, Answer>
     ensures core { IfOk result (λ resumed. HasCoreAs resumed.whole (F.remaining file.old) resumed.core) }
     ensures whole { IfOk result (λ resumed. resumed.whole ≡ true) }
@@ -167,7 +167,7 @@ fn stored_core<F: Read>(alloc: Global, file: &mut F) -> Result<Resumed, Answer>
     }
 }
 
-/// The core of the image that a file has, of the version that its first bytes say, or why there is none.
+/// The core of the image or the snapshot that a file has, as its first bytes say, or why there is none.
 fn core_in<F: Read + Drop>(alloc: Global, file: F) -> Result<Resumed, Answer>
     ensures core { IfOk result (λ resumed. HasCore resumed.whole (F.remaining file) resumed.core) }
     ensures none { IfErr result (HasNoCore (F.remaining file)) }
@@ -229,7 +229,7 @@ fn resume_plain<I: Read, O: Write>(
     }
 }
 
-/// Runs a script on a core, and writes the image of version 3 of the machine that it leaves.
+/// Runs a script on a core, and writes the snapshot of the machine that it leaves.
 fn resume_stored<I: Read, O: Write>(
     alloc: Global,
     core: Core,
@@ -245,7 +245,7 @@ fn resume_stored<I: Read, O: Write>(
     }
 }
 
-/// Runs a script on a core that came of an image, and writes an image of that version.
+/// Runs a script on a core that came of a file, and writes a snapshot or an image, as the file has one.
 fn resume_image<I: Read, O: Write>(
     alloc: Global,
     resumed: Resumed,
@@ -278,7 +278,8 @@ fn resume_named<R: AllocGlobal + Opens, I: Read, O: Write>(
     }
 }
 
-/// Runs a script on such a machine, and writes the image of the machine that it leaves, of the file's version.
+/// Runs a script on such a machine, and writes the image of the machine that it leaves, or its snapshot if the file has
+/// one.
 fn image_named<R: AllocGlobal + Opens, I: Read, O: Write>(
     rt: &R,
     name: &str,

@@ -3,7 +3,7 @@
 use std::process::Abort;
 use tower_cli::write_script_image;
 
-/// The places of the version and of process 0's quota in an image.
+/// The places of the version in an image or a snapshot, and of process 0's quota in an image.
 const VERSION: u8 = 4;
 
 const QUOTA: u8 = 20;
@@ -22,14 +22,19 @@ pub(crate) fn opening<R: AllocGlobal + Abort>(rt: &R) -> Vec<u8> {
     image_after(rt, "")
 }
 
-/// The bytes of that image with a word put at a place.
-fn opening_with<R: AllocGlobal + Abort>(rt: &R, place: u8, word: u32) -> Vec<u8> {
-    let mut bytes = opening(rt);
+/// Puts a word at a place.
+fn put(bytes: &mut [u8], place: u8, word: u32) {
     for (i, byte) in word.to_le_bytes().iter().enumerate() {
         if let Some(old) = bytes.get_mut(place as usize + i) {
             *old = *byte;
         }
     }
+}
+
+/// The bytes of that image with a word put at a place.
+fn opening_with<R: AllocGlobal + Abort>(rt: &R, place: u8, word: u32) -> Vec<u8> {
+    let mut bytes = opening(rt);
+    put(&mut bytes, place, word);
     bytes
 }
 
@@ -41,4 +46,11 @@ pub(crate) fn opening_with_quota<R: AllocGlobal + Abort>(rt: &R, quota: u32) -> 
 /// The same in another version.
 pub(crate) fn opening_of_version<R: AllocGlobal + Abort>(rt: &R, version: u32) -> Vec<u8> {
     opening_with(rt, VERSION, version)
+}
+
+/// These bytes of an image or a snapshot, in another version.
+pub(crate) fn of_version<R: AllocGlobal + Abort>(rt: &R, bytes: &[u8], version: u32) -> Vec<u8> {
+    let mut changed = Vec::from_slice(rt.alloc(), bytes).ok().expect(rt, "memory");
+    put(&mut changed, VERSION, version);
+    changed
 }

@@ -99,12 +99,11 @@ fn a_script_resumes_on_an_image(rt: HostRuntime) {
 #[test]
 fn no_script_resumes_on_another_file(rt: HostRuntime) {
     let version = "tower: unknown image version\n";
-    let length = "tower: wrong image length\n";
     let missing = resume(&rt, "no.such.image", REST);
     check_not_resumed(&rt, &opening_with_quota(&rt, 16), 3, "");
     check_not_resumed(&rt, &opening_of_version(&rt, 1), 2, version);
     check_not_resumed(&rt, &opening_of_version(&rt, 4), 2, version);
-    check_not_resumed(&rt, &opening_of_version(&rt, 3), 2, length);
+    check_not_resumed(&rt, &opening_of_version(&rt, 3), 2, version);
     check_not_resumed(&rt, b"mC2", 2, "tower: not an image\n");
     check_ended(&rt, &missing, 1, "", "tower: read failed\n");
 }

@@ -2,6 +2,7 @@
 
 use crate::command_lines::{Ended, check_ended, end_of};
 use crate::comparing::{same, same_bytes};
+use crate::images::{of_version, opening_of_version};
 use command_answers::Opens;
 use map_jobs::draw;
 use std::fs;
@@ -18,7 +19,7 @@ const REST: &str = "0 1 accept 0 40000 50000\n0 1 load 50000000 4\n0 0 quota\n";
 
 const REPLIES: &str = "done\nvalue 00000007\nquota 4999 3 5\n";
 
-/// The bytes of an image of version 3 before its offers, of an offer, and of a frame's record.
+/// The bytes of a snapshot before its offers, of an offer, and of a frame's record.
 const HEAD: usize = 1556;
 
 const OFFER: usize = 16;
@@ -36,7 +37,7 @@ fn outcome<R: AllocGlobal + Files + Opens<Opened = R::File> + Threads + Wait + A
     end_of(rt, "tower", &answer, output)
 }
 
-/// The outcome of a script on so many frames for an image of version 3.
+/// The outcome of a script on so many frames for a snapshot.
 fn imaged<R: AllocGlobal + Files + Opens<Opened = R::File> + Threads + Wait + Abort + Sync>(
     rt: &R,
     frames: &str,
@@ -49,7 +50,7 @@ fn imaged<R: AllocGlobal + Files + Opens<Opened = R::File> + Threads + Wait + Ab
     )
 }
 
-/// The image of version 3 of 5,000 frames after a script.
+/// The snapshot of 5,000 frames after a script.
 fn stored<R: AllocGlobal + Files + Opens<Opened = R::File> + Threads + Wait + Abort + Sync>(
     rt: &R,
     script: &str,
@@ -112,7 +113,7 @@ fn check_checked<R: AllocGlobal + Files + Opens<Opened = R::File> + Threads + Wa
     check_ended(rt, &ended, status, output, errors);
 }
 
-/// The offer is pending after the cut, and a run without a script leaves the same image.
+/// The offer is pending after the cut, and a run without a script leaves the same snapshot.
 #[test]
 fn a_stored_machine_resumes_with_its_offers(rt: HostRuntime) {
     let bytes = stored(&rt, FRONT);
@@ -147,7 +148,7 @@ fn with_byte<R: AllocGlobal + Abort>(rt: &R, bytes: &[u8], place: usize, byte: u
     changed
 }
 
-/// With that byte at a place, no script resumes on the image, and the check ends with this status and these texts.
+/// With that byte at a place, no script resumes on the snapshot, and the check ends with this status and these texts.
 fn check_changed<R: AllocGlobal + Files + Opens<Opened = R::File> + Threads + Wait + Abort + Sync>(
     rt: &R,
     bytes: &[u8],
@@ -176,7 +177,7 @@ fn a_changed_image_resumes_no_script(rt: HostRuntime) {
     check_changed(&rt, &bytes, HEAD + 12, 2, 2, "", field);
 }
 
-/// The check of bytes that are no image of version 3 ends with status 2 and this line.
+/// The check of bytes that are no snapshot ends with status 2 and this line.
 fn check_refused<R: AllocGlobal + Files + Opens<Opened = R::File> + Threads + Wait + Abort + Sync>(
     rt: &R,
     bytes: &[u8],
@@ -203,7 +204,7 @@ fn a_cut_image_is_refused(rt: HostRuntime) {
     check_refused(&rt, &four, "tower: unknown image version\n");
 }
 
-/// An image of version 3 has 16 to 1,048,576 frames; version 2 at most 4,096.
+/// A snapshot has 16 to 1,048,576 frames; an image at most 4,096.
 #[test]
 fn a_machine_is_stored_of_so_many_frames(rt: HostRuntime) {
     let line = "tower: frames must be 16 to 1048576\n";
@@ -228,7 +229,7 @@ fn drawn<R: AllocGlobal + Files + Abort>(rt: &R, words: &[&str], bytes: &[u8]) -
 
 /// The map of 5,000 frames of which few are in use.
 const MAP: &str = concat!(
-    "image version 3 frames 5000 reserved 1 free 4995 directory 2 table 1 page 1 shared 0\n",
+    "snapshot frames 5000 reserved 1 free 4995 directory 2 table 1 page 1 shared 0\n",
     "process 0 parent 0 quota 4999 used 3 given 5 room 4991\n",
     "  [#g......................................]\n",
     "  40000000-40000fff rwmad frame 3\n",
@@ -249,4 +250,29 @@ fn a_map_of_many_frames_has_a_line_for_free_ones(rt: HostRuntime) {
     let picture = drawn(&rt, &["memory_map", "--svg", name], &bytes);
     let found = (picture.status, picture.output.ends_with(b"</svg>\n"));
     same(&rt, &found, &(0, true));
+}
+
+/// Each program refuses bytes of an unknown version.
+fn check_unknown<R: AllocGlobal + Files + Opens<Opened = R::File> + Threads + Wait + Abort + Sync>(
+    rt: &R,
+    bytes: &[u8],
+) {
+    let line = "tower: unknown image version\n";
+    check_refused(rt, bytes, line);
+    check_ended(rt, &resumed(rt, bytes, REST), 2, "", line);
+    check_ended(rt, &imaged_again(rt, bytes, REST), 2, "", line);
+    let map = drawn(rt, &["memory_map", "whole.drawn.by.a.test.image"], bytes);
+    check_ended(rt, &map, 2, "", "memory_map: unknown image version\n");
+}
+
+/// Version 3 has the first bytes of an image: it is none that is known, and no snapshot.
+#[test]
+fn other_versions_are_unknown_to_the_programs(rt: HostRuntime) {
+    for version in [0, 3, 4, 99, u32::MAX] {
+        check_unknown(&rt, &opening_of_version(&rt, version));
+    }
+    let snapshot = stored(&rt, FRONT);
+    for version in [0, 2, 3, 99, u32::MAX] {
+        check_unknown(&rt, &of_version(&rt, &snapshot, version));
+    }
 }

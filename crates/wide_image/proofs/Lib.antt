@@ -1,3 +1,4 @@
+pub mod FirstBytes
 pub mod FrameTexts
 pub mod Passing
 pub mod Kept

@@ -1,4 +1,4 @@
--- An image of version 3 that grows by pieces.
+-- A snapshot that grows by pieces.
 use Rattle.std.proofs.Common.{◌≡◌, ℕ, zero, suc, ◌+◌, ◌*◌, ◌-◌, ◌<◌, ◌≤◌, ◌||◌, Bool, true, false, List, [], ◌∷◌, ◌++◌, length, length-append, length-take, length-drop, map, take, drop, append_assoc, append-nil, replicate, refl, sym, ap, subst, ◌∙◌, arith, inr, Some, None}
 use Rattle.std.specs.Prelude.{◌==◌, if◌then◌else◌, nat_lt, nat_le, slice_get, slice_index}
 use Rattle.std.specs.List.{flat_map, range_with_len}
@@ -12,21 +12,23 @@ use Rattle.alloc_table.specs.declared.Role.TheVariants.{Free}
 use Rattle.alloc_table.specs.Roles.{is_free}
 use Rattle.memory_image.specs.Image.{IsRole, IsProcess}
 use Rattle.memory_image.specs.Restored.{image_with}
-use Rattle.memory_image.specs.Spelling.{magic, number, process_bytes, role_bytes}
+use Rattle.memory_image.specs.Spelling.{number, process_bytes, role_bytes}
 use Rattle.memory_image.specs.Tests.{first_failing}
-use Rattle.memory_image.specs.Refusals.{begins, process_fields}
+use Rattle.memory_image.specs.Refusals.{process_fields}
 use Rattle.memory_image.specs.Reading.{process_in}
 use Rattle.memory_image.proofs.FieldLemmas.{none_both, none_each}
 use Rattle.memory_image.proofs.PieceLemmas.{number_spells, take-more}
-use Rattle.memory_image.proofs.ReadingLemmas.{chosen, no_fault, no_bad, or_none, not_less, unmapped, begins_so, records_spelled, process_fits, role_kept}
+use Rattle.memory_image.proofs.ReadingLemmas.{chosen, no_fault, no_bad, or_none, not_less, unmapped, records_spelled, process_fits, role_kept}
 use Rattle.wide_image.specs.declared.fronts.Front.{Front}
 use Rattle.wide_image.specs.declared.offers.PendingOffer.{PendingOffer}
 use Rattle.wide_image.specs.Faults.{front_fields, bad_field}
+use Rattle.wide_image.specs.FirstBytes.{begins_snapshot, snapshot_magic}
 use Rattle.wide_image.specs.Layout.{frames_text, frames_stored}
 use Rattle.wide_image.specs.Offers.{rank_of, IsPending, Rise, offer_bytes}
 use Rattle.wide_image.specs.Pieces.{front_text, IsFront, front_bad, front_fault, Begun, IsBegun, so_far, place_of, wanted, left, next_rank, next_frame, offer_piece, frame_piece, piece_fields, with_offer, with_frame}
 use Rattle.wide_image.specs.Reading.{offer_at, role_at}
 use Rattle.wide_image.specs.Wide.{WideImage, IsWhole, Encodes, text}
+use Rattle.wide_image.proofs.FirstBytes.{snapshot_so}
 use Rattle.wide_image.proofs.FrameTexts.{frames_both, free_text, one_more, stored_both, none_stored, stored_more, blank_both, blank_free, blank_more}
 use Rattle.wide_image.proofs.Kept.{offer_kept, FrameKept, frame_kept}
 use Rattle.wide_image.proofs.OfferTexts.{right_is}
@@ -55,8 +57,8 @@ next_end from f (r ∷ roles) k role used =
 
 -- what no reason against a front says of it
 pub record FrontStands (xs : List ℕ) (n : ℕ) : Type 0 where
-  pub magic : begins xs ≡ true
-  pub version : word_at xs 4 ≡ 3
+  pub magic : begins_snapshot xs ≡ true
+  pub version : word_at xs 4 ≡ 1
   pub fewest : 16 ≤ n
   pub most : n ≤ 1048576
   pub long : 1556 ≤ length xs
@@ -66,9 +68,9 @@ pub record FrontStands (xs : List ℕ) (n : ℕ) : Type 0 where
 pub front_of : (xs : List ℕ) → front_fault xs ≡ None → FrontStands xs (word_at xs 8)
 unfolding front_fault front_bad
 front_of xs h =
-    let a = no_fault (begins xs) _ _ h in
+    let a = no_fault (begins_snapshot xs) _ _ h in
     let b = no_bad (nat_lt (length xs) 12) _ _ a.1 in
-    let c = no_fault (word_at xs 4 == 3) _ _ b.1 in
+    let c = no_fault (word_at xs 4 == 1) _ _ b.1 in
     let d = no_bad (nat_lt (word_at xs 8) 16 || nat_lt 1048576 (word_at xs 8)) _ _ c.1 in
     let e = no_bad (nat_lt (length xs) 1556) _ _ d.1 in
     let g = or_none (nat_lt (word_at xs 8) 16) (nat_lt 1048576 (word_at xs 8)) d.0 in
@@ -77,7 +79,7 @@ front_of xs h =
     let r = chosen (nat_le (word_at xs 1552) (word_at xs 8)) _ _ t.1 in
     record {
       magic = a.0;
-      version = eqb-true (word_at xs 4) 3 c.0;
+      version = eqb-true (word_at xs 4) 1 c.0;
       fewest = not_less (word_at xs 8) 16 g.0;
       most = not_less 1048576 (word_at xs 8) g.1;
       long = not_less (length xs) 1556 e.0;
@@ -110,8 +112,8 @@ module _ (xs : List ℕ) (small : (i : ℕ) → slice_index xs i < 256) (K : Fro
   unfolding front_text
   front_spelled =
       let l = K.long in
-      (λ i. magic ++ (number (sym K.version i) ++ (number (word_at xs 8) ++ (records_spelled xs small (word_at xs 8) front-long K.processes i ++ (number_spells xs 1548 small (omega arith) i ++ number_spells xs 1552 small (omega arith) i)))))
-      ∙ (λ i. sym (begins_so xs K.magic) i ++ (number_spells xs 4 small (omega arith) i ++ (number_spells xs 8 small (omega arith) i ++ (take 1536 (drop 12 xs) ++ joined xs 1548 4 4 i))))
+      (λ i. snapshot_magic ++ (number (sym K.version i) ++ (number (word_at xs 8) ++ (records_spelled xs small (word_at xs 8) front-long K.processes i ++ (number_spells xs 1548 small (omega arith) i ++ number_spells xs 1552 small (omega arith) i)))))
+      ∙ (λ i. sym (snapshot_so xs K.magic) i ++ (number_spells xs 4 small (omega arith) i ++ (number_spells xs 8 small (omega arith) i ++ (take 1536 (drop 12 xs) ++ joined xs 1548 4 4 i))))
       ∙ (λ i. take 4 xs ++ (take 4 (drop 4 xs) ++ (take 4 (drop 8 xs) ++ joined xs 12 1536 8 i)))
       ∙ (λ i. take 4 xs ++ (take 4 (drop 4 xs) ++ joined xs 8 4 1544 i))
       ∙ (λ i. take 4 xs ++ joined xs 4 4 1548 i)
@@ -336,8 +338,8 @@ module _ (b : Begun) (K : IsBegun b) (none : wanted b ≡ 0) where
   pub finished_text : so_far b ≡ text finished
   unfolding text so_far front_text
   finished_text =
-      ap (λ t. magic ++ (number 3 ++ (number b.front.frames ++ t))) (append_assoc (flat_map process_bytes b.front.processes) (number b.front.offers ++ number b.front.stored) (flat_map offer_bytes b.offers ++ frames_text 0 b.roles b.bytes))
-      ∙ sym (λ i. magic ++ (number 3 ++ (number (frames-all i) ++ (flat_map process_bytes b.front.processes ++ (number (full i) ++ (number (stored-all i) ++ (flat_map offer_bytes b.offers ++ frames-text i)))))))
+      ap (λ t. snapshot_magic ++ (number 1 ++ (number b.front.frames ++ t))) (append_assoc (flat_map process_bytes b.front.processes) (number b.front.offers ++ number b.front.stored) (flat_map offer_bytes b.offers ++ frames_text 0 b.roles b.bytes))
+      ∙ sym (λ i. snapshot_magic ++ (number 1 ++ (number (frames-all i) ++ (flat_map process_bytes b.front.processes ++ (number (full i) ++ (number (stored-all i) ++ (flat_map offer_bytes b.offers ++ frames-text i)))))))
 
   pub finished_encodes : ((i : ℕ) → slice_index finished.image.bytes i < 256) → Encodes (so_far b) finished
   finished_encodes small = record { whole = finished_whole small; is = finished_text }

@@ -1,4 +1,4 @@
--- What refuses an image that is read piece by piece is a reason against its bytes, whatever follows.
+-- What refuses a snapshot that is read piece by piece is a reason against its bytes, whatever follows.
 use Rattle.std.proofs.Common.{◌≡◌, ℕ, suc, ◌+◌, ◌-◌, ◌*◌, ◌^◌, ◌<◌, ◌≤◌, ◌||◌, Bool, true, false, List, [], ◌∷◌, ◌++◌, length, length-append, length-drop, length-take, take, drop, append_assoc, append-nil, refl, sym, ap, subst, ◌∙◌, arith, inl, inr, Option, Some, None, Result, Ok, Err}
 use Rattle.std.specs.Int.{from_le_bytes, w32}
 use Rattle.std.specs.Io.KnownBytes.{Consumes, IsAtEnd}
@@ -11,8 +11,8 @@ use Rattle.phys_memory.specs.Bytes.{word_at}
 use Rattle.alloc_table.specs.declared.Role.{Role}
 use Rattle.alloc_table.specs.Roles.{is_free}
 use Rattle.memory_image.specs.Image.{IsRole, IsWord}
-use Rattle.memory_image.specs.Refusals.{begins, process_place, process_fields, process_tests}
-use Rattle.memory_image.specs.Spelling.{magic, number, process_bytes, role_bytes}
+use Rattle.memory_image.specs.Refusals.{process_place, process_fields, process_tests}
+use Rattle.memory_image.specs.Spelling.{number, process_bytes, role_bytes}
 use Rattle.memory_image.specs.Tests.{first_failing}
 use Rattle.memory_image.proofs.FieldLemmas.{append_none, each_none}
 use Rattle.memory_image.proofs.PieceLemmas.{four}
@@ -25,6 +25,7 @@ use Rattle.wide_image.specs.declared.streams.WideReadFault.{WideReadFault}
 use Rattle.wide_image.specs.declared.streams.WideReadFault.TheVariants.{ReadFailed, NotRead}
 use Rattle.wide_image.specs.declared.offers.PendingOffer.{PendingOffer}
 use Rattle.wide_image.specs.Faults.{offer_tests, offer_fields, bad_offer, frame_tests, frame_fields, bad_frame, bad_field, fault_of}
+use Rattle.wide_image.specs.FirstBytes.{begins_snapshot, snapshot_magic}
 use Rattle.wide_image.specs.Layout.{frames_text, stored, frames_stored}
 use Rattle.wide_image.specs.Offers.{rank, rank_of, IsPending, offer_bytes}
 use Rattle.wide_image.specs.Pieces.{front_text, front_bad, front_fault, Begun, IsBegun, so_far, place_of, wanted, next_rank, next_frame, offer_piece, frame_piece, piece_fields, piece_fault}
@@ -48,7 +49,7 @@ word_front xs ys k inside =
     ∙ ap (λ zs. from_le_bytes w32 (take 4 zs)) (drop-append-le k xs ys (omega arith)) ∙ ap (from_le_bytes w32) (take-append-le 4 (drop k xs) ys (omega (arith, l)))
     ∙ sym (four (drop k xs) (omega (arith, l)))
 
-begins_front : (xs ys : List ℕ) → 4 ≤ length xs → begins (xs ++ ys) ≡ begins xs
+begins_front : (xs ys : List ℕ) → 4 ≤ length xs → begins_snapshot (xs ++ ys) ≡ begins_snapshot xs
 begins_front (a ∷ b ∷ c ∷ d ∷ xs) ys h = refl
 begins_front (a ∷ b ∷ c ∷ []) ys h = absurd (omega (arith, h))
 begins_front (a ∷ b ∷ []) ys h = absurd (omega (arith, h))
@@ -74,9 +75,9 @@ module _ (front rest : List ℕ) (long : length front ≡ 1556) where
       let last : word_at (front ++ rest) 1552 ≡ word_at front 1552 = word_same 1552 (omega arith) in
       let H = head_at (front ++ rest) (word_at front 8) (word_at (front ++ rest) 1548) (word_at front 1552) (sym eight) refl (sym last) h in
       let n : ℕ = word_at front 8 in
-      passes_not (begins front) NotImage _ (sym (begins_front front rest (omega arith)) ∙ H.magic)
+      passes_not (begins_snapshot front) NotImage _ (sym (begins_front front rest (omega arith)) ∙ H.magic)
       (passes_other (nat_lt (length front) 12) BadLength _ (le-ltb (length front) 12 (omega arith))
-      (passes_not (word_at front 4 == 3) BadVersion _ (eq-eqb (word_at front 4) 3 (sym (word_same 4 (omega arith)) ∙ H.version))
+      (passes_not (word_at front 4 == 1) BadVersion _ (eq-eqb (word_at front 4) 1 (sym (word_same 4 (omega arith)) ∙ H.version))
       (passes_other (nat_lt (word_at front 8) 16 || nat_lt 1048576 (word_at front 8)) (BadField 8) _ (λ i. le-ltb (word_at front 8) 16 H.fewest i || le-ltb 1048576 (word_at front 8) H.most i)
       (passes_other (nat_lt (length front) 1556) BadLength _ (le-ltb (length front) 1556 (omega arith))
       (ap (option_map bad_field)
@@ -182,8 +183,8 @@ module _ (b : Begun) (K : IsBegun b) where
     after_records =
         let a = pieces_long process_bytes 24 process_wide b.front.processes in
         let p = K.front.pids in
-        ap (drop 1548) (behind ∙ append_assoc (magic ++ (number 3 ++ (number b.front.frames ++ flat_map process_bytes b.front.processes))) (number b.front.offers ++ number b.front.stored) (offers_read ++ (frames_read ++ rest)))
-        ∙ drop_at (magic ++ (number 3 ++ (number b.front.frames ++ flat_map process_bytes b.front.processes))) _ 1548 (omega (arith, a, p))
+        ap (drop 1548) (behind ∙ append_assoc (snapshot_magic ++ (number 1 ++ (number b.front.frames ++ flat_map process_bytes b.front.processes))) (number b.front.offers ++ number b.front.stored) (offers_read ++ (frames_read ++ rest)))
+        ∙ drop_at (snapshot_magic ++ (number 1 ++ (number b.front.frames ++ flat_map process_bytes b.front.processes))) _ 1548 (omega (arith, a, p))
         ∙ append_assoc (number b.front.offers) (number b.front.stored) (offers_read ++ (frames_read ++ rest))
 
     small_stored : IsWord b.front.stored
@@ -353,7 +354,7 @@ module _ (b : Begun) (K : IsBegun b) where
       empty [] e = refl
       empty (x ∷ xs) e = absurd (omega (arith, e))
 
--- a piece that can't be read belongs to no image
+-- a piece that can't be read belongs to no snapshot
 pub short_refused : (b : Begun) → IsBegun b → (remaining : Option (List ℕ)) (count : ℕ) (fault : WideReadFault) → count ≡ wanted b → IsShort remaining count fault → IsRefusedBehind (so_far b) remaining fault
 short_refused b K remaining count ReadFailed is short = tt
 short_refused b K remaining count (NotRead fault) is short = inr (piece_short b K remaining (subst (λ n. IfSome remaining (λ bytes. length bytes < n)) is short))
@@ -374,7 +375,7 @@ refused_from text before now (NotRead fault) used (inr reason) = inr (by before 
     by (Some xs) None used reason = absurd used
     by (Some xs) (Some ys) used reason = λ h. reason (ap fault_of (sym used) ∙ h)
 
--- an image's bytes are refused only for want
+-- a snapshot's bytes are refused only for want
 pub for_want : {C : Type 0} (remaining : Option (List ℕ)) (r : Result C WideReadFault) → IfErr r (IsRefusedBehind [] remaining) → (image : WideImage) → HasWideFields image → remaining ≡ Some (text image) → IfErr r IsForWant
 for_want remaining (Ok c) refused image H is = tt
 for_want remaining (Err ReadFailed) refused image H is = tt

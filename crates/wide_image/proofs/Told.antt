@@ -1,9 +1,10 @@
 -- A text tells its machine: what isn't free, and the offers.
 use Rattle.std.proofs.Common.{◌≡◌, ◌*◌, Bool, true, false, length, refl, sym, ap, subst, ◌∙◌, arith}
 use Rattle.memory_image.specs.Image.{frames}
-use Rattle.memory_image.specs.Spelling.{magic, process_bytes}
+use Rattle.memory_image.specs.Spelling.{process_bytes}
 use Rattle.memory_image.proofs.SpellingLemmas.{same_parts, same_number, first_number, same_pieces, Fits, process_wide, process_exact, fields_fit}
 use Rattle.wide_image.specs.declared.offers.PendingOffer.{PendingOffer}
+use Rattle.wide_image.specs.FirstBytes.{snapshot_magic}
 use Rattle.wide_image.specs.Layout.{frames_stored}
 use Rattle.wide_image.specs.Offers.{AreListed, IsPending, right_number, offer_bytes}
 use Rattle.wide_image.specs.Wide.{text}
@@ -38,8 +39,8 @@ texts_tell w v H J h =
     let vs = stored_most v.image.roles in
     let wo = few_offers 0 w.offers (omega arith) H.offers.pending H.offers.rise in
     let vo = few_offers 0 v.offers (omega arith) J.offers.pending J.offers.rise in
-    let a = same_parts magic magic _ _ refl h in
-    let b = first_number 3 3 _ _ (omega arith) (omega arith) a.1 in
+    let a = same_parts snapshot_magic snapshot_magic _ _ refl h in
+    let b = first_number 1 1 _ _ (omega arith) (omega arith) a.1 in
     let n = first_number (frames w.image) (frames v.image) _ _ (omega arith) (omega arith) b.1 in
     let p = same_pieces process_bytes 24 Fits process_wide process_exact w.image.processes v.image.processes _ _ (H.image.pids ∙ sym J.image.pids) (fields_fit 1048576 w.image (omega arith) H.image) (fields_fit 1048576 v.image (omega arith) J.image) n.1 in
     let k = first_number (length w.offers) (length v.offers) _ _ (omega arith) (omega arith) p.1 in

@@ -1,4 +1,5 @@
--- Bytes against which there is no reason encode the image that is read from them, and there is none against an image's.
+-- Bytes against which there is no reason encode the snapshot that is read from them, and there is none against a
+-- snapshot's.
 use Rattle.std.proofs.Common.{◌≡◌, ℕ, ◌+◌, ◌*◌, ◌<◌, ◌≤◌, true, false, ◌||◌, List, [], ◌∷◌, ◌++◌, map, length, length-append, length-drop, take, drop, take-append-drop, refl, sym, ap, subst, ◌∙◌, arith, inr, Option, Some, None}
 use Rattle.std.specs.Prelude.{◌==◌, nat_lt, nat_le, slice_get, slice_index}
 use Rattle.std.specs.Option.{option_map, unwrap_or}
@@ -13,22 +14,24 @@ use Rattle.alloc_table.specs.declared.Role.TheVariants.{Reserved, Free, Director
 use Rattle.memory_image.specs.declared.processes.Process.{Process}
 use Rattle.memory_image.specs.Image.{IsWord, IsProcess, frames}
 use Rattle.memory_image.specs.Restored.{image_with}
-use Rattle.memory_image.specs.Spelling.{magic, number, process_bytes}
+use Rattle.memory_image.specs.Spelling.{number, process_bytes}
 use Rattle.memory_image.specs.Tests.{first_failing}
-use Rattle.memory_image.specs.Refusals.{begins, process_fields}
+use Rattle.memory_image.specs.Refusals.{process_fields}
 use Rattle.memory_image.specs.Reading.{process_in}
 use Rattle.memory_image.proofs.FieldLemmas.{none_both, none_each, append_none, each_none}
 use Rattle.memory_image.proofs.PieceLemmas.{number_spells}
 use Rattle.memory_image.proofs.SpellingLemmas.{process_wide, pieces_long}
-use Rattle.memory_image.proofs.ReadingLemmas.{chosen, no_fault, no_bad, or_none, not_less, unmapped, begins_so, rest_of, get-map, records_spelled, process_fits}
+use Rattle.memory_image.proofs.ReadingLemmas.{chosen, no_fault, no_bad, or_none, not_less, unmapped, rest_of, get-map, records_spelled, process_fits}
 use Rattle.memory_image.proofs.RespellLemmas.{word_of_number, word-shift, passes_not, passes_other, processes_pass, AllProcess}
 use Rattle.wide_image.specs.declared.faults.WideImageFault.TheVariants.{NotImage, BadLength, BadVersion, BadField}
 use Rattle.wide_image.specs.declared.offers.PendingOffer.{PendingOffer}
+use Rattle.wide_image.specs.FirstBytes.{begins_snapshot, snapshot_magic}
 use Rattle.wide_image.specs.Layout.{frames_text, stored, frames_stored}
 use Rattle.wide_image.specs.Offers.{IsPending, offer_bytes}
 use Rattle.wide_image.specs.Wide.{WideImage, HasWideFields, text, Encodes}
 use Rattle.wide_image.specs.Faults.{bad_offer, bad_frame, front_fields, first_bad, bad_field, fault_by, fault_with, fault_of}
 use Rattle.wide_image.specs.Reading.{offer_in, offers_in, AreFrames}
+use Rattle.wide_image.proofs.FirstBytes.{snapshot_so}
 use Rattle.wide_image.proofs.FrameTexts.{frames_long}
 use Rattle.wide_image.proofs.Loops.{neither}
 use Rattle.wide_image.proofs.OfferTexts.{each_pending, offers_rise, offers_spelled}
@@ -36,8 +39,8 @@ use Rattle.wide_image.proofs.Passing.{few_offers, offers_pass, frames_pass, both
 
 -- what no reason against bytes says of them
 pub record HeadStands (xs : List ℕ) (n offers stored : ℕ) : Type 0 where
-  pub magic : begins xs ≡ true
-  pub version : word_at xs 4 ≡ 3
+  pub magic : begins_snapshot xs ≡ true
+  pub version : word_at xs 4 ≡ 1
   pub fewest : 16 ≤ n
   pub most : n ≤ 1048576
   pub long : length xs ≡ 1556 + 16 * offers + 4116 * stored
@@ -49,9 +52,9 @@ pub record HeadStands (xs : List ℕ) (n offers stored : ℕ) : Type 0 where
 pub head_of : (xs : List ℕ) → fault_of xs ≡ None → HeadStands xs (word_at xs 8) (word_at xs 1548) (word_at xs 1552)
 unfolding fault_of first_bad
 head_of xs h =
-    let a = no_fault (begins xs) _ _ h in
+    let a = no_fault (begins_snapshot xs) _ _ h in
     let b = no_bad (nat_lt (length xs) 12) _ _ a.1 in
-    let c = no_fault (word_at xs 4 == 3) _ _ b.1 in
+    let c = no_fault (word_at xs 4 == 1) _ _ b.1 in
     let d = no_bad (nat_lt (word_at xs 8) 16 || nat_lt 1048576 (word_at xs 8)) _ _ c.1 in
     let e = no_bad (nat_lt (length xs) 1556) _ _ d.1 in
     let f = no_fault (length xs == 1556 + 16 * word_at xs 1548 + 4116 * word_at xs 1552) _ _ e.1 in
@@ -62,7 +65,7 @@ head_of xs h =
     let r = chosen (nat_le (word_at xs 1552) (word_at xs 8)) _ _ t.1 in
     record {
       magic = a.0;
-      version = eqb-true (word_at xs 4) 3 c.0;
+      version = eqb-true (word_at xs 4) 1 c.0;
       fewest = not_less (word_at xs 8) 16 g.0;
       most = not_less 1048576 (word_at xs 8) g.1;
       long = eqb-true (length xs) (1556 + 16 * word_at xs 1548 + 4116 * word_at xs 1552) f.0;
@@ -122,20 +125,20 @@ module _ (xs : List ℕ) (small : (i : ℕ) → slice_index xs i < 256) (n k m :
       let version = rest_of xs 4 4 (drop 8 xs) refl in
       let front = take-append-drop 4 xs in
       sym (
-      (λ i. magic ++ (number (sym K.version i) ++ (number ((F.all ∙ en) i) ++ (records_spelled xs small (n) front-long K.processes i ++ (number ((offers-long ∙ ek) i) ++ (number ((F.read.many ∙ em) i) ++ (offers_spelled xs small (k) K.offers_kept (omega arith) i ++ body i)))))))
-      ∙ (λ i. magic ++ (number_spells xs 4 small (omega arith) i ++ (number_spells xs 8 small (omega arith) i ++ (take 1536 (drop 12 xs) ++ (number_spells xs 1548 small (omega arith) i ++ (number_spells xs 1552 small (omega arith) i ++ offers i))))))
-      ∙ (λ i. magic ++ (take 4 (drop 4 xs) ++ (take 4 (drop 8 xs) ++ (take 1536 (drop 12 xs) ++ (take 4 (drop 1548 xs) ++ stored i)))))
-      ∙ (λ i. magic ++ (take 4 (drop 4 xs) ++ (take 4 (drop 8 xs) ++ (take 1536 (drop 12 xs) ++ offered i))))
-      ∙ (λ i. magic ++ (take 4 (drop 4 xs) ++ (take 4 (drop 8 xs) ++ records i)))
-      ∙ (λ i. magic ++ (take 4 (drop 4 xs) ++ count i))
-      ∙ (λ i. magic ++ version i)
-      ∙ ap (λ ys. ys ++ drop 4 xs) (sym (begins_so xs K.magic))
+      (λ i. snapshot_magic ++ (number (sym K.version i) ++ (number ((F.all ∙ en) i) ++ (records_spelled xs small (n) front-long K.processes i ++ (number ((offers-long ∙ ek) i) ++ (number ((F.read.many ∙ em) i) ++ (offers_spelled xs small (k) K.offers_kept (omega arith) i ++ body i)))))))
+      ∙ (λ i. snapshot_magic ++ (number_spells xs 4 small (omega arith) i ++ (number_spells xs 8 small (omega arith) i ++ (take 1536 (drop 12 xs) ++ (number_spells xs 1548 small (omega arith) i ++ (number_spells xs 1552 small (omega arith) i ++ offers i))))))
+      ∙ (λ i. snapshot_magic ++ (take 4 (drop 4 xs) ++ (take 4 (drop 8 xs) ++ (take 1536 (drop 12 xs) ++ (take 4 (drop 1548 xs) ++ stored i)))))
+      ∙ (λ i. snapshot_magic ++ (take 4 (drop 4 xs) ++ (take 4 (drop 8 xs) ++ (take 1536 (drop 12 xs) ++ offered i))))
+      ∙ (λ i. snapshot_magic ++ (take 4 (drop 4 xs) ++ (take 4 (drop 8 xs) ++ records i)))
+      ∙ (λ i. snapshot_magic ++ (take 4 (drop 4 xs) ++ count i))
+      ∙ (λ i. snapshot_magic ++ version i)
+      ∙ ap (λ ys. ys ++ drop 4 xs) (sym (snapshot_so xs K.magic))
       ∙ front)
 
   pub encoded : Encodes xs read_so
   encoded = record { whole = record { fields = fields; blank = F.read.blank }; is = respelled }
 
--- ---- No reason against an image's text
+-- ---- No reason against a snapshot's text
 
 pub offer_wide : (o : PendingOffer) → length (offer_bytes o) ≡ 16
 offer_wide o = refl
@@ -197,9 +200,9 @@ module _ (w : WideImage) (H : HasWideFields w) where
   frames-small : IsWord (frames w.image)
   frames-small = let m = H.image.most in omega arith
 
-  version-read : word_at (text w) 4 ≡ 3
+  version-read : word_at (text w) 4 ≡ 1
   unfolding text word_at
-  version-read = word_of_number 3 [] (omega arith)
+  version-read = word_of_number 1 [] (omega arith)
 
   frames-read : word_at (text w) 8 ≡ frames w.image
   unfolding text word_at
@@ -233,16 +236,16 @@ module _ (w : WideImage) (H : HasWideFields w) where
   right-size : (nat_lt (frames w.image) 16 || nat_lt 1048576 (frames w.image)) ≡ false
   right-size = λ i. le-ltb (frames w.image) 16 H.image.fewest i || le-ltb 1048576 (frames w.image) H.image.most i
 
-  begins-right : begins (text w) ≡ true
+  begins-right : begins_snapshot (text w) ≡ true
   unfolding text
   begins-right = refl
 
   pub no_reason : fault_of (text w) ≡ None
   unfolding fault_of
   no_reason =
-      passes_not (begins (text w)) NotImage _ begins-right
+      passes_not (begins_snapshot (text w)) NotImage _ begins-right
       (passes_other (nat_lt (length (text w)) 12) BadLength _ (le-ltb (length (text w)) 12 (let l = long in omega arith))
-      (passes_not (word_at (text w) 4 == 3) BadVersion _ (eq-eqb (word_at (text w) 4) 3 version-read)
+      (passes_not (word_at (text w) 4 == 1) BadVersion _ (eq-eqb (word_at (text w) 4) 1 version-read)
       (ap (fault_with (text w)) frames-read
       ∙ passes_other (nat_lt (frames w.image) 16 || nat_lt 1048576 (frames w.image)) (BadField 8) _ right-size
       (passes_other (nat_lt (length (text w)) 1556) BadLength _ (le-ltb (length (text w)) 1556 (let l = long in omega arith))

@@ -13,8 +13,9 @@ use Rattle.alloc_table.specs.Roles.{is_free}
 use Rattle.process_table.specs.View.{View}
 use Rattle.memory_image.specs.declared.processes.Process.{Process}
 use Rattle.memory_image.specs.Image.{frames}
-use Rattle.memory_image.specs.Spelling.{magic, number, process_bytes, role_bytes}
+use Rattle.memory_image.specs.Spelling.{number, process_bytes, role_bytes}
 use Rattle.memory_image.proofs.References.{same_some}
+use Rattle.wide_image.specs.FirstBytes.{snapshot_magic}
 use Rattle.wide_image.specs.Layout.{frame_text, frames_text, stored, frames_stored}
 use Rattle.wide_image.specs.Offers.{offer_bytes}
 use Rattle.wide_image.specs.Stored.{record_with, frame_record, frame_records, PiecesMakeImages}
@@ -24,10 +25,10 @@ use Rattle.wide_image.proofs.FrameTexts.{record_text}
 pub all_written : (a b : Option (List ℕ)) (text rest : List ℕ) → rest ≡ [] → LeavesUnwritten a b text rest → Appends a b text
 all_written a b text rest none w = subst (Appends a b) (sym (w.whole ∙ ap (λ r. w.written ++ r) none ∙ append-nil w.written)) w.grown
 
--- ---- The parts of an image's text, as they are written
+-- ---- The parts of a snapshot's text, as they are written
 
 abbrev pub front : ℕ → List ℕ
-front n = magic ++ (number 3 ++ number n)
+front n = snapshot_magic ++ (number 1 ++ number n)
 
 whole_head : (w : WideImage) → head_text w ≡ front (frames w.image) ++ (flat_map process_bytes w.image.processes ++ ((number (length w.offers) ++ number (frames_stored w.image.roles)) ++ flat_map offer_bytes w.offers))
 unfolding head_text
@@ -42,7 +43,7 @@ head_parts w n processes offers stored a b e f =
 pub parts : (w : WideImage) (roles : List Role) (bytes : List ℕ) → roles ≡ w.image.roles → bytes ≡ w.image.bytes → text w ≡ head_text w ++ frames_text 0 roles bytes
 unfolding text head_text
 parts w roles bytes c d =
-    sym (ap (λ t. magic ++ (number 3 ++ (number (frames w.image) ++ t)))
+    sym (ap (λ t. snapshot_magic ++ (number 1 ++ (number (frames w.image) ++ t)))
     (append_assoc (flat_map process_bytes w.image.processes) (number (length w.offers) ++ (number (frames_stored w.image.roles) ++ flat_map offer_bytes w.offers)) (frames_text 0 w.image.roles w.image.bytes)))
     ∙ sym (λ i. head_text w ++ frames_text 0 (c i) (d i))
 

@@ -1,4 +1,4 @@
--- What the reader of an image of version 3 keeps between two pieces, and its code.
+-- What the reader of a snapshot keeps between two pieces, and its code.
 use Rattle.std.proofs.Common.{◌≡◌, ℕ, ◌*◌, ◌≤◌, List, Option, refl}
 use Rattle.std.specs.Coded.{Coded, code_by, coded×, coded_list, coded_option, coded_ℕ}
 use Rattle.alloc_table.specs.declared.Role.{Role}
@@ -11,7 +11,7 @@ use Rattle.wide_image.specs.Codes.{pending_code}
 use Rattle.wide_image.specs.Layout.{frames_stored}
 use Rattle.wide_image.specs.Pieces.{Begun, IsBegun, next_rank}
 
--- an image as far as it was read, the place after its last offer, how many records were read, and room for all frames
+-- a snapshot as far as it was read, the place after its last offer, how many records were read, and room for all frames
 pub record KeepsBegun (b : Begun) (rank stored room bytes : ℕ) : Type 0 where
   pub begun : IsBegun b
   pub after : rank ≡ next_rank 0 b.offers
@@ -27,7 +27,7 @@ front_code =
     (λ p. record { frames = p.0.0; processes = p.1.1; offers = p.0.1; stored = p.1.0 })
     (λ _. refl)
 
--- the code of an image as far as it was read
+-- the code of a snapshot as far as it was read
 abbrev pub begun_code : Coded Begun
 begun_code =
     code_by ((Front × List PendingOffer) × (List Role × List ℕ)) (coded× (coded× front_code (coded_list pending_code)) (coded× (coded_list role_code) (coded_list coded_ℕ)))

@@ -1,4 +1,4 @@
--- The code of an image of version 3, so that a model's `Value` may be one.
+-- The code of a snapshot, so that a model's `Value` may be one.
 use Rattle.std.proofs.Common.{ℕ, Bool, List, refl}
 use Rattle.std.specs.Coded.{Coded, code_by, coded×, coded_list, coded_ℕ, coded_bool}
 use Rattle.memory_image.specs.Image.{Image}
@@ -14,7 +14,7 @@ pending_code =
     (λ p. record { offerer = p.0.0; page = p.0.1; target = p.1.0; write = p.1.1 })
     (λ _. refl)
 
--- the code of images of version 3
+-- the code of snapshots
 abbrev pub wide_code : Coded WideImage
 wide_code =
     code_by (Image × List PendingOffer) (coded× image_code (coded_list pending_code))

@@ -1,12 +1,13 @@
--- Why bytes are not an image of version 3: the first reason that applies, with each field at its place.
+-- Why bytes are not a snapshot: the first reason that applies, with each field at its place.
 use Rattle.std.specs.Prelude.{ℕ, zero, suc, ◌+◌, ◌*◌, not, ◌&&◌, ◌||◌, ◌==◌, nat_lt, nat_le, if◌then◌else◌, List, [], ◌∷◌, ◌++◌, length, Option, Some, None}
 use Rattle.std.specs.Option.{option_map}
 use Rattle.std.specs.List.{range_with_len, flat_map}
 use Rattle.phys_memory.specs.Bytes.{word_at}
 use Rattle.memory_image.specs.Tests.{first_failing}
-use Rattle.memory_image.specs.Refusals.{Field, begins, process_fields, role_tests}
+use Rattle.memory_image.specs.Refusals.{Field, process_fields, role_tests}
 use Rattle.wide_image.specs.declared.faults.WideImageFault.{WideImageFault}
 use Rattle.wide_image.specs.declared.faults.WideImageFault.TheVariants.{NotImage, BadLength, BadVersion, BadField}
+use Rattle.wide_image.specs.FirstBytes.{begins_snapshot}
 use Rattle.wide_image.specs.Offers.{rank}
 
 -- the first of two that is there
@@ -87,7 +88,7 @@ fault_with bytes n =
 -- the first reason against the bytes
 unfoldable pub fault_of : List ℕ → Option WideImageFault
 fault_of bytes =
-    if not (begins bytes) then Some NotImage
+    if not (begins_snapshot bytes) then Some NotImage
     else if nat_lt (length bytes) 12 then Some BadLength
-    else if not (word_at bytes 4 == 3) then Some BadVersion
+    else if not (word_at bytes 4 == 1) then Some BadVersion
     else fault_with bytes (word_at bytes 8)

@@ -1,4 +1,4 @@
--- Images that differ in free frames alone, and what an image of version 3 has of a machine.
+-- Images that differ in free frames alone, and what a snapshot has of a machine.
 use Rattle.std.specs.Prelude.{◌≡◌, ℕ, false, length, Some, slice_get}
 use Rattle.phys_memory.specs.Bytes.{frame_bytes}
 use Rattle.alloc_table.specs.declared.Role.{Role}
@@ -24,16 +24,16 @@ pub record AgreeInUse (image other : Image) : Type 0 where
 abbrev pub FreeFramesDoNotMatter : Type 0
 FreeFramesDoNotMatter = (image other : Image) (s : State) → IsWideImage image → image.version ≡ 2 → AgreeInUse image other → StandsFor image s → StandsFor other s
 
--- two images have one text exactly if they agree in use and have the same offers
+-- two snapshots have one text exactly if they agree in use and have the same offers
 abbrev pub TextsTellMachines : Type 0
 TextsTellMachines = (w v : WideImage) → HasWideFields w → HasWideFields v → text w ≡ text v → AgreeInUse w.image v.image × (w.offers ≡ v.offers)
 
--- an image of version 3 that shows what a machine does, with its offers
+-- a snapshot that shows what a machine does, with its offers
 pub record ShowsMachine (v : View) (w : WideImage) : Type 0 where
   pub image : IsImageOf v w.image
   pub offers : AreListed v.state.offers w.offers
 
--- the image that is read of a machine's bytes represents its state
+-- the snapshot that is read of a machine's bytes represents its state
 abbrev pub MachinesAreRead : Type 0
 MachinesAreRead = (v : View) (w read : WideImage) → HasWideFields w → ShowsMachine v w → StandsFor w.image v.state → Encodes (text w) read
     → StandsFor read.image v.state × AreListed v.state.offers read.offers

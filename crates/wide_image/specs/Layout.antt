@@ -1,4 +1,4 @@
--- The records of frames, which an image of version 3 ends with: one for each frame that isn't free.
+-- The records of frames, which a snapshot ends with: one for each frame that isn't free.
 use Rattle.std.specs.Prelude.{◌≡◌, ℕ, ◌+◌, true, false, if◌then◌else◌, List, [], ◌∷◌, ◌++◌, take, drop, replicate}
 use Rattle.alloc_table.specs.declared.Role.{Role}
 use Rattle.alloc_table.specs.Roles.{is_free}

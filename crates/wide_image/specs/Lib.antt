@@ -1,5 +1,6 @@
 pub mod Layout
 pub mod Offers
+pub mod FirstBytes
 pub mod Wide
 pub mod Codes
 pub mod Faults

@@ -1,4 +1,4 @@
--- The offers in an image of version 3: by offerer, then by page, then by target.
+-- The offers in a snapshot: by offerer, then by page, then by target.
 use Rattle.std.specs.Prelude.{◌≡◌, ℕ, ◌+◌, ◌*◌, ◌<◌, ◌≤◌, ◌↔◌, Bool, if◌then◌else◌, List, [], ◌∷◌, ◌++◌, Some}
 use Rattle.std.specs.List.{Contains}
 use Rattle.page_words.specs.FiniteMap as map

@@ -1,4 +1,4 @@
--- An image of version 3 that is read piece by piece: its front of 1,556 bytes, then each offer, then each frame's record.
+-- A snapshot that is read piece by piece: its front of 1,556 bytes, then each offer, then each frame's record.
 use Rattle.std.specs.Prelude.{◌≡◌, ℕ, ◌+◌, ◌-◌, ◌*◌, ◌<◌, ◌≤◌, ◌||◌, not, ◌==◌, nat_lt, if◌then◌else◌, List, [], ◌∷◌, ◌++◌, length, replicate, Option, Some, None, slice_get}
 use Rattle.std.specs.Option.{option_map, unwrap_or}
 use Rattle.std.specs.List.{flat_map}
@@ -8,14 +8,15 @@ use Rattle.alloc_table.specs.declared.Role.TheVariants.{Free}
 use Rattle.alloc_table.specs.Roles.{is_free}
 use Rattle.memory_image.specs.declared.processes.Process.{Process}
 use Rattle.memory_image.specs.Image.{IsProcess, IsRole, IsWord}
-use Rattle.memory_image.specs.Refusals.{Field, begins}
-use Rattle.memory_image.specs.Spelling.{magic, number, process_bytes}
+use Rattle.memory_image.specs.Refusals.{Field}
+use Rattle.memory_image.specs.Spelling.{number, process_bytes}
 use Rattle.memory_image.specs.Tests.{first_failing}
 use Rattle.wide_image.specs.declared.faults.WideImageFault.{WideImageFault}
 use Rattle.wide_image.specs.declared.faults.WideImageFault.TheVariants.{NotImage, BadLength, BadVersion, BadField}
 use Rattle.wide_image.specs.declared.fronts.Front.{Front}
 use Rattle.wide_image.specs.declared.offers.PendingOffer.{PendingOffer}
 use Rattle.wide_image.specs.Faults.{offer_tests, frame_tests, front_fields, bad_field}
+use Rattle.wide_image.specs.FirstBytes.{begins_snapshot, snapshot_magic}
 use Rattle.wide_image.specs.Layout.{frames_text, frames_stored, AreBlank}
 use Rattle.wide_image.specs.Offers.{rank_of, offer_bytes}
 use Rattle.wide_image.specs.Wide.{AreOffers}
@@ -24,7 +25,7 @@ use Rattle.wide_image.specs.Wide.{AreOffers}
 
 -- the first 1,556 bytes
 unfoldable pub front_text : Front → List ℕ
-front_text f = magic ++ (number 3 ++ (number f.frames ++ (flat_map process_bytes f.processes ++ (number f.offers ++ number f.stored))))
+front_text f = snapshot_magic ++ (number 1 ++ (number f.frames ++ (flat_map process_bytes f.processes ++ (number f.offers ++ number f.stored))))
 
 -- its numbers are within their limits
 pub record IsFront (f : Front) : Type 0 where
@@ -49,14 +50,14 @@ front_fault_with bytes n =
 -- the first reason against bytes as a front
 unfoldable pub front_fault : List ℕ → Option WideImageFault
 front_fault bytes =
-    if not (begins bytes) then Some NotImage
+    if not (begins_snapshot bytes) then Some NotImage
     else if nat_lt (length bytes) 12 then Some BadLength
-    else if not (word_at bytes 4 == 3) then Some BadVersion
+    else if not (word_at bytes 4 == 1) then Some BadVersion
     else front_fault_with bytes (word_at bytes 8)
 
 -- ---- What is read of the rest
 
--- an image as far as it was read: its front, offers, and frames up to the last whose record was read
+-- a snapshot as far as it was read: its front, offers, and frames up to the last whose record was read
 pub record Begun : Type 0 where
   pub front : Front
   pub offers : List PendingOffer

@@ -11,23 +11,23 @@ use Rattle.wide_image.specs.Layout.{frame_text}
 use Rattle.wide_image.specs.Wide.{WideImage, HasWideFields, head_text, text}
 use Rattle.wide_image.specs.InUse.{ShowsMachine}
 
--- an image of version 3 that shows what a machine does, and represents its state
+-- a snapshot that shows what a machine does, and represents its state
 pub record IsWholeMachine (v : View) (w : WideImage) : Type 0 where
   pub shows : ShowsMachine v w
   pub fields : HasWideFields w
   pub stands : StandsFor w.image v.state
 
--- the text of the machine's image was written
+-- the text of the machine's snapshot was written
 abbrev pub StoresMachine : View → Option (List ℕ) → Option (List ℕ) → Type 0
 StoresMachine v old new = (w : WideImage) × IsWholeMachine v w × Appends old new (text w)
 
--- nothing was written, or a front of the text of the machine's image
+-- nothing was written, or a front of the text of the machine's snapshot
 abbrev pub StoresFront : View → Option (List ℕ) → Option (List ℕ) → Type 0
 StoresFront v old new = (new ≡ old) ⊎ ((w : WideImage) × IsWholeMachine v w × AppendsFront old new (text w))
 
 -- ---- The same in pieces: all before the frames' records, then each record
 
--- what the image of the machine begins with, up to the frames' records
+-- what the snapshot of the machine begins with, up to the frames' records
 pub record IsHeadOf (v : View) (bytes : List ℕ) : Type 0 where
   pub image : WideImage
   pub machine : IsWholeMachine v image
@@ -54,6 +54,6 @@ frame_record v f = record_with v f (slice_get v.roles f)
 abbrev pub frame_records : View → List ℕ
 frame_records v = flat_map (frame_record v) (range_with_len 0 (length v.roles))
 
--- the beginning, and then the records of all frames, are the machine's image
+-- the beginning, and then the records of all frames, are the machine's snapshot
 abbrev pub PiecesMakeImages : Type 0
 PiecesMakeImages = (v : View) (head : List ℕ) → IsHeadOf v head → (w : WideImage) × IsWholeMachine v w × (text w ≡ head ++ frame_records v)

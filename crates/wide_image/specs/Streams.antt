@@ -1,4 +1,4 @@
--- An image of version 3 that is read from a reader of std.
+-- A snapshot that is read from a reader of std.
 use Rattle.std.specs.Prelude.{◌≡◌, ◌≢◌, ◌⊎◌, ◌++◌, ◌<◌, ℕ, List, [], length, take, Option, Some, None, IfSome}
 use Rattle.std.specs.Io.KnownBytes.{Consumes}
 use Rattle.wide_image.specs.declared.faults.WideImageFault.{WideImageFault}
@@ -9,11 +9,11 @@ use Rattle.wide_image.specs.Faults.{fault_of}
 use Rattle.wide_image.specs.Pieces.{Begun, IsBegun, front_fault, piece_fault, so_far, wanted}
 use Rattle.wide_image.specs.Wide.{WideImage, Encodes}
 
--- an image grew by a piece, which the reader lost
+-- a snapshot grew by a piece, which the reader lost
 abbrev pub ReadsOn : Begun → Begun → Option (List ℕ) → Option (List ℕ) → Type 0
 ReadsOn old new before after = (piece : List ℕ) × (so_far new ≡ so_far old ++ piece) × Consumes before after piece
 
--- all bytes that were left encode the image
+-- all bytes that were left encode the snapshot
 abbrev pub EncodesAll : Option (List ℕ) → WideImage → Type 0
 EncodesAll remaining image = IfSome remaining (λ bytes. Encodes bytes image)
 
@@ -21,7 +21,7 @@ EncodesAll remaining image = IfSome remaining (λ bytes. Encodes bytes image)
 abbrev pub NoneEncode : List ℕ → Option (List ℕ) → Type 0
 NoneEncode text remaining = IfSome remaining (λ bytes. fault_of (text ++ bytes) ≡ None → ⊥)
 
--- why an image isn't read on behind these bytes of it: a read failed, there is no memory, or there is such a reason
+-- why a snapshot isn't read on behind these bytes of it: a read failed, there is no memory, or there is such a reason
 abbrev pub IsRefusedBehind : List ℕ → Option (List ℕ) → WideReadFault → Type 0
 IsRefusedBehind text remaining ReadFailed = Unit {0}
 IsRefusedBehind text remaining (NotRead fault) = (fault ≡ NoMemory) ⊎ NoneEncode text remaining
@@ -41,7 +41,7 @@ abbrev pub HasMore : Option (List ℕ) → WideReadFault → Type 0
 HasMore remaining ReadFailed = Unit {0}
 HasMore remaining (NotRead fault) = IfSome remaining (λ bytes. bytes ≡ [] → ⊥)
 
--- an image is read from these bytes up to a piece, of which the fault names the first field that breaks its rule
+-- a snapshot is read from these bytes up to a piece, of which the fault names the first field that breaks its rule
 pub record RefusesPiece (bytes : List ℕ) (fault : WideImageFault) : Type 0 where
   pub begun : Begun
   pub kept : IsBegun begun
@@ -52,7 +52,7 @@ pub record RefusesPiece (bytes : List ℕ) (fault : WideImageFault) : Type 0 whe
   pub long : length piece ≡ wanted begun
   pub refused : piece_fault begun piece ≡ Some fault
 
--- an image is read from these bytes, which end within its next piece, or go on after its last
+-- a snapshot is read from these bytes, which end within its next piece, or go on after its last
 pub record EndsElsewhere (bytes : List ℕ) : Type 0 where
   pub begun : Begun
   pub kept : IsBegun begun
@@ -65,8 +65,8 @@ pub record EndsElsewhere (bytes : List ℕ) : Type 0 where
 abbrev pub NamesReason : List ℕ → WideImageFault → Type 0
 NamesReason bytes fault = (front_fault (take 1556 bytes) ≡ Some fault) ⊎ (RefusesPiece bytes fault ⊎ ((fault ≡ BadLength) × EndsElsewhere bytes))
 
--- what a fault says of these bytes of an image, and all that are left behind them: a read failed, there is no memory, or
--- it names the first reason
+-- what a fault says of these bytes of a snapshot, and all that are left behind them: a read failed, there is no memory,
+-- or it names the first reason
 abbrev pub NamesBehind : List ℕ → Option (List ℕ) → WideReadFault → Type 0
 NamesBehind text remaining ReadFailed = Unit {0}
 NamesBehind text remaining (NotRead fault) = (fault ≡ NoMemory) ⊎ IfSome remaining (λ bytes. NamesReason (text ++ bytes) fault)

@@ -1,4 +1,4 @@
-//! The fields of an image of version 3, each at its place.
+//! The fields of a snapshot, each at its place.
 
 ghost use Rattle.std.specs.Prelude.{◌≡◌, ◌+◌, ◌*◌, ◌<◌, ◌≤◌, ◌==◌, ◌^◌, length};
 ghost use Rattle.phys_memory.specs.Bytes.{word_at};
@@ -9,8 +9,9 @@ ghost use Rattle.wide_image.specs.Pieces.{offer_piece, frame_piece, front_bad, f
 ghost use Rattle.wide_image.specs.Faults.{offer_tests, offer_fields, bad_offer, frame_tests, frame_fields, bad_frame, stored_field, front_fields, frames_place, first_bad, fault_by, fault_with, fault_of};
 
 use crate::faults::WideImageFault;
+use crate::first_bytes::begins_snapshot;
 use crate::offers::rank;
-use memory_image::{bad_in_processes, begins, number_at};
+use memory_image::{bad_in_processes, number_at};
 use page_words::is_wide_frame_count;
 
 /// The place of the first number of an offer that breaks its rule, after offers whose places are below `from`. Its
@@ -268,17 +269,17 @@ fn front_fault_with(bytes: &[u8], frames: u32) -> Option<WideImageFault>
     front_bad(bytes, frames, number_at(bytes, 1552))
 }
 
-/// Returns the first reason why bytes are no front of an image of version 3, which has 1,556: the reasons of `fault_in`
-/// against these, in its order. It reads none of the bytes after them.
+/// Returns the first reason why bytes are no front of a snapshot, which has 1,556: the reasons of `fault_in` against
+/// these, in its order. It reads none of the bytes after them.
 #[tactic(auto, unfolding(crate::specs::Pieces::front_fault))]
 pub(crate) fn fault_in_front(bytes: &[u8]) -> Option<WideImageFault>
     ensures { result ≡ front_fault bytes.now }
 {
-    if !begins(bytes) {
+    if !begins_snapshot(bytes) {
         Some(WideImageFault::NotImage)
     } else if bytes.len() < 12 {
         Some(WideImageFault::BadLength)
-    } else if number_at(bytes, 4) != 3 {
+    } else if number_at(bytes, 4) != 1 {
         Some(WideImageFault::BadVersion)
     } else {
         front_fault_with(bytes, number_at(bytes, 8))
@@ -316,10 +317,9 @@ fn fault_with(bytes: &[u8], frames: u32) -> Option<WideImageFault>
     )
 }
 
-/// Returns the first reason why bytes are no image of version 3, apart from a lack of memory: None exactly if they encode
-/// one.
+/// Returns the first reason why bytes are no snapshot, apart from a lack of memory: None exactly if they encode one.
 ///
-/// The reasons come in this order. NotImage: they don't begin with the four bytes of an image. BadLength: they are
+/// The reasons come in this order. NotImage: they don't begin with the four bytes of a snapshot. BadLength: they are
 /// fewer than 12. BadVersion. BadField at 8: the number of frames isn't 16 to 1,048,576. BadLength: they are fewer than
 /// 1,556, or not as many as the numbers of offers and stored frames say. BadField at the first field that breaks its
 /// rule.
@@ -327,11 +327,11 @@ fn fault_with(bytes: &[u8], frames: u32) -> Option<WideImageFault>
 pub fn fault_in(bytes: &[u8]) -> Option<WideImageFault>
     ensures { result ≡ fault_of bytes.now }
 {
-    if !begins(bytes) {
+    if !begins_snapshot(bytes) {
         Some(WideImageFault::NotImage)
     } else if bytes.len() < 12 {
         Some(WideImageFault::BadLength)
-    } else if number_at(bytes, 4) != 3 {
+    } else if number_at(bytes, 4) != 1 {
         Some(WideImageFault::BadVersion)
     } else {
         fault_with(bytes, number_at(bytes, 8))

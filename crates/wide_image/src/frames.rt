@@ -1,4 +1,4 @@
-//! The frames of an image of version 3, as they are read one after the other.
+//! The frames of a snapshot, as they are read one after the other.
 
 ghost use Rattle.std.specs.Prelude.{◌≡◌, ◌+◌, ◌-◌, ◌*◌, ◌<◌, ◌≤◌, ◌++◌, ◌∷◌, [], true, None, IfSome, length, replicate, slice_index, ℕ, take, drop, vec_capacity};
 ghost use Rattle.phys_memory.specs.Bytes.{word_at};

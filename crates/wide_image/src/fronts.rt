@@ -1,4 +1,4 @@
-//! The front of an image of version 3: its first 1,556 bytes.
+//! The front of a snapshot: its first 1,556 bytes.
 
 ghost use Rattle.std.specs.Prelude.{◌≡◌, ◌+◌, ◌≤◌, ◌⊎◌, None, Some, IfOk, IfErr, OnOk, length, take};
 ghost use Rattle.wide_image.specs.Pieces.{IsFront, front_text, front_fault};
@@ -7,14 +7,14 @@ use crate::faults::WideImageFault;
 use crate::fields::fault_in_front;
 use memory_image::{Process, number_at, processes_in};
 
-/// What the front of an image says.
+/// What the front of a snapshot says.
 #[derive(Clone, Copy)]
 pub struct Front {
     /// How many frames the machine has.
     pub frames: u32,
     /// What each process has, by number, where it is live.
     pub processes: [Option<Process>; 64],
-    /// How many offers the image has.
+    /// How many offers the snapshot has.
     pub offers: u32,
     /// How many frames aren't free.
     pub stored: u32,
@@ -34,7 +34,7 @@ fn front_in(bytes: &[u8]) -> Front
     }
 }
 
-/// Reads the front of an image of version 3, the first 1,556 bytes of these.
+/// Reads the front of a snapshot, the first 1,556 bytes of these.
 ///
 /// The faults are the first reasons against a front.
 pub(crate) fn read_front(bytes: &[u8]) -> Result<Front, WideImageFault>

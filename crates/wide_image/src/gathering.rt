@@ -1,4 +1,4 @@
-//! The pending offers of a core, in the order in which an image has them.
+//! The pending offers of a core, in the order in which a snapshot has them.
 
 ghost use Rattle.std.specs.Prelude.{◌≡◌, ◌+◌, ◌<◌, ◌≤◌, true, IfOk};
 ghost use Rattle.wide_image.specs.Offers.{AreListed};

@@ -1,4 +1,4 @@
-//! Images of version 3.
+//! Snapshots.
 
 ghost use Rattle.std.specs.Prelude.{◌≡◌};
 ghost use Rattle.memory_image.specs.Restored.{image_with};
@@ -9,8 +9,8 @@ use alloc_table::Role;
 use memory_image::{ImageRef, Process};
 use std::marker::Model;
 
-/// An image of version 3: what a machine is at one moment, with its pending offers. Its fields keep their rules; whether
-/// they agree with one another is for a check to say. Free frames hold zeros.
+/// A snapshot: what a machine is at one moment, with its pending offers. Its fields keep their rules; whether they
+/// agree with one another is for a check to say. Free frames hold zeros.
 #[derive(Drop)]
 pub struct WideImage {
     processes: [Option<Process>; 64],
@@ -40,7 +40,7 @@ impl Model for WideImage {
 }
 
 impl WideImage {
-    /// The image with these fields.
+    /// The snapshot with these fields.
     pub(crate) fn with_parts(
         processes: [Option<Process>; 64],
         roles: Vec<Role>,

@@ -1,4 +1,4 @@
-//! Laws of images of version 3. Each is the contract of a function that computes nothing.
+//! Laws of snapshots. Each is the contract of a function that computes nothing.
 
 ghost use Rattle.wide_image.specs.InUse.{FreeFramesDoNotMatter, MachinesAreRead, TextsTellMachines};
 ghost use Rattle.wide_image.specs.Stored.{PiecesMakeImages};
@@ -8,20 +8,20 @@ pub fn free_frames_do_not_matter()
     ensures { FreeFramesDoNotMatter }
 {}
 
-/// States that two images with one text have the same offers, and the same in each frame that isn't free. It computes
-/// nothing.
+/// States that two snapshots with one text have the same offers, and the same in each frame that isn't free. It
+/// computes nothing.
 pub fn texts_tell_machines()
     ensures { TextsTellMachines }
 {}
 
-/// States that the image which is read of a machine's text represents the machine's state, and has its offers. It
+/// States that the snapshot which is read of a machine's text represents the machine's state, and has its offers. It
 /// computes nothing.
 pub fn machines_are_read()
     ensures { MachinesAreRead }
 {}
 
-/// States that what the image of a core begins with and then the records of all its frames, in order, are its image. It
-/// computes nothing.
+/// States that what the snapshot of a core begins with and then the records of all its frames, in order, are its
+/// snapshot. It computes nothing.
 pub fn pieces_make_images()
     ensures { PiecesMakeImages }
 {}

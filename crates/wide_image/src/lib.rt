@@ -1,9 +1,10 @@
-//! Images of version 3: a machine of up to 1,048,576 frames with its pending offers, and how it is encoded in bytes. Only
-//! frames that aren't free are stored.
+//! Snapshots: a machine of up to 1,048,576 frames with its pending offers, and how it is encoded in bytes. Only frames
+//! that aren't free are stored.
 #![tactic(auto)]
 
 mod faults;
 mod fields;
+mod first_bytes;
 mod frames;
 mod fronts;
 mod gathering;
@@ -18,6 +19,7 @@ mod writing;
 
 pub use faults::WideImageFault;
 pub use fields::fault_in;
+pub use first_bytes::begins_snapshot;
 pub use fronts::Front;
 pub use gathering::offers_of;
 pub use images::WideImage;

@@ -1,4 +1,4 @@
-//! The image of a core, and the core of an image.
+//! The snapshot of a core, and the core of a snapshot.
 
 ghost use Rattle.std.specs.Prelude.{◌≡◌, ◌<◌, ◌≤◌, [], true, false, length, take, drop, IfOk, OnOk, OnErr, IsErrOf};
 ghost use Rattle.page_words.specs.FiniteMap as map;
@@ -19,8 +19,8 @@ use std::alloc::Global;
 use std::io::Write;
 
 impl WideImage {
-    /// Makes the core that a sound image represents, apart from its offers, of which none is pending. It also returns the
-    /// offers. The image's bytes and roles become the core's.
+    /// Makes the core that a sound snapshot represents, apart from its offers, of which none is pending. It also
+    /// returns the offers. The snapshot's bytes and roles become the core's.
     ///
     /// NoMemory if there is no memory for what a core keeps in addition to them.
     pub fn into_core(self, alloc: Global) -> Result<(Core, Vec<PendingOffer>), NoMemory>
@@ -38,17 +38,17 @@ impl WideImage {
     }
 }
 
-/// Why the image of a core was not written.
+/// Why the snapshot of a core was not written.
 #[derive(Clone, Copy, Debug, PartialEq, Eq)]
 pub enum StoreFault {
     /// There was no memory for the list of offers. Nothing was written.
     NoMemory,
-    /// A write failed. A front of the image was written.
+    /// A write failed. A front of the snapshot was written.
     WriteFailed,
 }
 
-/// Writes the image of a core, of version 3, frame by frame, with its pending offers: the whole machine. Memory isn't
-/// copied, and free frames aren't written.
+/// Writes the snapshot of a core, frame by frame: the whole machine with its pending offers. Memory isn't copied, and
+/// free frames aren't written.
 ///
 /// NoMemory if there is no memory for the list of offers, of which there are at most 2,048; nothing was written then.
 /// WriteFailed if a write fails; nothing was written then, or a prefix.
@@ -69,8 +69,8 @@ pub fn write_core<W: Write>(alloc: Global, core: &Core, writer: &mut W) -> Resul
     }
 }
 
-/// Writes what the image of a core begins with, of version 3: all before the records of its frames. They follow it frame by
-/// frame, as `copy_frame_record` gives them.
+/// Writes what the snapshot of a core begins with: all before the records of its frames. They follow it frame by frame,
+/// as `copy_frame_record` gives them.
 ///
 /// NoMemory if there is no memory for the list of offers; nothing was written then. WriteFailed if a write fails; nothing
 /// was written then, or a prefix.

@@ -1,4 +1,4 @@
-//! The pending offers of a machine, as an image has them.
+//! The pending offers of a machine, as a snapshot has them.
 
 ghost use Rattle.std.specs.Prelude.{◌≡◌, ◌<◌, ◌^◌};
 ghost use Rattle.wide_image.specs.Offers.{rank};

@@ -1,4 +1,4 @@
-//! A reader of images of version 3 that is given them piece by piece.
+//! A reader of snapshots that is given them piece by piece.
 
 ghost use Rattle.std.specs.Prelude.{◌≡◌, ◌+◌, ◌*◌, ◌<◌, ◌≤◌, ◌^◌, ◌⊎◌, ◌++◌, ◌∷◌, [], if◌then◌else◌, nat_lt, None, Some, IfOk, IfErr, IfSome, IsErrOf, OnOk, OnErr, length, take, drop, vec_capacity};
 ghost use Rattle.phys_memory.specs.Bytes.{word_at};
@@ -22,10 +22,11 @@ use memory_image::number_at;
 use std::alloc::Global;
 use std::marker::Model;
 
-/// An image of version 3 as far as it was read.
+/// A snapshot as far as it was read.
 ///
-/// It is given the image's first 1,556 bytes (`begin`), then piece after piece as many bytes as it wants (`wants`, `take`):
-/// 16 for each offer, then 4,116 for each frame that isn't free. It wants none once it has all (`finish`).
+/// It is given the first 1,556 bytes of the snapshot (`begin`), then piece after piece as many bytes as it wants
+/// (`wants`, `take`): 16 for each offer, then 4,116 for each frame that isn't free. It wants none once it has all
+/// (`finish`).
 #[derive(Drop)]
 pub struct WideReader {
     front: Front,
@@ -93,7 +94,7 @@ fn rank_after(piece: &[u8]) -> u64
 }
 
 impl WideReader {
-    /// Begins with an image's front, the first 1,556 of these bytes.
+    /// Begins with a snapshot's front, the first 1,556 of these bytes.
     ///
     /// NoMemory if there is no memory for the frames that it says. Any other fault is the first reason against the front:
     /// NotImage; BadLength if they are fewer; BadVersion; BadField at the first field that breaks its rule.
@@ -225,7 +226,7 @@ impl WideReader {
 
     /// Takes the next piece, of as many bytes as it wants. With a fault nothing of it is taken.
     ///
-    /// BadField at the first field of it that breaks its rule, by its place in the whole image. NoMemory if there is no
+    /// BadField at the first field of it that breaks its rule, by its place in the snapshot. NoMemory if there is no
     /// memory for an offer of which no field does. Frames have their memory since `begin`.
     pub fn take(&mut self, piece: &[u8]) -> Result<(), WideImageFault>
         requires some { 0 < wanted self.old }
@@ -244,7 +245,7 @@ impl WideReader {
         }
     }
 
-    /// The image, once no piece is left.
+    /// The snapshot, once no piece is left.
     pub fn finish(self) -> WideImage
         requires { wanted self ≡ 0 }
         ensures { Encodes (so_far self) result }

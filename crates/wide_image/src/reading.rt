@@ -1,4 +1,4 @@
-//! Reading an image of version 3 from bytes.
+//! Reading a snapshot from bytes.
 
 ghost use Rattle.std.specs.Prelude.{◌≡◌, ℕ, ◌+◌, ◌*◌, ◌<◌, ◌≤◌, None, IfOk, IfErr, IfSome, length};
 ghost use Rattle.wide_image.specs.declared.faults.WideImageFault.TheVariants.{NoMemory};
@@ -48,7 +48,7 @@ fn offers_in(alloc: Global, bytes: &[u8], count: u32) -> Option<Vec<PendingOffer
     Some(offers)
 }
 
-/// The image in bytes.
+/// The snapshot in bytes.
 fn image_in(alloc: Global, bytes: &[u8]) -> Option<WideImage>
     requires { fault_of bytes.now ≡ None }
     ensures { IfSome result (λ image. Encodes bytes.now image) }
@@ -62,11 +62,11 @@ fn image_in(alloc: Global, bytes: &[u8]) -> Option<WideImage>
     Some(WideImage::with_parts(processes_in(bytes), read.0, read.1, offers))
 }
 
-/// Reads an image of version 3. If memory is there, it returns Ok exactly for bytes that encode one. Frames that aren't
-/// stored are free, and hold zeros.
+/// Reads a snapshot. If memory is there, it returns Ok exactly for bytes that encode one. Frames that aren't stored are
+/// free, and hold zeros.
 ///
-/// NoMemory if there is no memory for the image and nothing is wrong with the bytes. Any other fault is the first reason
-/// against them, in the order of `fault_in`.
+/// NoMemory if there is no memory for the snapshot and nothing is wrong with the bytes. Any other fault is the first
+/// reason against them, in the order of `fault_in`.
 pub fn read_wide_image(alloc: Global, bytes: &[u8]) -> Result<WideImage, WideImageFault>
     ensures encoded { IfOk result (λ image. Encodes bytes.now image) }
     ensures refused { IfErr result (λ fault. IsRefusal bytes.now fault) }

@@ -1,4 +1,4 @@
-//! Images of version 3 that are read from a reader of std, one piece at a time.
+//! Snapshots that are read from a reader of std, one piece at a time.
 
 ghost use Rattle.std.specs.Prelude.{◌≡◌, ◌+◌, ◌<◌, ◌≤◌, ◌⊎◌, ◌++◌, [], Some, IfOk, IfErr, IfSome, OnOk, length, take};
 ghost use Rattle.std.specs.Io.KnownBytes.{Consumes, IsAtEnd};
@@ -15,13 +15,13 @@ use std::io;
 use std::io::Read;
 use thiserror::Error;
 
-/// Why no image of version 3 was read from a reader.
+/// Why no snapshot was read from a reader.
 #[derive(Clone, Copy, Debug, PartialEq, Eq, Error)]
 pub enum WideReadFault {
     /// A read answered an error.
     #[error("read failed")]
     ReadFailed,
-    /// The bytes are no image, or there was no memory for it.
+    /// The bytes are no snapshot, or there was no memory for it.
     #[error("{0}")]
     NotRead(WideImageFault),
 }
@@ -77,7 +77,7 @@ fn fill_whole<R: Read>(reader: &mut R, piece: &mut [u8]) -> Result<(), WideReadF
     }
 }
 
-/// Reads the next piece of an image.
+/// Reads the next piece of a snapshot.
 ///
 /// ReadFailed if a read does. Otherwise BadLength if the reader has fewer bytes, and the faults of `WideReader::take`.
 fn take_piece<R: Read>(image: &mut WideReader, reader: &mut R) -> Result<(), WideReadFault>
@@ -100,7 +100,7 @@ fn take_piece<R: Read>(image: &mut WideReader, reader: &mut R) -> Result<(), Wid
     }
 }
 
-/// Begins an image by a reader's first 1,556 bytes.
+/// Begins a snapshot by a reader's first 1,556 bytes.
 ///
 /// ReadFailed if a read does. Otherwise the faults of `WideReader::begin`.
 fn begin_from<R: Read>(alloc: Global, reader: &mut R) -> Result<WideReader, WideReadFault>
@@ -131,7 +131,7 @@ fn end<R: Read>(reader: &mut R) -> Result<(), WideReadFault>
     }
 }
 
-/// Reads an image of version 3 to the reader's end, piece by piece.
+/// Reads a snapshot to the reader's end, piece by piece.
 fn read_pieces<R: Read>(alloc: Global, reader: &mut R) -> Result<WideImage, WideReadFault>
     ensures encoded { IfOk result (EncodesAll (R.remaining reader.old)) }
     ensures refused { IfErr result (IsRefusedBehind [] (R.remaining reader.old)) }
@@ -153,12 +153,12 @@ fn read_pieces<R: Read>(alloc: Global, reader: &mut R) -> Result<WideImage, Wide
     Ok(image.finish())
 }
 
-/// Reads an image of version 3 to the reader's end, piece by piece: no copy of all bytes is kept. Frames that aren't
-/// stored are free, and hold zeros.
+/// Reads a snapshot to the reader's end, piece by piece: no copy of all bytes is kept. Frames that aren't stored are
+/// free, and hold zeros.
 ///
-/// ReadFailed if a read does. The other faults are NotRead. NoMemory: there is no memory for the image. Otherwise it is the
-/// first reason against the bytes, in the order in which they are read. So BadLength comes only where they end too early or
-/// too late. No fault but ReadFailed and NoMemory comes for bytes that encode an image.
+/// ReadFailed if a read does. The other faults are NotRead. NoMemory: there is no memory for the snapshot. Otherwise it
+/// is the first reason against the bytes, in the order in which they are read. So BadLength comes only where they end
+/// too early or too late. No fault but ReadFailed and NoMemory comes for bytes that encode a snapshot.
 pub fn read_wide_image_from<R: Read>(
     alloc: Global,
     reader: &mut R,

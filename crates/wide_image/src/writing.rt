@@ -1,10 +1,11 @@
-//! Writing an image of version 3.
+//! Writing a snapshot.
 
 ghost use Rattle.std.specs.Prelude.{◌≡◌, ◌+◌, ◌*◌, ◌≤◌, ◌^◌, ◌<◌, ◌++◌, length, take, drop, OnOk, OnErr};
 ghost use Rattle.std.specs.List.{flat_map, splice};
 ghost use Rattle.std.specs.Io.KnownBytes.{Appends};
-ghost use Rattle.memory_image.specs.Spelling.{magic, number, role_bytes};
+ghost use Rattle.memory_image.specs.Spelling.{number, role_bytes};
 ghost use Rattle.text_output.specs.Output.{AppendsFront};
+ghost use Rattle.wide_image.specs.FirstBytes.{snapshot_magic};
 ghost use Rattle.wide_image.specs.Layout.{frame_text, frames_text, frames_stored, stored};
 ghost use Rattle.wide_image.specs.Offers.{offer_bytes};
 ghost use Rattle.wide_image.specs.Wide.{HasWideFields, head_text, text};
@@ -16,14 +17,14 @@ use memory_image::{ImageRef, record_of, role_numbers, write_processes};
 use std::io::Write;
 use text_output::{WriteFailed, write_whole};
 
-/// The four bytes that an image begins with, as a number.
-const MAGIC: u32 = 0x4932_436d;
+/// The four bytes that a snapshot begins with, as a number.
+const MAGIC: u32 = 0x5732_436d;
 
-/// The numbers that an image of version 3 begins with.
+/// The numbers that a snapshot begins with.
 fn first_numbers(frames: u32) -> [u32; 3]
-    ensures { flat_map number result ≡ magic ++ (number 3 ++ number frames) }
+    ensures { flat_map number result ≡ snapshot_magic ++ (number 1 ++ number frames) }
 {
-    [MAGIC, 3, frames]
+    [MAGIC, 1, frames]
 }
 
 /// Two numbers, of offers and of stored frames.
@@ -71,12 +72,12 @@ pub(crate) fn count_stored(roles: &[Role]) -> u32
     count
 }
 
-/// Writes what an image of version 3 begins with: the four bytes, the version and the number of frames.
+/// Writes what a snapshot begins with: the four bytes, the version and the number of frames.
 fn write_front<W: Write>(frames: u32, writer: &mut W) -> Result<(), WriteFailed>
     ensures ok { OnOk result (Appends (W.contents writer.old) (W.contents writer.new)
-        (magic ++ (number 3 ++ number frames))) }
+        (snapshot_magic ++ (number 1 ++ number frames))) }
     ensures err { OnErr result (AppendsFront (W.contents writer.old) (W.contents writer.new)
-        (magic ++ (number 3 ++ number frames))) }
+        (snapshot_magic ++ (number 1 ++ number frames))) }
 {
     write_whole(writer, &record_of(&first_numbers(frames)))
 }
@@ -188,7 +189,7 @@ fn count_of(offers: &[PendingOffer]) -> u32
     offers.len() as u32
 }
 
-/// Writes what an image of version 3 has before the records of its frames.
+/// Writes what a snapshot has before the records of its frames.
 ///
 /// WriteFailed if a write fails; a front of it was written then.
 pub(crate) fn write_wide_head<W: Write>(
@@ -210,10 +211,10 @@ pub(crate) fn write_wide_head<W: Write>(
     write_offers(offers, writer)
 }
 
-/// Writes an image of version 3, frame by frame: nothing of memory is copied. Free frames aren't written. `read_wide_image`
-/// reads it back.
+/// Writes a snapshot, frame by frame: nothing of memory is copied. Free frames aren't written. `read_wide_image` reads
+/// it back.
 ///
-/// WriteFailed if a write fails; a front of the image was written then.
+/// WriteFailed if a write fails; a front of the snapshot was written then.
 pub fn write_wide_image<W: Write>(
     image: &ImageRef<'_>,
     offers: &[PendingOffer],

@@ -1,5 +1,5 @@
-//! A core of any size, with its pending offers, as an image of version 3 that is written to a writer of std and read from
-//! a reader of std.
+//! A core of any size, with its pending offers, as a snapshot that is written to a writer of std and read from a reader
+//! of std.
 
 extern crate alloc;
 extern crate std;
@@ -27,7 +27,7 @@ const RECORD_BYTES: usize = 4116;
 pub enum SaveFault {
     /// Memory ran out for the list of offers. Nothing was written.
     NoMemory,
-    /// A write failed. A front of the image was written.
+    /// A write failed. A front of the snapshot was written.
     Write(io::Error),
 }
 
@@ -60,16 +60,16 @@ pub enum ResumeFault {
     },
     /// A read failed.
     Read(io::Error),
-    /// The bytes encode no image of version 3.
+    /// The bytes encode no snapshot.
     Refused(ImageFault),
-    /// The image isn't sound, by this verdict.
+    /// The snapshot isn't sound, by this verdict.
     NotSound(Verdict),
-    /// The machine refuses an offer of the image.
+    /// The machine refuses an offer of the snapshot.
     OfferRefused {
         /// The offer's number, from 0.
         number: u32,
     },
-    /// Memory ran out for the image, its check or the core.
+    /// Memory ran out for the snapshot, its check or the core.
     NoMemory,
 }
 
@@ -81,7 +81,7 @@ impl fmt::Display for ResumeFault {
             }
             ResumeFault::Read(error) => write!(to, "read failed: {error}"),
             ResumeFault::Refused(fault) => fault.fmt(to),
-            ResumeFault::NotSound(verdict) => write!(to, "the image is not sound: {verdict}"),
+            ResumeFault::NotSound(verdict) => write!(to, "the snapshot is not sound: {verdict}"),
             ResumeFault::OfferRefused { number } => write!(to, "offer {number} is refused"),
             ResumeFault::NoMemory => NoMemory.fmt(to),
         }
@@ -103,15 +103,15 @@ impl From<io::Error> for ResumeFault {
 }
 
 impl Core<'static> {
-    /// Makes the core that was stored, with its offers, of all bytes that a reader has left: an image of version 3,
-    /// whatever wrote it.
+    /// Makes the core that was stored, with its offers, of all bytes that a reader has left: a snapshot, whatever wrote
+    /// it.
     ///
     /// Example: [`Core::save`].
     ///
     /// # Errors
     ///
-    /// `OtherVersion` if the linked library's version is not [`VERSION`]. `Read` if a read fails. `Refused` if the bytes
-    /// encode no image of version 3, with the first reason against them. `NotSound` if it isn't sound, with the verdict of
+    /// `OtherVersion` if the linked library's version is not [`VERSION`]. `Read` if a read fails. `Refused` if the
+    /// bytes encode no snapshot, with the first reason against them. `NotSound` if it isn't sound, with the verdict of
     /// its check. `OfferRefused` if the machine refuses one of its offers. `NoMemory` if memory ran out for it.
     pub fn resume(mut reader: impl Read) -> Result<Core<'static>, ResumeFault> {
         if version() != VERSION {
@@ -179,8 +179,8 @@ impl Core<'_> {
         Ok(bytes)
     }
 
-    /// Writes the core's image of version 3, frame by frame: the whole machine, of any size, with its pending offers.
-    /// Free frames are not written. docs/IMAGES.md has its format.
+    /// Writes the core's snapshot, frame by frame: the whole machine, of any size, with its pending offers. Free frames
+    /// are not written. docs/IMAGES.md has its format.
     ///
     /// ```
     /// use tower::{Core, ImageFault, Page, Pid, ResumeFault, Size, Vaddr};
@@ -189,14 +189,14 @@ impl Core<'_> {
     /// let child = core.spawn(Pid::ROOT, 10)?;
     /// core.store(Pid::ROOT, Vaddr(0x4000_0000), Size::Four, 7)?.ignore();
     /// core.offer(Pid::ROOT, Page(0x40000), child, false)?;
-    /// let mut image = Vec::new();
-    /// core.save(&mut image)?;
-    /// let mut again = Core::resume(&image[..])?; // (its offer is still pending)
+    /// let mut snapshot = Vec::new();
+    /// core.save(&mut snapshot)?;
+    /// let mut again = Core::resume(&snapshot[..])?; // (its offer is still pending)
     /// again.accept(child, Pid::ROOT, Page(0x40000), Page(0x50000))?.ignore();
     /// assert_eq!(again.load(child, Vaddr(0x5000_0000), Size::Four)?, 7);
     ///
-    /// image[3] = 0; // (no longer the bytes of an image)
-    /// let refused = Core::resume(&image[..]).err();
+    /// snapshot[3] = 0; // (no longer the bytes of a snapshot)
+    /// let refused = Core::resume(&snapshot[..]).err();
     /// assert!(matches!(refused, Some(ResumeFault::Refused(ImageFault::NotImage))));
     /// # Ok::<(), Box<dyn std::error::Error>>(())
     /// ```
