@@ -38,7 +38,7 @@ pub use loading::tower_load_bytes;
 pub use memory::{TowerMemory, tower_memory};
 use numbers::{
     access_from, container_from, done, ended_from, event_from, no_event, pid_from, role_from, tell,
-    walk_from,
+    told_from, walk_from,
 };
 pub use numbers::{TowerContainer, TowerEnded, TowerEvent, TowerReply, TowerRole, TowerWalk};
 use page_words::{Frame, Vaddr, WIDE_FRAMES, is_frame_count};
@@ -231,18 +231,9 @@ pub extern "C" fn tower_ends(
     }
 }
 
-/// What an event ends on a core: none, where the numbers are no event.
-fn ended_on(core: &Core, event: &TowerEvent) -> Ended
-    ensures { result ≡ ends_in core.now (event_in event.now) }
-{
-    match event_from(event) {
-        Some(event) => core.ends(&event),
-        None => Ended::Nothing,
-    }
-}
-
-/// Carries out an event like `step`, and also returns which translations it ended, as `Core::step_ending` does. It
-/// calls `step`, so that callers who do not ask what was ended pay nothing for it.
+/// Carries out an event like `step`, and also returns which translations it ended.
+#[tactic(auto, unfolding(crate::specs::Border::is_carried_out))]
+#[inline(always)]
 fn step_ending(core: &mut Core, event: &TowerEvent) -> (TowerReply, TowerEnded)
     ensures reply { result.0 ≡ reply_in core.old.state (event_in event.now) }
     ensures ended { result.1 ≡ ended_numbers (ends_in core.old (event_in event.now)) }
@@ -252,9 +243,16 @@ fn step_ending(core: &mut Core, event: &TowerEvent) -> (TowerReply, TowerEnded)
     ensures memory { LeavesMemory core.old core.new (event_in event.now) }
     ensures refused { is_carried_out core.old.state (event_in event.now) ≡ false → core.new ≡ core.old }
 {
-    let ended = ended_on(core, event);
-    let told = step(core, event);
-    (told, ended_from(ended))
+    match event_from(event) {
+        Some(event) => {
+            let (reply, ended) = core.step_ending(&event);
+            (told_from(&reply), ended_from(ended))
+        }
+        None => {
+            core.stands();
+            (no_event(), ended_from(Ended::Nothing))
+        }
+    }
 }
 
 /// Carries out one event, as `tower_step` does, and reports which cached translations it ended. The caller invalidates
