@@ -14,10 +14,10 @@ use Rattle.address_space.specs.Spaces as spaces
 use Rattle.process_table.specs.View.{View}
 use Rattle.kernel_calls.specs.Machine.{next}
 use Rattle.kernel_calls.specs.Processors as base
-use Rattle.kernel_calls.specs.Processors.{IsCore, Processors, with_kept, AllAreRead, LetsThrough, LetCall}
+use Rattle.kernel_calls.specs.Processors.{IsCore, Processors, with_kept, LetsThrough, LetCall}
 use Rattle.kernel_calls.specs.Translations as old
 use Rattle.kernel_calls.proofs.MixedRuns.{read_at}
-use Rattle.kernel_calls.specs.Translations.{Kept, translation, IsRead, AreRead, ended_by, is_ended, is_all_of, is_invalidated, left_by}
+use Rattle.kernel_calls.specs.Translations.{Kept, translation, IsRead, AreRead, is_ended, is_all_of, is_invalidated, left_by}
 use Rattle.kernel_calls.specs.declared.calls.Call.{Call}
 use Rattle.kernel_calls.specs.declared.calls.Call.TheVariants as call
 use Rattle.kernel_calls.specs.declared.calls.Event.{Event}
@@ -31,11 +31,11 @@ use Rattle.shadow_core.specs.Paired.{kept_at}
 use Rattle.shadow_core.proofs.Pairing.{left_get}
 use Rattle.long_mode_machine.proofs.CachedTables.{Translated, walk_translates, table_translates}
 use Rattle.shootdowns.specs.Windows as windows
-use Rattle.shootdowns.specs.Windows.{ended_in, Moment, settled, under_way, memory_in, acknowledged, nobody, Acknowledged, with_one, usable, Step, Steps, none, first, Stands, AreInOrder, ShootdownsMakeEvents}
+use Rattle.shootdowns.specs.Windows.{ended_in, Moment, settled, under_way, memory_in, acknowledged, nobody, Step, Steps, none, first, Stands, AreInOrder, ShootdownsMakeEvents}
 use Rattle.shootdowns.specs.Worked.{none_kept}
 use Rattle.long_mode_machine.specs.LongMode.{Home, PageEntry, TableEntry, Cached, page_entry, table_entry, Processor, LongMode, with_processor, with_caches, Reaches, walked, walked_on, cached, ReachesCall, IsLinked, IsCacheable, MayUse, IsTabled, IsLeft, HasForgotten, CachesNone, AreAmong, NobodyRuns, WalksEndInFrames}
 use Rattle.long_mode_machine.specs.Moves as moves
-use Rattle.long_mode_machine.specs.Moves.{IsLoaded, IsStored, IsFilled, HasRoot, Move, Moves, IsOpening, AreSteps, LongModeMakesSteps}
+use Rattle.long_mode_machine.specs.Moves.{IsFilled, HasRoot, Move, Moves, IsOpening, LongModeMakesSteps}
 
 -- ---- Lists
 
