@@ -118,6 +118,6 @@ int main(int words_count, char **words) {
     EXPECT(tried[TOWER_RESTORE_NO_MEMORY] == 0 && tried[TOWER_RESTORED] && tried[TOWER_PROCESS_FAILS]);
     EXPECT(tried[TOWER_FRAME_FAILS] && tried[TOWER_NOT_IMAGE] && tried[TOWER_OFFER_REFUSED]);
     EXPECT(munmap(block, pages + PAGE) == 0);
-    printf("changed: %ld images, of which %ld are sound\n", count, tried[TOWER_RESTORED]);
+    printf("changed: %ld snapshots, of which %ld are sound\n", count, tried[TOWER_RESTORED]);
     return 0;
 }

@@ -1,6 +1,6 @@
-/* judge IMAGES NAME...: takes the snapshots that the hypervisor wrote into one file, in sequence, and resumes a
- * core of each. It says what each has, or what is wrong with it, and whether that core's image is the same. A name `-` is
- * only checked. */
+/* judge IMAGES NAME...: takes the snapshots that the hypervisor wrote into one file, in sequence, and resumes a core of
+ * each. It says what each has, or what is wrong with it, and whether that core's snapshot is the same. A name `-` is only
+ * checked. */
 #include <stdio.h>
 #include <stdlib.h>
 #include <string.h>

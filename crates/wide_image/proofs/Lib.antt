@@ -1,4 +1,5 @@
 pub mod FirstBytes
+pub mod Apart
 pub mod FrameTexts
 pub mod Passing
 pub mod Kept

@@ -4,6 +4,7 @@ pub mod FirstBytes
 pub mod Wide
 pub mod Codes
 pub mod Faults
+pub mod Apart
 pub mod Reading
 pub mod Pieces
 pub mod Begun

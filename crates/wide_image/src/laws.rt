@@ -1,7 +1,14 @@
 //! Laws of snapshots. Each is the contract of a function that computes nothing.
 
+ghost use Rattle.wide_image.specs.Apart.{FormatsAreApart};
 ghost use Rattle.wide_image.specs.InUse.{FreeFramesDoNotMatter, MachinesAreRead, TextsTellMachines};
 ghost use Rattle.wide_image.specs.Stored.{PiecesMakeImages};
+
+/// States that bytes which begin as a snapshot encode no image, and bytes which begin as an image no snapshot: the first
+/// reason against either is NotImage. It computes nothing.
+pub fn formats_are_apart()
+    ensures { FormatsAreApart }
+{}
 
 /// States that what free frames hold is no part of the state that an image represents. It computes nothing.
 pub fn free_frames_do_not_matter()

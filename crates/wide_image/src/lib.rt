@@ -24,7 +24,8 @@ pub use fronts::Front;
 pub use gathering::offers_of;
 pub use images::WideImage;
 pub use laws::{
-    free_frames_do_not_matter, machines_are_read, pieces_make_images, texts_tell_machines,
+    formats_are_apart, free_frames_do_not_matter, machines_are_read, pieces_make_images,
+    texts_tell_machines,
 };
 pub use machines::{StoreFault, copy_frame_record, write_core, write_core_head};
 pub use offers::PendingOffer;
