@@ -25,10 +25,6 @@ module _ {T : Type 0} where
   begins_more : (log seen : List T) (x : T) → Begins log seen → Begins (log ++ x ∷ []) seen
   begins_more log seen x h = (h.0 ++ x ∷ [], ap (λ l. l ++ x ∷ []) h.1 ∙ append_assoc seen h.0 (x ∷ []))
 
-  none_begins : (log seen : List T) → log ≡ [] → Begins log seen → seen ≡ []
-  none_begins log [] empty h = refl
-  none_begins log (x ∷ seen) empty h = let long : length log ≡ length (x ∷ (seen ++ h.0)) = ap length h.1 in let zero : length log ≡ 0 = ap length empty in absurd (omega arith)
-
   -- a view of a table after the seat's own became w: that one, or another's
   view_is : (views : List (Doing T)) (id k : ℕ) (w v : Doing T) (P : Type 0) → get_elem? (set views id w) k ≡ some v
       → (k ≡ id → w ≡ v → P) → (k ≢ id → get_elem? views k ≡ some v → P) → P
