@@ -83,11 +83,20 @@ def sources(crate):
     return sorted((CRATES / crate / "src").rglob("*.rt"))
 
 
-# The mutants: of the gate in crates/NAME/must-fail, all others in wrong-bodies/NAME.
+# The mutants: of the gate in crates/NAME/must-fail, a file each, all others in wrong-bodies/NAME.edits. There a line
+# `name: NAME` is before the others of each, and a blank line after them.
+
+
+def second_suite(crate):
+    file = MUTANTS / f"{crate}.edits"
+    for part in file.read_text(encoding="utf-8").split("\n\n") if file.is_file() else ():
+        head, _, lines = part.partition("\n")
+        yield head.removeprefix("name: "), lines.rstrip("\n") + "\n"
 
 
 @functools.cache
 def mutants(crate, suites=("gate", "second")):
-    """The file of each mutant of a crate, by its name."""
-    folders = {"gate": CRATES / crate / "must-fail", "second": MUTANTS / crate}
-    return {file.stem: file for suite in suites for file in sorted(folders[suite].glob("*.edit"))}
+    """The text of each mutant of a crate, by its name."""
+    gate = sorted((CRATES / crate / "must-fail").glob("*.edit")) if "gate" in suites else ()
+    texts = {file.stem: file.read_text(encoding="utf-8") for file in gate}
+    return texts | (dict(second_suite(crate)) if "second" in suites else {})

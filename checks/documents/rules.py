@@ -50,7 +50,7 @@ def unlike():
 
 def changed(crate, name):
     """What a mutant changes: its functions, or `a definition`."""
-    found = applied(crate, mutants(crate)[name].read_text(encoding="utf-8"))
+    found = applied(crate, mutants(crate)[name])
     names = sorted(it for _, it in found.functions if it) if found else []
     return ", ".join(names) or "a definition"
 

@@ -1,4 +1,4 @@
-"""Mutants as files: their pairs of texts, where these are, and which functions they change.
+"""Mutants: their pairs of texts, where these are, and which functions they change.
 
 A mutant is lines `file: src/..`, `old: TEXT` and `new: TEXT`. The old text occurs once in that file, or once in the
 function that a line `in: fn NAME` or `in: fn TYPE::NAME` before it names. Further pairs apply to what the earlier ones
