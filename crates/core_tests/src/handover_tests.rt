@@ -1,5 +1,7 @@
 //! A core that CPUs take and give back, and monitors read reports on.
 
+ghost use Rattle.std.specs.Prelude.{◌≡◌};
+
 use crate::common::{check, process, same};
 use core_handover::{Cpu, Monitor, Refusal, ShareFault, Shared, Unshared, share};
 use kernel_calls::{Call, Core, Reply};
@@ -71,7 +73,9 @@ fn made(rt: &impl Abort, cpu: &mut Cpu, call: Call, reply: Reply, publish: bool)
 }
 
 /// A monitor reads the report on the core that was given back so often, with this total.
-fn reads(rt: &impl Abort, monitor: &mut Monitor, count: u64, total: u64) {
+fn reads(rt: &impl Abort, monitor: &mut Monitor, count: u64, total: u64)
+    ensures { monitor.new.book ≡ monitor.old.book }
+{
     assert!(rt; monitor.read());
     same(rt, &monitor.page().front().count(), &count);
     same(rt, &monitor.page().report().total(), &total);
