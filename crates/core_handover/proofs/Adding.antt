@@ -16,9 +16,6 @@ shows_nothing log = []
 abbrev pub moved : List Given → List Given → ℕ → Type 0
 moved xs ys n = Unit {0}
 
-prefix_length : (log v : List Given) → IsPrefix v log → length v ≤ length log
-prefix_length log v pre = let a : length log ≡ length v + length pre.0 = ap length (sym pre.1) ∙ length-append v pre.0 in omega arith
-
 -- the word is written, and the history is as long as it says
 written : (cs : List Cell) (log : List Given) (n : ℕ) → CellsHold cs log → (more : List Given) → length more ≡ n + 1 → CellsHold (slice_set cs 0 (n, true)) more
 written cs log n h more long = record {
