@@ -77,7 +77,7 @@ static void end_event(void) {
 /* With the lock. */
 static struct tower_reply event_of(uint32_t pid, struct tower_event event) {
     event.pid = (uint8_t)pid;
-    struct note it = {event, make_event(&kernel, pid, event), false};
+    struct note it = {.event = event, .reply = make_event(&kernel, pid, event)};
     note(&it);
     return it.reply;
 }
