@@ -1,5 +1,5 @@
 -- What handles of CPUs and monitors hold.
-use Rattle.std.specs.Prelude.{◌≡◌, Some, is_some}
+use Rattle.std.specs.Prelude.{◌≡◌, List, All, Some, is_some, false}
 use Rattle.core_handover.specs.Histories.{Known}
 use Rattle.core_handover.specs.Seats.{Seat}
 use Rattle.tower_threads.specs.declared.handles.TowerCpu.{TowerCpu}
@@ -20,3 +20,7 @@ IsSeated x handle = (handle.hold.cpu ≡ Some x) × IsTowerCpu handle
 -- the same of a monitor
 abbrev pub IsWatching : Known → TowerMonitor → Type 0
 IsWatching x handle = (handle.hold.monitor ≡ Some x) × IsTowerMonitor handle
+
+-- none of these handles has a CPU or a monitor
+abbrev pub AreFree : List TowerCpu → List TowerMonitor → Type 0
+AreFree cpus monitors = All (λ c. c.live ≡ false) cpus × All (λ m. m.live ≡ false) monitors

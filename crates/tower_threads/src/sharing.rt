@@ -1,11 +1,11 @@
 //! A core comes to be shared.
 
-ghost use Rattle.std.specs.Prelude.{◌≡◌, ◌≢◌, ◌<◌, ◌≤◌, All, length, slice_set};
+ghost use Rattle.std.specs.Prelude.{◌≡◌, ◌≢◌, ◌<◌, ◌≤◌, All, length, slice_set, true};
 ghost use Rattle.core_handover.specs.Histories.{Known};
 ghost use Rattle.core_handover.specs.Seats.{Seat};
 ghost use Rattle.c_handle.specs.Handle.{IsTower};
 ghost use Rattle.tower_threads.specs.Calls.{IsShared};
-ghost use Rattle.tower_threads.specs.Handles.{IsSeated, IsTowerCpu, IsTowerMonitor, IsWatching};
+ghost use Rattle.tower_threads.specs.Handles.{AreFree, IsSeated, IsTowerCpu, IsTowerMonitor, IsWatching};
 ghost use Rattle.tower_threads.specs.declared.handles.TowerCpu.{TowerCpu};
 ghost use Rattle.tower_threads.specs.declared.handles.TowerMonitor.{TowerMonitor};
 
@@ -15,7 +15,9 @@ use core_handover::{Cpu, Monitor, ShareFault, Shared, Unshared, share};
 use std::alloc::Global;
 
 /// Whether none of these handles has a CPU or a monitor.
-fn are_free(cpus: &[TowerCpu], monitors: &[TowerMonitor]) -> bool {
+fn are_free(cpus: &[TowerCpu], monitors: &[TowerMonitor]) -> bool
+    ensures { result ≡ true → AreFree cpus.now monitors.now }
+{
     cpus.iter().all(|cpu| !cpu.live) && monitors.iter().all(|monitor| !monitor.live)
 }
 
@@ -35,6 +37,7 @@ pub extern "C" fn tower_share(
     ensures handles { All IsTowerCpu cpus.new × All IsTowerMonitor monitors.new }
     ensures statuses { result ≤ 4 }
     ensures shared { result ≡ 0 → IsShared tower.old.hold.core tower.new cpus.new monitors.new }
+    ensures free { result ≡ 0 → AreFree cpus.old monitors.old }
     ensures refused { result ≢ 0 → (tower.new.hold.core ≡ tower.old.hold.core) × (cpus.new ≡ cpus.old)
         × (monitors.new ≡ monitors.old) }
 {
